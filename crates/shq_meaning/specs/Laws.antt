@@ -1,0 +1,15 @@
+-- What the definitions entail about one another.
+use Rattle.std.specs.Prelude.{ℕ, ◌<◌, ◌≤◌, IsTrue, List, Contains}
+use Rattle.shq_terms.specs.declared.axioms.Axiom.{Axiom}
+use Rattle.shq_terms.specs.declared.axioms.Query.{Query}
+use Rattle.shq_meaning.specs.Truth.{Interpretation, meets_all, refutes_at, Entails}
+
+-- what follows from some axioms follows from more
+abbrev pub EntailmentIsMonotone : Type 0
+EntailmentIsMonotone =
+    (few many : List Axiom) (q : Query) → ((a : Axiom) → Contains few a → Contains many a) → Entails few q → Entails many q
+
+-- where an interpretation meets the axioms, and some element of it is a counter-example, the query does not follow
+abbrev pub CounterModelsRefute : Type 0
+CounterModelsRefute =
+    (i : Interpretation) (as_ : List Axiom) (q : Query) (x : ℕ) → 1 ≤ i.size → IsTrue (meets_all i as_) → x < i.size → IsTrue (refutes_at i q x) → Entails as_ q → ⊥

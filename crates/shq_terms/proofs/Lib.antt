@@ -1,0 +1,3 @@
+pub mod Position
+pub mod Cut
+pub mod Uses

@@ -1,0 +1,5 @@
+pub mod Node
+pub mod NodeFalls
+pub mod Listed
+pub mod Names
+pub mod Uses

@@ -1,0 +1,44 @@
+-- Whether the names that an expression or an axiom uses are listed: each class number is below the count of
+-- classes, and each role number below the count of roles.
+use Rattle.std.specs.Prelude.{ℕ, Bool, true, ◌&&◌, nat_lt, List, [], ◌∷◌}
+use Rattle.std.specs.List.{list_all}
+use Rattle.shq_base.specs.Concept.{Concept, top, bottom, name, complement, intersection, union, some_of, all_of, at_least, at_most, exactly, Parts, no_parts, part, parts_of}
+use Rattle.shq_terms.specs.declared.axioms.Axiom.{Axiom}
+use Rattle.shq_terms.specs.declared.axioms.Axiom.TheVariants.{SubClassOf, EquivalentClasses, DisjointClasses, DisjointUnion, SubRole, EquivalentRoles, Domain, Range, Functional, Transitive}
+use Rattle.shq_terms.specs.declared.axioms.Numbered.{Numbered}
+
+abbrev mutual
+  pub uses_listed : ℕ → ℕ → Concept → Bool
+  uses_listed classes roles top = true
+  uses_listed classes roles bottom = true
+  uses_listed classes roles (name a) = nat_lt a classes
+  uses_listed classes roles (complement c) = uses_listed classes roles c
+  uses_listed classes roles (intersection cs) = parts_use_listed classes roles cs
+  uses_listed classes roles (union cs) = parts_use_listed classes roles cs
+  uses_listed classes roles (some_of r c) = nat_lt r roles && uses_listed classes roles c
+  uses_listed classes roles (all_of r c) = nat_lt r roles && uses_listed classes roles c
+  uses_listed classes roles (at_least n r c) = nat_lt r roles && uses_listed classes roles c
+  uses_listed classes roles (at_most n r c) = nat_lt r roles && uses_listed classes roles c
+  uses_listed classes roles (exactly n r c) = nat_lt r roles && uses_listed classes roles c
+
+  pub parts_use_listed : ℕ → ℕ → Parts → Bool
+  parts_use_listed classes roles no_parts = true
+  parts_use_listed classes roles (part c cs) = uses_listed classes roles c && parts_use_listed classes roles cs
+
+-- the axiom's names are listed
+abbrev pub axiom_uses_listed : ℕ → ℕ → Axiom → Bool
+axiom_uses_listed classes roles (SubClassOf c d) = uses_listed classes roles c && uses_listed classes roles d
+axiom_uses_listed classes roles (EquivalentClasses cs) = parts_use_listed classes roles (parts_of cs)
+axiom_uses_listed classes roles (DisjointClasses cs) = parts_use_listed classes roles (parts_of cs)
+axiom_uses_listed classes roles (DisjointUnion c cs) = uses_listed classes roles c && parts_use_listed classes roles (parts_of cs)
+axiom_uses_listed classes roles (SubRole r s) = nat_lt r roles && nat_lt s roles
+axiom_uses_listed classes roles (EquivalentRoles rs) = list_all (λ r. nat_lt r roles) rs
+axiom_uses_listed classes roles (Domain r c) = nat_lt r roles && uses_listed classes roles c
+axiom_uses_listed classes roles (Range r c) = nat_lt r roles && uses_listed classes roles c
+axiom_uses_listed classes roles (Functional r) = nat_lt r roles
+axiom_uses_listed classes roles (Transitive r) = nat_lt r roles
+
+-- the names of all these axioms are listed
+abbrev pub all_use_listed : ℕ → ℕ → List Numbered → Bool
+all_use_listed classes roles [] = true
+all_use_listed classes roles (a ∷ as_) = axiom_uses_listed classes roles a.axiom && all_use_listed classes roles as_

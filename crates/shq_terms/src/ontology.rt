@@ -1,0 +1,181 @@
+// The numbered axioms of a document, with the names of its classes and roles.
+ghost use Rattle.std.specs.Prelude.{◌≡◌, ◌<◌, ◌≤◌, ◌+◌, ◌-◌, ◌↔◌, [], ◌∷◌, ◌++◌, IsTrue, OnOk, OnErr, IfOk, Err, length, take, slice_get, Some, None, position};
+ghost use Rattle.std.specs.Str.{bytes_eq};
+ghost use Rattle.shq_terms.specs.Names.{number_of, with_name};
+ghost use Rattle.shq_terms.specs.Uses.{axiom_uses_listed, all_use_listed};
+
+use crate::lists::push_item;
+use crate::names::NameList;
+use crate::{AddFault, Axiom, Numbered};
+use std::alloc::Global;
+use std::marker::Model;
+
+/// The most numbered axioms that an ontology holds.
+pub const MAX_AXIOMS: u32 = 20_000;
+
+/// The most class names that an ontology lists.
+pub const MAX_CLASSES: u32 = 20_000;
+
+/// The most role names that an ontology lists.
+pub const MAX_ROLES: u32 = 1_000;
+
+/// Numbered axioms, and the names of classes and roles that they use.
+///
+/// Axioms are numbered from 1 in the order in which they were added, and each occurrence of an axiom has a number of its
+/// own. Classes and roles are numbered from 0, each in the order in which the names were added.
+#[derive(Drop)]
+pub struct Ontology {
+    axioms: Vec<Numbered>,
+    classes: NameList,
+    roles: NameList,
+}
+
+impl Model for Ontology {
+    ghost use Rattle.std.specs.Prelude.{List, ℕ, length, ◌≤◌, ◌≡◌, true};
+    ghost use Rattle.std.specs.Coded.{codes};
+    ghost use Rattle.shq_base.specs.Code.{concept_code};
+    ghost use Rattle.shq_terms.specs.Listed.{Listed};
+    ghost use Rattle.shq_terms.specs.Uses.{all_use_listed};
+
+    ghost Value = { Listed };
+
+    ghost coded = { Prim.hlevel (codes, concept_code) };
+
+    ghost view = { λ o. record { axioms = o.axioms.items; classes = o.classes; roles = o.roles } };
+
+    ghost invariant = { λ o. (length o.axioms.items ≤ 20000) × (length o.classes ≤ 20000) × (length o.roles ≤ 1000) × (all_use_listed (length o.classes) (length o.roles) o.axioms.items ≡ true) };
+}
+
+impl Ontology {
+    ghost use Rattle.shq_terms.specs.Listed.{Listed};
+
+    /// No axioms and no names.
+    pub fn new(alloc: Global) -> Ontology
+        ensures { result ≡ record { axioms = []; classes = []; roles = [] } }
+    {
+        Ontology {
+            axioms: Vec::new(alloc),
+            classes: NameList::new(alloc),
+            roles: NameList::new(alloc),
+        }
+    }
+
+    pub fn axiom_count(&self) -> u32
+        ensures count { result ≡ length self.now.axioms }
+        ensures within { result ≤ MAX_AXIOMS }
+    {
+        self.axioms.len() as u32
+    }
+
+    pub fn class_count(&self) -> u32
+        ensures count { result ≡ length self.now.classes }
+        ensures within { result ≤ MAX_CLASSES }
+    {
+        self.classes.len()
+    }
+
+    pub fn role_count(&self) -> u32
+        ensures count { result ≡ length self.now.roles }
+        ensures within { result ≤ MAX_ROLES }
+    {
+        self.roles.len()
+    }
+
+    /// All axioms, in the order of their numbers.
+    pub fn axioms(&self) -> &[Numbered]
+        ensures all { result.now ≡ self.now.axioms }
+        ensures listed { IsTrue (all_use_listed (length self.now.classes) (length self.now.roles) self.now.axioms) }
+    {
+        &self.axioms
+    }
+
+    /// The axiom of a number from 1 to the count of axioms.
+    pub fn axiom(&self, number: u32) -> &Numbered
+        requires low { 1 ≤ number }
+        requires high { number ≤ length self.now.axioms }
+        ensures { Some result.now ≡ slice_get self.now.axioms (number - 1) }
+    {
+        &self.axioms[number as usize - 1]
+    }
+
+    /// The full IRI of a class.
+    pub fn class_name(&self, class: u32) -> &str
+        requires { class < length self.now.classes }
+        ensures { Some result.now ≡ slice_get self.now.classes class }
+    {
+        self.classes.name(class)
+    }
+
+    /// The full IRI of a role.
+    pub fn role_name(&self, role: u32) -> &str
+        requires { role < length self.now.roles }
+        ensures { Some result.now ≡ slice_get self.now.roles role }
+    {
+        self.roles.name(role)
+    }
+
+    /// The number of a class. `None` exactly where the name is not listed.
+    pub fn class_number(&self, iri: &str) -> Option<u32>
+        ensures { result ≡ position (bytes_eq iri.now) self.now.classes }
+    {
+        self.classes.number(iri)
+    }
+
+    /// The number of a role. `None` exactly where the name is not listed.
+    pub fn role_number(&self, iri: &str) -> Option<u32>
+        ensures { result ≡ position (bytes_eq iri.now) self.now.roles }
+    {
+        self.roles.number(iri)
+    }
+
+    /// The number of a class. A listed name keeps its number, and a new name goes last.
+    #[tactic(auto, using(crate::proofs::Uses::all_use_more, crate::proofs::Uses::with_name_longer))]
+    pub fn add_class(&mut self, iri: &str) -> Result<u32, AddFault>
+        ensures number { IfOk result (λ k. k ≡ number_of self.old.classes iri.now) }
+        ensures added { OnOk result (self.new ≡ record self.old { classes = with_name self.old.classes iri.now }) }
+        ensures unchanged { OnErr result (self.new ≡ self.old) }
+        ensures full { (result ≡ Err AddFault.Full) ↔ ((MAX_CLASSES ≤ length self.old.classes) × (position (bytes_eq iri.now) self.old.classes ≡ None)) }
+    {
+        self.classes.add(iri, MAX_CLASSES)
+    }
+
+    /// The number of a role. A listed name keeps its number, and a new name goes last.
+    #[tactic(auto, using(crate::proofs::Uses::all_use_more, crate::proofs::Uses::with_name_longer))]
+    pub fn add_role(&mut self, iri: &str) -> Result<u32, AddFault>
+        ensures number { IfOk result (λ k. k ≡ number_of self.old.roles iri.now) }
+        ensures added { OnOk result (self.new ≡ record self.old { roles = with_name self.old.roles iri.now }) }
+        ensures unchanged { OnErr result (self.new ≡ self.old) }
+        ensures full { (result ≡ Err AddFault.Full) ↔ ((MAX_ROLES ≤ length self.old.roles) × (position (bytes_eq iri.now) self.old.roles ≡ None)) }
+    {
+        self.roles.add(iri, MAX_ROLES)
+    }
+
+    /// Puts an axiom last and answers its number. The axiom's names are listed.
+    #[tactic(auto, using(crate::proofs::Uses::all_use_push))]
+    pub fn add_axiom(&mut self, axiom: Axiom, line: u32) -> Result<u32, AddFault>
+        requires { IsTrue (axiom_uses_listed (length self.old.classes) (length self.old.roles) «axiom») }
+        ensures number { IfOk result (λ n. n ≡ length self.old.axioms + 1) }
+        ensures added { OnOk result (self.new ≡ record self.old { axioms = self.old.axioms ++ record { «axiom» = «axiom»; line = line } ∷ [] }) }
+        ensures unchanged { OnErr result (self.new ≡ self.old) }
+        ensures full { (result ≡ Err AddFault.Full) ↔ (length self.old.axioms ≡ MAX_AXIOMS) }
+    {
+        let numbered = Numbered { axiom, line };
+        if self.axioms.len() >= MAX_AXIOMS as usize {
+            drop(numbered);
+            return Err(AddFault::Full);
+        }
+        push_item(&mut self.axioms, numbered)?;
+        Ok(self.axioms.len() as u32)
+    }
+
+    /// Keeps the first names of each kind alone. No axiom uses a name that is cut.
+    pub fn cut_names(&mut self, classes: u32, roles: u32)
+        requires classes { classes ≤ length self.old.classes }
+        requires roles { roles ≤ length self.old.roles }
+        requires unused { IsTrue (all_use_listed classes roles self.old.axioms) }
+        ensures { self.new ≡ record self.old { classes = take classes self.old.classes; roles = take roles self.old.roles } }
+    {
+        self.classes.truncate(classes);
+        self.roles.truncate(roles);
+    }
+}
