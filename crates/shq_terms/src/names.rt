@@ -7,6 +7,7 @@ use crate::{AddFault, NoMemory};
 use indexmap::IndexSet;
 use std::alloc::Global;
 use std::marker::Model;
+use std::str;
 
 /// Names in order of their first occurrence, numbered from 0.
 #[derive(Drop)]
@@ -49,6 +50,19 @@ impl NameList {
         match self.names.get_index_of(name) {
             Some(index) => Some(index as u32),
             None => None,
+        }
+    }
+
+    /// The number of a name that is given by its bytes, which may be no text.
+    pub(crate) fn number_of_bytes(&self, name: &[u8]) -> Option<u32>
+        ensures { result ≡ position (bytes_eq name.now) self.now }
+    {
+        match str::from_utf8(name) {
+            Ok(text) => self.number(text),
+            Err(_) => {
+                let _names = &self.names;
+                None
+            }
         }
     }
 

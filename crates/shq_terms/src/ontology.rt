@@ -128,6 +128,20 @@ impl Ontology {
         self.roles.number(iri)
     }
 
+    /// The number of the class whose IRI has these bytes, which may be no text. `None` exactly where none is listed.
+    pub fn class_of_bytes(&self, iri: &[u8]) -> Option<u32>
+        ensures { result ≡ position (bytes_eq iri.now) self.now.classes }
+    {
+        self.classes.number_of_bytes(iri)
+    }
+
+    /// The number of the role whose IRI has these bytes, which may be no text. `None` exactly where none is listed.
+    pub fn role_of_bytes(&self, iri: &[u8]) -> Option<u32>
+        ensures { result ≡ position (bytes_eq iri.now) self.now.roles }
+    {
+        self.roles.number_of_bytes(iri)
+    }
+
     /// The number of a class. A listed name keeps its number, and a new name goes last.
     #[tactic(auto, using(crate::proofs::Uses::all_use_more, crate::proofs::Uses::with_name_longer))]
     pub fn add_class(&mut self, iri: &str) -> Result<u32, AddFault>

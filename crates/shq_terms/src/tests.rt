@@ -13,6 +13,9 @@ fn lists_each_name_once(rt: HostRuntime) -> Result<(), Fail> {
     }
     assert_eq!(rt; ontology.class_count(), 3);
     assert_eq!(rt; ontology.class_number("D"), None);
+    assert_eq!(rt; ontology.class_of_bytes(b"B"), Some(1));
+    assert_eq!(rt; ontology.class_of_bytes(b"\xff"), None);
+    assert_eq!(rt; ontology.role_of_bytes(b"B"), None);
     if 2 < ontology.class_count() {
         assert_eq!(rt; ontology.class_name(2), "C");
     }

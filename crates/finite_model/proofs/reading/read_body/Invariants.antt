@@ -1,0 +1,7 @@
+use Rattle.std.proofs.Common.{◌≡◌, drop, map}
+use Rattle.finite_model.specs.ModelText.{body_from}
+use Rattle.finite_model.specs.BodyRead.{body_of}
+use Rattle.finite_model.proofs.reading.read_body.Given as goal
+
+abbrev pub invariant-loop-index : goal.invariant-loop-index
+invariant-loop-index l = body_from l.ontology (body_of l.body) (map (λ w. w.now) (drop l.index l.lines)) ≡ body_from l.ontology (body_of l.fn.body) (map (λ w. w.now) l.lines)

@@ -1,0 +1,35 @@
+-- What an interpretation keeps, and what it stands for. Members and pairs are kept in ascending order, each once.
+use Rattle.std.specs.Prelude.{ℕ, Bool, ◌&&◌, nat_eq, List}
+use Rattle.std.specs.List.{list_any}
+use Rattle.std.specs.declared.cmp.Ordering.{Ordering}
+use Rattle.std.specs.Ordering.{nat_cmp, ordering_then}
+use Rattle.shq_meaning.specs.Truth.{Interpretation}
+
+-- each class with each of its elements, and each role with each of its pairs
+pub record Kept : Type 0 where
+  pub size : ℕ
+  pub members : List (ℕ × ℕ)
+  pub links : List (ℕ × ℕ × ℕ)
+
+-- the class and the element of a member
+abbrev pub is_member : ℕ → ℕ → ℕ × ℕ → Bool
+is_member a x m = nat_eq m.0 a && nat_eq m.1 x
+
+-- the role and the pair of a link
+abbrev pub is_link : ℕ → ℕ → ℕ → ℕ × ℕ × ℕ → Bool
+is_link r x y l = nat_eq l.0 r && nat_eq l.1 x && nat_eq l.2 y
+
+abbrev pub meaning : Kept → Interpretation
+meaning k = record {
+  size = k.size;
+  in_class = λ a x. list_any (is_member a x) k.members;
+  in_role = λ r x y. list_any (is_link r x y) k.links;
+}
+
+-- by class, and then by element
+abbrev pub member_cmp : ℕ × ℕ → ℕ × ℕ → Ordering
+member_cmp a b = ordering_then (nat_cmp a.0 b.0) (nat_cmp a.1 b.1)
+
+-- by role, then by the first of the pair, and then by the second
+abbrev pub link_cmp : ℕ × ℕ × ℕ → ℕ × ℕ × ℕ → Ordering
+link_cmp a b = ordering_then (nat_cmp a.0 b.0) (ordering_then (nat_cmp a.1 b.1) (nat_cmp a.2 b.2))

@@ -1,0 +1,3 @@
+pub mod Kept
+pub mod ModelText
+pub mod BodyRead

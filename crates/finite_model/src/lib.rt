@@ -1,0 +1,9 @@
+// Finite interpretations, and what they meet and refute.
+#![tactic(auto)]
+
+mod interp;
+mod reading;
+
+pub use interp::Interp;
+pub use reading::{ModelFault, read_text};
+pub use shq_base::NoMemory;
