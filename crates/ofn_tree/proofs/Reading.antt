@@ -1,10 +1,9 @@
 -- The pieces from a place on, and what is read so far.
-use Rattle.std.proofs.Common.{◌≡◌, ℕ, zero, suc, ◌+◌, ◌-◌, ◌<◌, ◌≤◌, Bool, true, false, cond, List, [], ◌∷◌, ◌++◌, length, get_or, take, drop, map, Option, Some, None, refl, ap, sym, ◌∙◌, subst, append_assoc, arith, length-drop, drop-cons, add-one, add-zero, option_map}
-use Rattle.std.proofs.lemmas.List.{take_all, drop-drop, map-append}
-use Rattle.ofn_tree.specs.declared.token.Token.{Token}
-use Rattle.ofn_tree.specs.Token.{PlainToken, plain_token}
+use Rattle.std.proofs.Common.{◌≡◌, ℕ, zero, suc, ◌+◌, ◌-◌, ◌<◌, ◌≤◌, Bool, true, false, cond, List, [], ◌∷◌, ◌++◌, length, get_or, take, drop, Option, Some, None, refl, ap, sym, ◌∙◌, append_assoc, arith, length-drop, drop-cons, add-one, add-zero, option_map}
+use Rattle.std.proofs.lemmas.List.{take_all, drop-drop}
+use Rattle.ofn_tree.specs.Token.{PlainToken}
 use Rattle.ofn_tree.specs.Lexemes.{Lexeme, lexeme_at, is_space, Piece, whole, broken, piece_at, pieces_with, pieces_from}
-use Rattle.ofn_tree.specs.Document.{Met, Reading, is_last, met_after, document_front, with_token, reading}
+use Rattle.ofn_tree.specs.Document.{Met, Reading, is_last, met_after, document_front, with_token}
 
 pub pieces_from-skip : (k place : ℕ) (bs : List ℕ) → pieces_from k place bs ≡ pieces_from 0 (place + k) (drop k bs)
 pieces_from-skip zero place [] = refl

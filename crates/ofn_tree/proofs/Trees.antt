@@ -1,5 +1,5 @@
 -- Items one after another, groups, and the faults on the way.
-use Rattle.std.proofs.Common.{◌≡◌, ℕ, zero, suc, ◌+◌, ◌-◌, ◌<◌, ◌≤◌, max, Bool, true, false, cond, List, [], ◌∷◌, ◌++◌, map, take, drop, length, get_or, Option, Some, None, Result, Ok, Err, refl, ap, sym, ◌∙◌, subst, append_assoc, append-nil, add-one, arith, drop-cons, nat_lt, nat_eq, ◌&&◌}
+use Rattle.std.proofs.Common.{◌≡◌, ℕ, zero, suc, ◌+◌, ◌-◌, ◌<◌, ◌≤◌, max, Bool, true, false, cond, List, [], ◌∷◌, ◌++◌, map, drop, length, get_or, Option, Some, None, Ok, Err, refl, ap, sym, ◌∙◌, subst, append_assoc, append-nil, arith, nat_lt, nat_eq, ◌&&◌}
 use Rattle.std.proofs.lemmas.Grind.{common_steps}
 use Rattle.ofn_tree.specs.declared.token.Token.{Token}
 use Rattle.ofn_tree.specs.declared.token.Kind.{Kind}
@@ -7,9 +7,9 @@ use Rattle.ofn_tree.specs.declared.token.Kind.TheVariants.{OpenBracket, CloseBra
 use Rattle.ofn_tree.specs.declared.fault.TextFault.{TextFault}
 use Rattle.ofn_tree.specs.declared.fault.TextFault.TheVariants.{Unbalanced, TooDeep}
 use Rattle.ofn_tree.specs.Token.{PlainToken, plain_token, is_open, is_close, is_name}
-use Rattle.ofn_tree.specs.Items.{Item, group_item, Items, items_of, Mark, opening, closing, mark_of, mark_at, is_head, begins_with_open, marks_from, marks, written, written_all, nesting, nesting_all, IsTree}
+use Rattle.ofn_tree.specs.Items.{Item, group_item, items_of, Mark, opening, closing, mark_of, mark_at, is_head, begins_with_open, marks_from, marks, written, written_all, nesting, nesting_all}
 use Rattle.ofn_tree.specs.Parsed.{begins_with_close, begins_with_head, IsItems, IsGroup}
-use Rattle.ofn_tree.specs.Faults.{IsFaultOf, depth_behind, fault_or, bracket_fault}
+use Rattle.ofn_tree.specs.Faults.{IsFaultOf, fault_or, bracket_fault}
 
 written_all-append : (is : List Item) (i : Item) → written_all (items_of (is ++ i ∷ [])) ≡ written_all (items_of is) ++ written i
 written_all-append [] i = append-nil (written i)

@@ -1,7 +1,7 @@
 -- Items that are made of the same marks are equal.
-use Rattle.std.proofs.Common.{◌≡◌, ℕ, List, [], ◌∷◌, ◌++◌, Option, Some, None, refl, ap, sym, ◌∙◌, append_assoc, append-nil}
+use Rattle.std.proofs.Common.{◌≡◌, List, [], ◌∷◌, ◌++◌, refl, ap, sym, ◌∙◌, append_assoc}
 use Rattle.ofn_tree.specs.Token.{PlainToken}
-use Rattle.ofn_tree.specs.Items.{Item, name_item, iri_item, literal_item, sign_item, group_item, Items, no_items, item, items_of, Mark, opening, closing, single, marks, written, written_all, IsTree}
+use Rattle.ofn_tree.specs.Items.{Item, name_item, iri_item, literal_item, sign_item, group_item, Items, no_items, item, items_of, Mark, closing, written, written_all, IsTree}
 
 -- no item begins with a closing bracket
 closes_no_item : (i : Item) (r s : List Mark) → closing ∷ s ≡ written i ++ r → ⊥

@@ -1,5 +1,5 @@
 -- The tokens that belong to the document: those up to the bracket that closes its group `Ontology`, or all.
-use Rattle.std.specs.Prelude.{ℕ, ◌+◌, ◌-◌, List, [], ◌∷◌, length, Bool, true, false, ◌&&◌, nat_eq, Option, Some, None, option_map, if◌then◌else◌, codes, bytes_eq}
+use Rattle.std.specs.Prelude.{ℕ, ◌+◌, ◌-◌, List, [], ◌∷◌, length, Bool, false, ◌&&◌, nat_eq, Option, Some, None, option_map, if◌then◌else◌, codes, bytes_eq}
 use Rattle.ofn_tree.specs.declared.token.Kind.{Kind}
 use Rattle.ofn_tree.specs.declared.token.Kind.TheVariants.{OpenBracket, CloseBracket, Name}
 use Rattle.ofn_tree.specs.Token.{PlainToken, is_close}

@@ -1,7 +1,7 @@
 -- What stands from one place of a list of tokens to another.
 use Rattle.std.specs.Prelude.{◌≡◌, ℕ, ◌+◌, ◌≤◌, List, [], ◌∷◌, ◌++◌, drop, Bool, false, Option}
 use Rattle.ofn_tree.specs.Token.{PlainToken, is_close}
-use Rattle.ofn_tree.specs.Items.{Item, items_of, written, written_all, nesting, nesting_all, Mark, opening, marks, is_head}
+use Rattle.ofn_tree.specs.Items.{Item, items_of, written, written_all, nesting, nesting_all, opening, marks, is_head}
 use Rattle.ofn_tree.specs.Faults.{bracket_fault}
 
 abbrev pub begins_with_close : List PlainToken → Bool

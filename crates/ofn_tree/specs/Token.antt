@@ -1,7 +1,7 @@
 -- Tokens as contracts see them.
 use Rattle.std.specs.Prelude.{ℕ, List, Bool, true, false}
 use Rattle.ofn_tree.specs.declared.token.Kind.{Kind}
-use Rattle.ofn_tree.specs.declared.token.Kind.TheVariants.{OpenBracket, CloseBracket, Equals, Iri, String, Tag, Carets, Name}
+use Rattle.ofn_tree.specs.declared.token.Kind.TheVariants.{OpenBracket, CloseBracket, Name}
 use Rattle.ofn_tree.specs.declared.token.Token.{Token}
 
 -- a token with its own bytes, those of an IRI without its `<` and `>`; the place of its first byte; and its line

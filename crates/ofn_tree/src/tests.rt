@@ -5,13 +5,13 @@ use std::alloc::Global;
 use std::test::Fail;
 
 // A letter for each kind that a text has for now.
-fn letter(kind: Kind) -> char {
+fn letter(kind: Kind) -> u8 {
     match kind {
-        Kind::OpenBracket => '(',
-        Kind::CloseBracket => ')',
-        Kind::Iri => 'i',
-        Kind::Name => 'n',
-        _ => '?',
+        Kind::OpenBracket => b'(',
+        Kind::CloseBracket => b')',
+        Kind::Iri => b'i',
+        Kind::Name => b'n',
+        _ => b'?',
     }
 }
 
@@ -19,32 +19,32 @@ fn letter(kind: Kind) -> char {
 fn reads_tokens(rt: HostRuntime) -> Result<(), Fail> {
     let alloc = rt.alloc();
     // The text, a letter for each token, and the place behind what was read.
-    let table: [(&[u8], &str, usize); 16] = [
-        (b"", "", 0),
-        (b" \t\r\n", "", 4),
-        (b"Ontology( A ) rest \"", "n(n)", 13),
-        (b"Ontology\n(<http://e.org/A>)x", "n(i)", 27),
-        (b"(Ontology())(", "(n())(", 13),
-        (b"Ontologyx()Ontology()=", "n()n()", 21),
-        (b"ontology()Ontology(())=", "n()n(())", 22),
-        (b")Ontology()#", ")n()", 11),
-        (b"A()Ontology(Ontology())\xff", "n()n(n())", 23),
-        (b"Ontology A()", "nn()", 12),
-        (b"Ontology<a>()", "ni()", 13),
-        (b"Ontology(", "n(", 9),
-        (b"<>", "i", 2),
-        (b"<http://e.org/a#b(c)=@^\\>", "i", 25),
-        (b"a'b,;:!\\~ -1", "nn", 12),
-        (b"A<b>c", "nin", 5),
+    let table: [(&[u8], &[u8], usize); 16] = [
+        (b"", b"", 0),
+        (b" \t\r\n", b"", 4),
+        (b"Ontology( A ) rest \"", b"n(n)", 13),
+        (b"Ontology\n(<http://e.org/A>)x", b"n(i)", 27),
+        (b"(Ontology())(", b"(n())(", 13),
+        (b"Ontologyx()Ontology()=", b"n()n()", 21),
+        (b"ontology()Ontology(())=", b"n()n(())", 22),
+        (b")Ontology()#", b")n()", 11),
+        (b"A()Ontology(Ontology())\xff", b"n()n(n())", 23),
+        (b"Ontology A()", b"nn()", 12),
+        (b"Ontology<a>()", b"ni()", 13),
+        (b"Ontology(", b"n(", 9),
+        (b"<>", b"i", 2),
+        (b"<http://e.org/a#b(c)=@^\\>", b"i", 25),
+        (b"a'b,;:!\\~ -1", b"nn", 12),
+        (b"A<b>c", b"nin", 5),
     ];
     for (text, letters, end) in table {
         let (read, place) = tokens(alloc, text)?;
-        let mut kinds = String::new(alloc);
+        let mut kinds = Vec::new(alloc);
         for token in &read {
             kinds.push(letter(token.kind))?;
         }
-        assert_eq!(rt; kinds.as_str(), letters);
-        assert_eq!(rt; place, end, "{letters}");
+        assert_eq!(rt; kinds.as_slice(), letters);
+        assert_eq!(rt; place, end);
     }
     Ok(())
 }
@@ -123,11 +123,19 @@ fn finds_brackets(rt: HostRuntime) -> Result<(), Fail> {
     Ok(())
 }
 
-// A group's name and items, or none and none.
-fn group<'t, 'a>(item: &'t Tree<'a>) -> (Option<&'a str>, &'t [Tree<'a>]) {
+// A group with this name.
+fn is_group(item: &Tree, name: &str) -> bool {
     match &item.form {
-        Form::Group(head, items, _) => (*head, items.as_slice()),
-        _ => (None, &[]),
+        Form::Group(Some(head), _, _) => *head == name,
+        _ => false,
+    }
+}
+
+// The items of a group, or none.
+fn items_of<'t, 'a>(item: &'t Tree<'a>) -> &'t [Tree<'a>] {
+    match &item.form {
+        Form::Group(_, items, _) => items.as_slice(),
+        _ => &[],
     }
 }
 
@@ -139,22 +147,18 @@ fn makes_trees(rt: HostRuntime) -> Result<(), Fail> {
     let [first, second] = trees.as_slice() else {
         return Err(Fail::from("two groups"));
     };
-    assert_eq!(rt; group(first).0, Some("A"));
-    assert!(rt;
-        matches!(
-            group(first).1,
-            [Tree {
-                form: Form::Name("B", 0)
-            }]
-        )
-    );
-    assert_eq!(rt; group(second).0, None);
-    let [iri, inner] = group(second).1 else {
+    assert!(rt; is_group(first, "A"));
+    let [name] = items_of(first) else {
+        return Err(Fail::from("one item"));
+    };
+    assert!(rt; matches!(name.form, Form::Name("B", 0)));
+    assert!(rt; matches!(second.form, Form::Group(None, _, 0)));
+    let [iri, inner] = items_of(second) else {
         return Err(Fail::from("two items"));
     };
     assert!(rt; matches!(iri.form, Form::Iri("i", 0)));
-    assert_eq!(rt; group(inner).0, Some("C"));
-    assert!(rt; group(inner).1.is_empty());
+    assert!(rt; is_group(inner, "C"));
+    assert!(rt; items_of(inner).is_empty());
     Ok(())
 }
 

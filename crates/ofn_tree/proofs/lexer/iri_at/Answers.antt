@@ -1,4 +1,4 @@
-use Rattle.std.proofs.Common.{take, drop}
+use Rattle.std.proofs.Common.{drop}
 use Rattle.ofn_tree.specs.Lexemes.{is_iri_byte}
 use Rattle.ofn_tree.proofs.Ascii.{IsAscii-prefix, iri_byte-ascii, behind_first}
 use Rattle.ofn_tree.proofs.lexer.iri_at.Goals as goal

@@ -1,4 +1,4 @@
-use Rattle.std.proofs.Common.{◌≡◌, ◌+◌, ◌∷◌, take, drop, get_or, subst, sym, ap, ◌∙◌, IsAscii}
+use Rattle.std.proofs.Common.{◌≡◌, take, drop, get_or, ap, ◌∙◌}
 use Rattle.std.specs.List.{prefix_len}
 use Rattle.ofn_tree.specs.Lexemes.{is_name_byte}
 use Rattle.ofn_tree.proofs.Ascii.{IsAscii-prefix, IsAscii-cons, name_byte-ascii, behind_first, front_first}

@@ -1,11 +1,9 @@
-use Rattle.std.proofs.Common.{◌≡◌, true, false, length, ◌+◌, ◌∷◌, ◌<◌, [], sym, ap, ◌∙◌, arith, None, Some}
-use Rattle.std.proofs.lemmas.Grind.{common_steps}
+use Rattle.std.proofs.Common.{◌≡◌, true, false, length, ◌+◌, ◌<◌, sym, ◌∙◌, arith}
 use Rattle.std.proofs.lemmas.Result.{IfOk-weaker, IfErr-weaker, err_from_is_err_and}
-use Rattle.ofn_tree.specs.Token.{plain_token}
-use Rattle.ofn_tree.specs.Parsed.{IsItems, IsGroup, begins_with_head}
+use Rattle.ofn_tree.specs.Parsed.{begins_with_head}
 use Rattle.ofn_tree.specs.Items.{begins_with_open}
 use Rattle.ofn_tree.specs.Form.{head_text}
-use Rattle.ofn_tree.specs.Faults.{IsFaultOf, bracket_fault}
+use Rattle.ofn_tree.specs.Faults.{bracket_fault}
 use Rattle.ofn_tree.proofs.Trees.{from, no_token, tokens-past, too_deep, enter-at, unclosed, group-at, IsItems-append, unnamed-at, named-at, single-at, head-fault, head-opens, opens-inside, opens-at, closes-at, IsFaultOf-before}
 use Rattle.ofn_tree.proofs.parser.+trees.Goals as goal
 

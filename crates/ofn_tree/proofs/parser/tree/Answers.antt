@@ -1,6 +1,4 @@
-use Rattle.std.proofs.Common.{◌≡◌, drop, map, refl, sym, ap, ◌∙◌}
-use Rattle.ofn_tree.specs.Token.{plain_token}
-use Rattle.ofn_tree.specs.Faults.{bracket_fault}
+use Rattle.std.proofs.Common.{◌∙◌}
 use Rattle.ofn_tree.proofs.Trees.{unopened, no_token}
 use Rattle.ofn_tree.proofs.parser.tree.Goals as goal
 
