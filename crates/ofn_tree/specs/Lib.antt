@@ -1,0 +1,10 @@
+pub mod Token
+pub mod Lexemes
+pub mod Document
+pub mod Faults
+pub mod Items
+pub mod ItemCode
+pub mod Form
+pub mod FormFalls
+pub mod Lexed
+pub mod Parsed

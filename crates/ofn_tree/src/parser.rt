@@ -1,0 +1,197 @@
+// The tree of a text's brackets.
+ghost use Rattle.std.specs.Prelude.{◌≡◌, ◌<◌, ◌≤◌, ◌++◌, ◌+◌, ◌∷◌, [], true, false, List, IfOk, IfErr, OnOk, None, Some, length, drop, map};
+ghost use Rattle.ofn_tree.specs.Token.{plain_token, PlainToken, is_open, is_close, is_name};
+ghost use Rattle.ofn_tree.specs.Items.{Item, IsTree, written, nesting, mark_of, begins_with_open};
+ghost use Rattle.ofn_tree.specs.Form.{head_text};
+ghost use Rattle.ofn_tree.specs.Parsed.{begins_with_close, begins_with_head, IsItems, IsGroup};
+ghost use Rattle.ofn_tree.specs.Faults.{IsFaultOf, bracket_fault};
+
+use crate::{Form, Kind, TextFault, Token, Tree};
+use std::alloc::Global;
+
+// How many brackets may be open at once.
+const MAX_OPEN: u32 = 64;
+
+/// The items of the tokens, bracketed. A name directly followed by an opening bracket begins a group with that name.
+/// `end_line` is the line of the text's end.
+///
+/// # Errors
+///
+/// `Unbalanced` at a closing bracket where none is open, or at the end of the text where a bracket is still open;
+/// `TooDeep` at the bracket that makes 65 open brackets; of these the one that is met first. And `NoMemory`.
+pub fn tree<'a>(
+    alloc: Global,
+    tokens: &[Token<'a>],
+    end_line: u32,
+) -> Result<Vec<Tree<'a>>, TextFault>
+    ensures ok { IfOk result (λ trees. IsTree (map plain_token tokens.now) trees.items) }
+    ensures no_fault { OnOk result (bracket_fault end_line 0 (map plain_token tokens.now) ≡ None) }
+    ensures fault { IfErr result (IsFaultOf (bracket_fault end_line 0 (map plain_token tokens.now))) }
+{
+    let (trees, place) = items(alloc, tokens, 0, 0, end_line)?;
+    if place < tokens.len() {
+        return Err(TextFault::Unbalanced(tokens[place].line));
+    }
+    Ok(trees)
+}
+
+// The items from a place on, up to a bracket that closes none of theirs, or to the end, and the place behind them.
+#[cycle(trees)]
+fn items<'a>(
+    alloc: Global,
+    tokens: &[Token<'a>],
+    start: usize,
+    depth: u32,
+    end_line: u32,
+) -> Result<(Vec<Tree<'a>>, usize), TextFault>
+    requires start { start ≤ length tokens.now }
+    requires depth { depth ≤ 64 }
+    ensures within { IfOk result (λ r. (start ≤ r.1) × (r.1 ≤ length tokens.now)) }
+    ensures read { IfOk result (λ r. IsItems end_line depth (drop start (map plain_token tokens.now)) (drop r.1 (map plain_token tokens.now)) r.0.items) }
+    ensures ended { IfOk result (λ r. r.1 < length tokens.now → begins_with_close (drop r.1 (map plain_token tokens.now)) ≡ true) }
+    ensures fault { IfErr result (IsFaultOf (bracket_fault end_line depth (drop start (map plain_token tokens.now)))) }
+{
+    let mut trees = Vec::new(alloc);
+    let mut place = start;
+    while place < tokens.len() {
+        if closes_at(tokens, place) {
+            return Ok((trees, place));
+        }
+        let (tree, behind) = one(alloc, tokens, place, depth, end_line)?;
+        push_tree(&mut trees, tree)?;
+        place = behind;
+    }
+    Ok((trees, place))
+}
+
+fn push_tree<'a>(trees: &mut Vec<Tree<'a>>, tree: Tree<'a>) -> Result<(), TextFault>
+    ensures pushed { OnOk result (trees.new.items ≡ trees.old.items ++ tree.entry ∷ []) }
+    ensures refused { IfErr result (IsFaultOf None) }
+{
+    trees.push(tree)?;
+    Ok(())
+}
+
+// The item at a place, where no bracket closes, and the place behind it.
+#[cycle(trees)]
+fn one<'a>(
+    alloc: Global,
+    tokens: &[Token<'a>],
+    start: usize,
+    depth: u32,
+    end_line: u32,
+) -> Result<(Tree<'a>, usize), TextFault>
+    requires start { start < length tokens.now }
+    requires depth { depth ≤ 64 }
+    requires begins { begins_with_close (drop start (map plain_token tokens.now)) ≡ false }
+    ensures within { IfOk result (λ r. (start < r.1) × (r.1 ≤ length tokens.now)) }
+    ensures read { IfOk result (λ r. IsItems end_line depth (drop start (map plain_token tokens.now)) (drop r.1 (map plain_token tokens.now)) (r.0 ∷ [])) }
+    ensures fault { IfErr result (IsFaultOf (bracket_fault end_line depth (drop start (map plain_token tokens.now)))) }
+{
+    let token = tokens[start];
+    if opens_at(tokens, start) {
+        return group(alloc, tokens, None, token.line, start, depth, end_line);
+    }
+    if heads_group_at(tokens, start) {
+        return group(
+            alloc,
+            tokens,
+            Some(token.text),
+            token.line,
+            start + 1,
+            depth,
+            end_line,
+        );
+    }
+    Ok((single(&token), start + 1))
+}
+
+fn is_open(kind: Kind) -> bool
+    ensures { result ≡ is_open kind }
+{
+    kind == Kind::OpenBracket
+}
+
+fn is_close(kind: Kind) -> bool
+    ensures { result ≡ is_close kind }
+{
+    kind == Kind::CloseBracket
+}
+
+fn is_name(kind: Kind) -> bool
+    ensures { result ≡ is_name kind }
+{
+    kind == Kind::Name
+}
+
+// A bracket opens at a place.
+fn opens_at(tokens: &[Token], place: usize) -> bool
+    ensures { result ≡ begins_with_open (drop place (map plain_token tokens.now)) }
+{
+    place < tokens.len() && is_open(tokens[place].kind)
+}
+
+// A bracket closes at a place.
+fn closes_at(tokens: &[Token], place: usize) -> bool
+    ensures { result ≡ begins_with_close (drop place (map plain_token tokens.now)) }
+{
+    place < tokens.len() && is_close(tokens[place].kind)
+}
+
+// The name of a group stands at a place.
+fn heads_group_at(tokens: &[Token], place: usize) -> bool
+    requires { place < length tokens.now }
+    ensures { result ≡ begins_with_head (drop place (map plain_token tokens.now)) }
+{
+    is_name(tokens[place].kind) && opens_at(tokens, place + 1)
+}
+
+// The item that is one token.
+fn single<'a>(token: &Token<'a>) -> Tree<'a>
+    requires open { is_open token.now.kind ≡ false }
+    requires close { is_close token.now.kind ≡ false }
+    ensures made { written result ≡ mark_of token.now.kind token.now.text.now token.now.line ∷ [] }
+    ensures nested { nesting result ≡ 0 }
+{
+    let form = match token.kind {
+        Kind::Name => Form::Name(token.text, token.line),
+        Kind::Iri => Form::Iri(token.text, token.line),
+        Kind::String => Form::Literal(token.line),
+        kind => Form::Sign(kind, token.line),
+    };
+    Tree { form }
+}
+
+// The group with a name and a line whose opening bracket stands at a place, and the place behind its closing bracket.
+#[cycle(trees)]
+fn group<'a>(
+    alloc: Global,
+    tokens: &[Token<'a>],
+    head: Option<&'a str>,
+    line: u32,
+    place: usize,
+    depth: u32,
+    end_line: u32,
+) -> Result<(Tree<'a>, usize), TextFault>
+    requires place { place < length tokens.now }
+    requires depth { depth ≤ 64 }
+    requires begins { begins_with_open (drop place (map plain_token tokens.now)) ≡ true }
+    ensures within { IfOk result (λ r. (place < r.1) × (r.1 ≤ length tokens.now)) }
+    ensures read { IfOk result (λ r. IsGroup end_line depth (head_text head.entry) line (drop place (map plain_token tokens.now)) (drop r.1 (map plain_token tokens.now)) r.0) }
+    ensures fault { IfErr result (IsFaultOf (bracket_fault end_line depth (drop place (map plain_token tokens.now)))) }
+{
+    if depth == MAX_OPEN {
+        return Err(TextFault::TooDeep(tokens[place].line));
+    }
+    let (inner, end) = items(alloc, tokens, place + 1, depth + 1, end_line)?;
+    if end == tokens.len() {
+        return Err(TextFault::Unbalanced(end_line));
+    }
+    let form = Form::Group(head, inner, line);
+    Ok((Tree { form }, end + 1))
+}
+
+/// Tokens make one list of items at most.
+pub fn trees_are_unique()
+    ensures { (ts : List PlainToken) (is js : List Item) → IsTree ts is → IsTree ts js → is ≡ js }
+{}

@@ -1,0 +1,55 @@
+-- A source and a sink in memory: what they keep, and what a call answers and leaves.
+use Rattle.std.specs.Prelude.{ℕ, ◌-◌, min, List, length, take, drop, ◌++◌, Bool, nat_eq, nat_lt, nat_le, ◌&&◌, ◌||◌, if◌then◌else◌}
+use Rattle.std.specs.List.{list_any}
+use Rattle.shq_io.specs.Causes.{one_more}
+
+-- the next call's number is listed
+abbrev pub is_listed : List ℕ → ℕ → Bool
+is_listed failing calls = list_any (λ n. nat_eq n (one_more calls)) failing
+
+-- the bytes that are left, the most that a call gives, the numbers of the calls that fail, and the counts of the
+-- calls and of the faults
+pub record SourceState : Type 0 where
+  pub unread : List ℕ
+  pub step : ℕ
+  pub failing : List ℕ
+  pub calls : ℕ
+  pub faults : ℕ
+
+-- the next call fails
+abbrev pub read_fails : SourceState → Bool
+read_fails s = is_listed s.failing s.calls
+
+-- how many bytes a call gives that does not fail and has room for so many
+abbrev pub read_count : SourceState → ℕ → ℕ
+read_count s room = min (min (length s.unread) room) s.step
+
+-- what a call leaves
+abbrev pub after_read : SourceState → ℕ → SourceState
+after_read s room =
+    if read_fails s then record s { calls = one_more s.calls; faults = one_more s.faults }
+    else record s { calls = one_more s.calls; unread = drop (read_count s room) s.unread }
+
+-- the bytes that were taken, how many may be, the most that a call takes, the numbers of the calls that fail, and
+-- the counts of the calls and of the faults
+pub record SinkState : Type 0 where
+  pub kept : List ℕ
+  pub room : ℕ
+  pub step : ℕ
+  pub failing : List ℕ
+  pub calls : ℕ
+  pub faults : ℕ
+
+-- the next call fails, at a piece: its number is listed, or the piece is not empty and there is no room
+abbrev pub write_fails : SinkState → List ℕ → Bool
+write_fails s piece = is_listed s.failing s.calls || (nat_lt 0 (length piece) && nat_le s.room (length s.kept))
+
+-- how many bytes of a piece a call takes that does not fail
+abbrev pub write_count : SinkState → List ℕ → ℕ
+write_count s piece = min (min (length piece) (s.room - length s.kept)) s.step
+
+-- what a call leaves
+abbrev pub after_write : SinkState → List ℕ → SinkState
+after_write s piece =
+    if write_fails s piece then record s { calls = one_more s.calls; faults = one_more s.faults }
+    else record s { calls = one_more s.calls; kept = s.kept ++ take (write_count s piece) piece }
