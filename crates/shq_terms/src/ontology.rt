@@ -84,6 +84,7 @@ impl Ontology {
     /// All axioms, in the order of their numbers.
     pub fn axioms(&self) -> &[Numbered]
         ensures all { result.now ≡ self.now.axioms }
+        ensures within { length self.now.axioms ≤ MAX_AXIOMS }
         ensures listed { IsTrue (all_use_listed (length self.now.classes) (length self.now.roles) self.now.axioms) }
     {
         &self.axioms
@@ -147,6 +148,7 @@ impl Ontology {
     pub fn add_class(&mut self, iri: &str) -> Result<u32, AddFault>
         ensures number { IfOk result (λ k. k ≡ number_of self.old.classes iri.now) }
         ensures added { OnOk result (self.new ≡ record self.old { classes = with_name self.old.classes iri.now }) }
+        ensures within { length self.new.classes ≤ MAX_CLASSES }
         ensures unchanged { OnErr result (self.new ≡ self.old) }
         ensures full { (result ≡ Err AddFault.Full) ↔ ((MAX_CLASSES ≤ length self.old.classes) × (position (bytes_eq iri.now) self.old.classes ≡ None)) }
     {
@@ -158,6 +160,7 @@ impl Ontology {
     pub fn add_role(&mut self, iri: &str) -> Result<u32, AddFault>
         ensures number { IfOk result (λ k. k ≡ number_of self.old.roles iri.now) }
         ensures added { OnOk result (self.new ≡ record self.old { roles = with_name self.old.roles iri.now }) }
+        ensures within { length self.new.roles ≤ MAX_ROLES }
         ensures unchanged { OnErr result (self.new ≡ self.old) }
         ensures full { (result ≡ Err AddFault.Full) ↔ ((MAX_ROLES ≤ length self.old.roles) × (position (bytes_eq iri.now) self.old.roles ≡ None)) }
     {

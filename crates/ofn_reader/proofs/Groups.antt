@@ -1,0 +1,23 @@
+-- A group is its head and its items.
+use Rattle.std.proofs.Common.{◌≡◌, ◌≢◌, ℕ, List, [], ◌∷◌, ◌++◌, length, Option, Some, None, Result, Ok, Err, refl, ap, sym, ◌∙◌, subst}
+use Rattle.ofn_tree.specs.Items.{Item, items_of}
+use Rattle.ofn_reader.specs.Counts.{Counts}
+use Rattle.ofn_reader.specs.Walk.{Test, walked, Gives, Judged}
+use Rattle.ofn_reader.specs.Classes.{item_count, joined, group_tests, head_tests, inner_tests}
+use Rattle.ofn_reader.specs.declared.keywords.ClassKeyword.{ClassKeyword}
+use Rattle.ofn_reader.specs.declared.refusal.Refusal.{Refusal}
+use Rattle.ofn_reader.proofs.Walks.{goes_judged, stops}
+use Rattle.ofn_reader.proofs.Lists.{item_count_is}
+
+module _ (w : Option ClassKeyword) (line : ℕ) (items : List Item) (each : List (List Test)) (s : Counts) where
+  counted : head_tests w line (item_count (items_of items)) ≡ head_tests w line (length items)
+  counted = ap (head_tests w line) (item_count_is items)
+
+  pub group_stops : (e : Refusal) → walked s (head_tests w line (length items)) ≡ Err e → walked s (group_tests w line (items_of items) each) ≡ Err e
+  group_stops e first = stops s (head_tests w line (item_count (items_of items))) (inner_tests w each) e (ap (walked s) counted ∙ first)
+
+  pub group_goes : {X : Type 0} (r : Result X Refusal) (k : ClassKeyword) (mid new : Counts) → walked s (head_tests w line (length items)) ≡ Ok mid → w ≡ Some k → Judged r mid (joined each) new
+      → Judged r s (group_tests w line (items_of items) each) new
+  group_goes r k mid new first same rest =
+      goes_judged r s mid new (head_tests w line (item_count (items_of items))) (inner_tests w each) (ap (walked s) counted ∙ first)
+      (subst (λ v. Judged r mid (inner_tests v each) new) (sym same) rest)

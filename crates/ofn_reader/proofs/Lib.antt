@@ -1,0 +1,7 @@
+pub mod Walks
+pub mod Growing
+pub mod Kept
+pub mod Lists
+pub mod Groups
+pub mod Numbering
+pub mod Refused
