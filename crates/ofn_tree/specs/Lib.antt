@@ -9,3 +9,4 @@ pub mod FormFalls
 pub mod Lexed
 pub mod Parsed
 pub mod Spans
+pub mod Scanned

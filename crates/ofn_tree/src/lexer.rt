@@ -6,7 +6,8 @@ ghost use Rattle.ofn_tree.specs.Lexemes.{is_space, is_iri_byte, is_name_byte, ir
 ghost use Rattle.ofn_tree.specs.Document.{Reading, is_last, met_after, reading};
 ghost use Rattle.ofn_tree.specs.Spans.{AreSpans};
 ghost use Rattle.ofn_tree.specs.Faults.{IsFaultOf, token_fault};
-ghost use Rattle.ofn_tree.specs.Lexed.{lexeme_of, met_of, reading_of};
+ghost use Rattle.ofn_tree.specs.Lexed.{reading_of};
+ghost use Rattle.ofn_tree.specs.Scanned.{lexeme_of, met_of};
 
 use crate::{Kind, TextFault, Token};
 use std::alloc::Global;
