@@ -2,3 +2,4 @@ pub mod Ascii
 pub mod Reading
 pub mod Trees
 pub mod Unique
+pub mod Slices

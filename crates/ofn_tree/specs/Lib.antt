@@ -8,3 +8,5 @@ pub mod Form
 pub mod FormFalls
 pub mod Lexed
 pub mod Parsed
+pub mod Spans
+pub mod Scanned

@@ -1,11 +1,13 @@
 // A text cut into tokens.
-ghost use Rattle.std.specs.Prelude.{◌≡◌, ◌<◌, ◌≤◌, ◌+◌, ◌-◌, ◌^◌, ◌∷◌, [], true, Some, None, Err, IfOk, IfErr, IfSome, length, slice_index, drop, option_map, IsAscii};
+ghost use Rattle.std.specs.Prelude.{◌≡◌, ℕ, List, ◌<◌, ◌≤◌, ◌+◌, ◌-◌, ◌^◌, ◌∷◌, [], true, Some, None, Err, IfOk, IfErr, IfSome, length, slice_index, drop, option_map, IsAscii};
 ghost use Rattle.std.specs.List.{prefix_len};
 ghost use Rattle.ofn_tree.specs.Token.{plain_token};
 ghost use Rattle.ofn_tree.specs.Lexemes.{is_space, is_iri_byte, is_name_byte, iri_at, name_at, lexeme_at};
-ghost use Rattle.ofn_tree.specs.Document.{is_last, met_after, reading};
+ghost use Rattle.ofn_tree.specs.Document.{Reading, is_last, met_after, reading};
+ghost use Rattle.ofn_tree.specs.Spans.{AreSpans};
 ghost use Rattle.ofn_tree.specs.Faults.{IsFaultOf, token_fault};
-ghost use Rattle.ofn_tree.specs.Lexed.{lexeme_of, met_of, reading_of};
+ghost use Rattle.ofn_tree.specs.Lexed.{reading_of};
+ghost use Rattle.ofn_tree.specs.Scanned.{lexeme_of, met_of};
 
 use crate::{Kind, TextFault, Token};
 use std::alloc::Global;
@@ -231,3 +233,9 @@ pub fn tokens(alloc: Global, text: &[u8]) -> Result<(Vec<Token<'_>>, usize), Tex
     }
     Ok((tokens, place))
 }
+
+/// The tokens that are read are slices of the text, in order and apart, up to the place behind the last byte that was
+/// read.
+pub fn tokens_are_slices()
+    ensures { (input : List ℕ) (r : Reading) → reading input ≡ Some r → AreSpans input 0 r.tokens r.place_behind × (r.place_behind ≤ length input) }
+{}

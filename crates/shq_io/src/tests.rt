@@ -45,6 +45,20 @@ impl Write for Failing {
     }
 }
 
+// A writer that takes all, and whose flush fails.
+#[derive(Drop)]
+struct Unflushed;
+
+impl Write for Unflushed {
+    fn write(&mut self, piece: &[u8]) -> io::Result<usize> {
+        Ok(piece.len())
+    }
+
+    fn flush(&mut self) -> io::Result<()> {
+        Err(io::Error::from(ErrorKind::BrokenPipe))
+    }
+}
+
 #[test]
 fn reads_from_memory(rt: HostRuntime) -> Result<(), Fail> {
     let alloc = rt.alloc();
@@ -123,6 +137,11 @@ fn writes_to_a_writer(rt: HostRuntime) -> Result<(), Fail> {
         Err(WriteFailed)
     );
     assert_eq!(rt; full.as_slice(), b"hel".as_slice());
+    // A sink flushes after each write, so that a flush that fails is told at once.
+    assert_eq!(rt;
+        write_whole(&mut StdSink::new(Unflushed), b"hello"),
+        Err(WriteFailed)
+    );
     let mut failing = StdSink::new(Failing { calls: 0 });
     assert_eq!(rt; write_whole(&mut failing, b"hello"), Err(WriteFailed));
     Ok(())

@@ -2,7 +2,7 @@ use Rattle.std.proofs.Common.{◌≡◌, ◌++◌, ◌∷◌, [], map, refl, sym
 use Rattle.std.proofs.lemmas.List.{map-append}
 use Rattle.std.proofs.lemmas.Grind.{common_steps}
 use Rattle.ofn_tree.specs.Token.{PlainToken, plain_token}
-use Rattle.ofn_tree.specs.Lexed.{lexeme_of, met_of}
+use Rattle.ofn_tree.specs.Scanned.{lexeme_of, met_of}
 use Rattle.ofn_tree.proofs.Reading.{told_token}
 use Rattle.ofn_tree.proofs.lexer.tokens.Goals as goal
 

@@ -2,7 +2,7 @@ use Rattle.std.proofs.Common.{◌≡◌, ◌≤◌, ◌-◌, drop, length, map, 
 use Rattle.ofn_tree.specs.Token.{plain_token}
 use Rattle.ofn_tree.specs.Lexemes.{pieces_from}
 use Rattle.ofn_tree.specs.Document.{document_front, reading}
-use Rattle.ofn_tree.specs.Lexed.{met_of}
+use Rattle.ofn_tree.specs.Scanned.{met_of}
 use Rattle.ofn_tree.proofs.Reading.{with_tokens}
 use Rattle.ofn_tree.proofs.lexer.tokens.Given as goal
 

@@ -1,0 +1,23 @@
+-- Tokens as slices of a text.
+use Rattle.std.specs.Prelude.{◌≡◌, ℕ, ◌+◌, ◌≤◌, List, [], ◌∷◌, length, take, drop}
+use Rattle.ofn_tree.specs.declared.token.Kind.{Kind}
+use Rattle.ofn_tree.specs.declared.token.Kind.TheVariants.{Iri}
+use Rattle.ofn_tree.specs.Token.{PlainToken}
+
+-- how many bytes stand round a token's text that are not part of it: the `<` before an IRI, and the `>` behind it
+abbrev pub around : Kind → ℕ
+around Iri = 1
+around _ = 0
+
+-- how many bytes of the input a token takes up
+abbrev pub width : PlainToken → ℕ
+width t = around t.kind + (length t.text + around t.kind)
+
+-- the token's text is a slice of the input
+abbrev pub IsSlice : List ℕ → PlainToken → Type 0
+IsSlice input t = t.text ≡ take (length t.text) (drop (t.start + around t.kind) input)
+
+-- the tokens are slices of the input, in order and apart, between two places
+abbrev pub AreSpans : List ℕ → ℕ → List PlainToken → ℕ → Type 0
+AreSpans input from [] to = from ≤ to
+AreSpans input from (t ∷ ts) to = (from ≤ t.start) × IsSlice input t × AreSpans input (t.start + width t) ts to
