@@ -3,3 +3,4 @@ pub mod Reading
 pub mod Trees
 pub mod Unique
 pub mod Slices
+pub mod Ends

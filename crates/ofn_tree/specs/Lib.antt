@@ -10,3 +10,4 @@ pub mod Lexed
 pub mod Parsed
 pub mod Spans
 pub mod Scanned
+pub mod Group

@@ -1,10 +1,11 @@
 // A text cut into tokens.
-ghost use Rattle.std.specs.Prelude.{◌≡◌, ℕ, List, ◌<◌, ◌≤◌, ◌+◌, ◌-◌, ◌^◌, ◌∷◌, [], true, Some, None, Err, IfOk, IfErr, IfSome, length, slice_index, drop, option_map, IsAscii};
+ghost use Rattle.std.specs.Prelude.{◌≡◌, ℕ, List, ◌<◌, ◌≤◌, ◌+◌, ◌-◌, ◌^◌, ◌∷◌, ◌++◌, ◌⊎◌, [], true, Some, None, Err, IfOk, IfErr, IfSome, length, slice_index, drop, option_map, IsAscii};
 ghost use Rattle.std.specs.List.{prefix_len};
-ghost use Rattle.ofn_tree.specs.Token.{plain_token};
+ghost use Rattle.ofn_tree.specs.Token.{PlainToken, plain_token};
 ghost use Rattle.ofn_tree.specs.Lexemes.{is_space, is_iri_byte, is_name_byte, iri_at, name_at, lexeme_at};
 ghost use Rattle.ofn_tree.specs.Document.{Reading, is_last, met_after, reading};
 ghost use Rattle.ofn_tree.specs.Spans.{AreSpans};
+ghost use Rattle.ofn_tree.specs.Group.{EndsDocument};
 ghost use Rattle.ofn_tree.specs.Faults.{IsFaultOf, token_fault};
 ghost use Rattle.ofn_tree.specs.Lexed.{reading_of};
 ghost use Rattle.ofn_tree.specs.Scanned.{lexeme_of, met_of};
@@ -238,4 +239,11 @@ pub fn tokens(alloc: Global, text: &[u8]) -> Result<(Vec<Token<'_>>, usize), Tex
 /// read.
 pub fn tokens_are_slices()
     ensures { (input : List ℕ) (r : Reading) → reading input ≡ Some r → AreSpans input 0 r.tokens r.place_behind × (r.place_behind ≤ length input) }
+{}
+
+/// The tokens that are read end with the first bracket that closes a group whose name is `Ontology` and which begins
+/// where no bracket is open; without such a bracket the whole text is read.
+pub fn tokens_end_with_the_document()
+    ensures ends { (input : List ℕ) (r : Reading) → reading input ≡ Some r → EndsDocument r.tokens ⊎ (r.place_behind ≡ length input) }
+    ensures first { (input : List ℕ) (r : Reading) (front rest : List PlainToken) (t : PlainToken) → reading input ≡ Some r → r.tokens ≡ front ++ t ∷ rest → EndsDocument (front ++ t ∷ []) → rest ≡ [] }
 {}

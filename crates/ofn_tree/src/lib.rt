@@ -9,7 +9,7 @@ mod token;
 
 pub use fault::TextFault;
 pub use form::{Form, Tree};
-pub use lexer::{tokens, tokens_are_slices};
+pub use lexer::{tokens, tokens_are_slices, tokens_end_with_the_document};
 pub use parser::{tree, trees_are_unique};
 pub use token::{Kind, Token};
 
