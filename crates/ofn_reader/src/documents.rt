@@ -42,6 +42,7 @@ impl Context {
 /// The items of a text, and the place behind the last byte that was read.
 pub(crate) fn read_items(alloc: Global, text: &[u8]) -> Result<(Vec<Tree<'_>>, usize), Refusal>
     ensures made { IfOk result (λ r. HasItems text.now r.0.items r.1) }
+    ensures within { IfOk result (λ r. r.1 ≤ length text.now) }
     ensures refused { IfErr result (λ e. (tests : List Item → List Test) (s : Counts) → e ≢ NoMemory → IsRefusedBy tests s text.now e) }
 {
     let (tokens, end) = match tokens(alloc, text) {
@@ -83,6 +84,7 @@ fn read_document(alloc: Global, items: &[Tree<'_>], state: &mut Reading) -> Resu
 /// The first fault of the text, else what is wrong first in the order of the text, and `NoMemory`.
 pub fn read_ontology(alloc: Global, text: &[u8]) -> Result<(Ontology, Context, usize), Refusal>
     ensures document { IfOk result (λ r. IsDocument text.now r.0 r.1 r.2) }
+    ensures within { IfOk result (λ r. r.2 ≤ length text.now) }
     ensures refused { IfErr result (λ e. e ≢ NoMemory → IsNoDocument text.now e) }
 {
     let (items, end) = match read_items(alloc, text) {

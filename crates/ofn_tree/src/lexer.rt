@@ -202,6 +202,7 @@ fn lexeme_at(text: &[u8]) -> Option<Lexeme<'_>>
 /// `BadToken` where a character before that place is neither whitespace nor part of a token, and `NoMemory`.
 pub fn tokens(alloc: Global, text: &[u8]) -> Result<(Vec<Token<'_>>, usize), TextFault>
     ensures ok { IfOk result (λ r. reading text.now ≡ Some (reading_of r.0.items r.1)) }
+    ensures within { IfOk result (λ r. r.1 ≤ length text.now) }
     ensures fault { IfErr result (IsFaultOf (token_fault text.now)) }
 {
     let mut tokens = Vec::new(alloc);

@@ -1,0 +1,4 @@
+pub mod Unmet
+pub mod Blanks
+pub mod Replies
+pub mod Unread

@@ -1,0 +1,73 @@
+-- Which answer belongs to which words and bytes, and what a run leaves of the input.
+use Rattle.std.specs.Prelude.{◌≡◌, ℕ, ◌+◌, ◌<◌, ◌≤◌, ◌^◌, ◌∷◌, ◌++◌, [], List, length, drop, codes, decimal, nat_lt, Option, Some, None, MatchOption, string_bytes, if◌then◌else◌}
+use Rattle.std.specs.Io.KnownBytes.{Appends}
+use Rattle.shq_io.specs.Causes.{TakesFront}
+use Rattle.ontology_cli.specs.Words.{Job, check, job_of}
+use Rattle.ontology_cli.specs.Checking.{IsInput, IsNotBuilt, IsVerdict}
+use Rattle.ontology_cli.specs.declared.checking.Input.{Input}
+use Rattle.ontology_cli.specs.declared.checking.Verdict.{Verdict}
+use Rattle.ontology_cli.specs.declared.checking.Verdict.TheVariants.{Accepted, Axiom, Query}
+use Rattle.ontology_cli.specs.declared.text.Text.{Text}
+use Rattle.ontology_cli.specs.declared.text.Text.TheVariants.{Fixed, Made}
+use Rattle.ontology_cli.specs.declared.status.Status.{Status}
+use Rattle.ontology_cli.specs.declared.status.Status.TheVariants.{Done, Rejected, BadWords, Limit, ReadFault, WriteFault, NoMemory, NotBuilt}
+
+-- a line of text
+abbrev pub line : List ℕ → List ℕ
+line text = text ++ 10 ∷ []
+
+abbrev pub text_bytes : Text → List ℕ
+text_bytes (Fixed s) = s.now
+text_bytes (Made s) = string_bytes s
+
+abbrev pub no_memory : List ℕ
+no_memory = line (codes "no memory")
+
+-- the answer to a verdict
+abbrev pub verdict_answer : Verdict → Status × List ℕ
+verdict_answer Accepted = (Done, line (codes "accepted not entailed"))
+verdict_answer (Axiom k) = (Rejected, line (codes "rejected axiom " ++ decimal k))
+verdict_answer Query = (Rejected, line (codes "rejected query"))
+
+-- the same, unless memory was refused
+abbrev pub IsVerdictText : Verdict → List ℕ → Status → Type 0
+IsVerdictText v out NoMemory = out ≡ no_memory
+IsVerdictText v out s = ◌≡◌ {A = Status × List ℕ} (s, out) (verdict_answer v)
+
+-- the answer of a verification
+abbrev pub Checked : List ℕ → List ℕ → List ℕ → Status → Type 0
+Checked query bytes out NotBuilt = IsNotBuilt query bytes × (out ≡ line (codes "not built"))
+Checked query bytes out NoMemory = out ≡ no_memory
+Checked query bytes out s = (input : Input) × (v : Verdict) × IsInput query bytes input × IsVerdict input v × (◌≡◌ {A = Status × List ℕ} (s, out) (verdict_answer v))
+
+-- the answer to an accepted list of words
+abbrev pub AnswersJob : Job → List ℕ → List ℕ → Status → Type 0
+AnswersJob job bytes out Limit = (2 ^ 24 < length bytes) × (out ≡ line (codes "limit text"))
+AnswersJob job bytes out ReadFault = out ≡ line (codes "read fault")
+AnswersJob job bytes out NoMemory = out ≡ no_memory
+AnswersJob (check query) bytes out s = (length bytes ≤ 2 ^ 24) × Checked query bytes out s
+
+-- the answer to the words and the input, with the text that is written
+abbrev pub Answers : List (List ℕ) → List ℕ → List ℕ → Status → Type 0
+Answers words bytes out s = MatchOption (job_of words) ((s ≡ BadWords) × (out ≡ line (codes "bad words"))) (λ job. AnswersJob job bytes out s)
+
+-- the sink took the text of an answer, whole, or at a fault of writing a front of it
+abbrev pub Answered : Option (List ℕ) → Option (List ℕ) → List (List ℕ) → List ℕ → Status → Type 0
+Answered before now words bytes WriteFault = (s : Status) × (out : List ℕ) × Answers words bytes out s × TakesFront out before now
+Answered before now words bytes s = (out : List ℕ) × Answers words bytes out s × Appends before now out
+
+-- what is left of the input: nothing, or what is behind one byte more than the limit; for no job all of it
+abbrev pub left_by : Option Job → List ℕ → List ℕ
+left_by None bytes = bytes
+left_by (Some job) bytes = if nat_lt (2 ^ 24) (length bytes) then drop (2 ^ 24 + 1) bytes else []
+
+-- what is left of an input that is told, where nothing failed
+abbrev pub LeavesFor : Option Job → Option (List ℕ) → Option (List ℕ) → Status → Type 0
+LeavesFor job before now ReadFault = Unit {0}
+LeavesFor job before now WriteFault = Unit {0}
+LeavesFor job before now NoMemory = Unit {0}
+LeavesFor job None now s = Unit {0}
+LeavesFor job (Some bytes) now s = now ≡ Some (left_by job bytes)
+
+abbrev pub Leaves : List (List ℕ) → Option (List ℕ) → Option (List ℕ) → Status → Type 0
+Leaves words before now s = LeavesFor (job_of words) before now s

@@ -1,0 +1,4 @@
+pub mod Words
+pub mod Certificates
+pub mod Checking
+pub mod Answers

@@ -1,0 +1,109 @@
+// The top call.
+ghost use Rattle.std.specs.Prelude.{◌≡◌, ◌≤◌, ◌≢◌, IfSome, Some, None};
+ghost use Rattle.shq_io.specs.Causes.{Rose};
+ghost use Rattle.ontology_cli.specs.Words.{check, job_of, command_job, texts_of};
+ghost use Rattle.ontology_cli.specs.Answers.{AnswersJob, Answers, Answered, Checked, IsVerdictText, LeavesFor, Leaves, text_bytes};
+
+use crate::checking::{Unread, Verdict, judge, read_input};
+use crate::run_log::RunLog;
+use crate::status::Status;
+use crate::text::Text;
+use crate::words::{Command, read_words};
+use shq_io::{ReadEnd, Sink, Source, WriteFailed, read_all, write_whole};
+use std::alloc::Global;
+
+// The most bytes of an input.
+const MAX_BYTES: u32 = 1 << 24;
+
+/// Does the job that the words ask for, and writes its answer and nothing else.
+///
+/// `words` are those behind the program's name; `source` gives the document, with what follows it; the log is empty, and
+/// stays so while no job searches. The words of no job are answered without a read.
+pub fn run<S: Source, K: Sink>(
+    alloc: Global,
+    words: &[String],
+    source: &mut S,
+    sink: &mut K,
+    _log: &mut RunLog,
+) -> Status
+    ensures answers { IfSome (S.left source.old) (λ bytes. Answered (K.taken sink.old) (K.taken sink.new) (texts_of words.now) bytes result) }
+    ensures leaves { Leaves (texts_of words.now) (S.left source.old) (S.left source.new) result }
+    ensures read_fault { result ≡ Status.ReadFault → Rose (S.faults source.old) (S.faults source.new) }
+    ensures write_fault { result ≡ Status.WriteFault → Rose (K.faults sink.old) (K.faults sink.new) }
+    ensures unread { job_of (texts_of words.now) ≡ None → source.new ≡ source.old }
+{
+    let (status, text) = reply_to(alloc, words, source);
+    match write_whole(sink, text.bytes()) {
+        Ok(()) => status,
+        Err(WriteFailed) => Status::WriteFault,
+    }
+}
+
+// What is written, and the status that goes with it.
+fn reply_to<S: Source>(alloc: Global, words: &[String], source: &mut S) -> (Status, Text)
+    ensures answers { IfSome (S.left source.old) (λ bytes. Answers (texts_of words.now) bytes (text_bytes result.1) result.0) }
+    ensures leaves { Leaves (texts_of words.now) (S.left source.old) (S.left source.new) result.0 }
+    ensures fault { result.0 ≡ Status.ReadFault → Rose (S.faults source.old) (S.faults source.new) }
+    ensures no_write_fault { result.0 ≢ Status.WriteFault }
+    ensures unread { job_of (texts_of words.now) ≡ None → source.new ≡ source.old }
+{
+    match read_words(words) {
+        Some(command) => do_job(alloc, command, source),
+        None => (Status::BadWords, Text::Fixed("bad words\n")),
+    }
+}
+
+fn do_job<S: Source>(alloc: Global, command: Command<'_>, source: &mut S) -> (Status, Text)
+    ensures answers { IfSome (S.left source.old) (λ bytes. AnswersJob (command_job command.entry) bytes (text_bytes result.1) result.0) }
+    ensures leaves { LeavesFor (Some (command_job command.entry)) (S.left source.old) (S.left source.new) result.0 }
+    ensures fault { result.0 ≡ Status.ReadFault → Rose (S.faults source.old) (S.faults source.new) }
+    ensures status { result.0 ≢ Status.WriteFault }
+{
+    match command {
+        Command::Check(query) => check_input(alloc, query, source),
+    }
+}
+
+// Reads the input, and verifies the certificate in it.
+fn check_input<S: Source>(alloc: Global, query: &str, source: &mut S) -> (Status, Text)
+    ensures answers { IfSome (S.left source.old) (λ bytes. AnswersJob (check query.now) bytes (text_bytes result.1) result.0) }
+    ensures leaves { LeavesFor (Some (check query.now)) (S.left source.old) (S.left source.new) result.0 }
+    ensures fault { result.0 ≡ Status.ReadFault → Rose (S.faults source.old) (S.faults source.new) }
+    ensures status { result.0 ≢ Status.WriteFault }
+{
+    match read_all(alloc, source, MAX_BYTES) {
+        Ok(input) => verify(alloc, query, &input),
+        Err(ReadEnd::TooLong) => (Status::Limit, Text::Fixed("limit text\n")),
+        Err(ReadEnd::Fault) => (Status::ReadFault, Text::Fixed("read fault\n")),
+        Err(ReadEnd::NoMemory) => (Status::NoMemory, Text::Fixed("no memory\n")),
+    }
+}
+
+/// Verifies the model certificate that follows the document.
+fn verify(alloc: Global, query: &str, input: &[u8]) -> (Status, Text)
+    ensures { Checked query.now input.now (text_bytes result.1) result.0 }
+{
+    match read_input(alloc, query, input) {
+        Ok(read) => {
+            let verdict = judge(&read);
+            drop(read);
+            verdict_text(alloc, verdict)
+        }
+        Err(Unread::NotBuilt) => (Status::NotBuilt, Text::Fixed("not built\n")),
+        Err(Unread::NoMemory) => (Status::NoMemory, Text::Fixed("no memory\n")),
+    }
+}
+
+/// The answer to a verdict.
+fn verdict_text(alloc: Global, verdict: Verdict) -> (Status, Text)
+    ensures { IsVerdictText verdict (text_bytes result.1) result.0 }
+{
+    match verdict {
+        Verdict::Accepted => (Status::Done, Text::Fixed("accepted not entailed\n")),
+        Verdict::Axiom(number) => match format!(in alloc; "rejected axiom {number}\n") {
+            Ok(text) => (Status::Rejected, Text::Made(text)),
+            Err(_) => (Status::NoMemory, Text::Fixed("no memory\n")),
+        },
+        Verdict::Query => (Status::Rejected, Text::Fixed("rejected query\n")),
+    }
+}
