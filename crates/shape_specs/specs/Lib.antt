@@ -1,0 +1,7 @@
+pub mod Same
+pub mod Normal
+pub mod Shape
+pub mod Tree
+pub mod Rows
+pub mod Laws
+pub mod Examples
