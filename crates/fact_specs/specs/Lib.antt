@@ -1,0 +1,4 @@
+pub mod Joins
+pub mod State
+pub mod Laws
+pub mod Examples
