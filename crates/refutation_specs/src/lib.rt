@@ -1,0 +1,10 @@
+//! Refutations: rule lines, what each adds to what is known, and when a tree of them shuts every branch.
+#![tactic(auto)]
+
+ghost use Rattle.refutation_specs.specs.Laws.{StackFindsTrees};
+
+/// Lines that a stack of open branches takes to its end are the preorder of one shut tree, and those of a shut tree are
+/// taken to the end.
+pub fn a_stack_of_open_branches_finds_shut_trees()
+    ensures { StackFindsTrees }
+{}
