@@ -1,6 +1,6 @@
 -- The shape of a concept that a table keeps: its parts are numbers of the table, and so is the last number of a shape
 -- with a role. In 'at least' and 'at most' the first number is the cardinality and the second the role.
-use Rattle.std.specs.Prelude.{ℕ, nat_lt, nat_le, ◌&&◌, Bool, true, false, List, length, slice_index_or}
+use Rattle.std.specs.Prelude.{◌≡◌, ℕ, ◌<◌, nat_lt, nat_le, ◌&&◌, Bool, true, false, List, length, slice_index_or}
 use Rattle.std.specs.List.{list_all}
 
 pub data Shape : Type 0 where
@@ -58,3 +58,12 @@ is_normal table (some_of r c) = true
 is_normal table (all_of r c) = true
 is_normal table (at_least n r c) = nat_le 2 n && nat_le n 101
 is_normal table (at_most n r c) = nat_le 1 n && nat_le n 100
+
+-- a table of concepts in normal form: number 0 is top, parts stand below the shapes that name them, and no shape stands
+-- twice
+pub record IsTable (table : List Shape) : Type 0 where
+  pub has_top : 0 < length table
+  pub begins_with_top : shape_of table 0 ≡ top
+  pub parts_below : (c : ℕ) → c < length table → has_parts_below c (shape_of table c) ≡ true
+  pub are_normal : (c : ℕ) → c < length table → is_normal table (shape_of table c) ≡ true
+  pub are_distinct : (c d : ℕ) → c < length table → d < length table → shape_of table c ≡ shape_of table d → c ≡ d
