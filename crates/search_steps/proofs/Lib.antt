@@ -1,0 +1,5 @@
+pub mod Built
+pub mod Good
+pub mod Legal
+pub mod Reached
+pub mod Saturated

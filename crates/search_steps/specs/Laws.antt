@@ -1,0 +1,76 @@
+-- Laws of the trails that a search reaches. They hold over any world, from any start.
+use Rattle.std.specs.Prelude.{◌≡◌, ℕ, ◌<◌, Bool, true, false, List, take, Some, slice_get}
+use Rattle.fact_specs.specs.declared.Fact.{Fact}
+use Rattle.fact_specs.specs.declared.Fact.TheVariants.{Has, Edge, Apart, Same}
+use Rattle.fact_specs.specs.Joins.{rep}
+use Rattle.fact_specs.specs.State.{node_count, parent, has_edge, is_successor, are_apart}
+use Rattle.search_specs.specs.declared.Branch.{Branch}
+use Rattle.search_specs.specs.declared.Branch.TheVariants.{Or, Choose, Pair}
+use Rattle.search_specs.specs.declared.Item.{Item}
+use Rattle.search_specs.specs.declared.Item.TheVariants.{Fact as Says, Mark}
+use Rattle.search_specs.specs.Items.{facts_of}
+use Rattle.search_steps.specs.Steps.{World, IsSaturated, HasClash}
+use Rattle.search_steps.specs.Reached.{start, Follows}
+
+-- whether a role is any role
+abbrev pub any_role : ℕ → Bool
+any_role r = true
+
+-- ---- each node stands before it is spoken of
+
+abbrev pub BranchIsOn : ℕ → Branch → Type 0
+BranchIsOn n (Or x c) = x < n
+BranchIsOn n (Choose y e) = y < n
+BranchIsOn n (Pair y z) = (y < n) × (z < n)
+
+-- the item speaks of the first n nodes alone; an edge leads to the next
+abbrev pub IsOn : ℕ → Item → Type 0
+IsOn n (Says (Has x c)) = x < n
+IsOn n (Says (Edge r x y)) = (x < n) × (y ≡ n)
+IsOn n (Says (Apart y z)) = (y < n) × (z < n)
+IsOn n (Says (Same y z)) = (y < n) × (z < n)
+IsOn n (Mark c) = BranchIsOn n c.branch
+
+abbrev pub NodesStandBefore : Type 0
+NodesStandBefore = (w : World) (sub not_sup k : ℕ) (trail : List Item) → Follows w (start sub not_sup) k trail
+    → (place : ℕ) (item : Item) → slice_get trail place ≡ Some item → IsOn (node_count (facts_of (take place trail))) item
+
+-- ---- no node is apart from itself
+
+abbrev pub NoneIsApartFromItself : Type 0
+NoneIsApartFromItself = (w : World) (sub not_sup k : ℕ) (trail : List Item) → Follows w (start sub not_sup) k trail
+    → (x : ℕ) → are_apart (facts_of trail) x x ≡ false
+
+-- ---- joined nodes are successors of one node
+
+-- y and z are two successors of one node that are not apart
+pub record AreSiblings (fs : List (Fact ℕ)) (y z : ℕ) : Type 0 where
+  pub above : ℕ
+  pub first : is_successor fs any_role above y ≡ true
+  pub second : is_successor fs any_role above z ≡ true
+  pub are_two : ¬ (y ≡ z)
+  pub not_apart : are_apart fs y z ≡ false
+
+abbrev pub JoinsAreOfSiblings : Type 0
+JoinsAreOfSiblings = (w : World) (sub not_sup k : ℕ) (trail : List Item) → Follows w (start sub not_sup) k trail
+    → (place y z : ℕ) → slice_get trail place ≡ Some (Says (Same y z)) → AreSiblings (facts_of (take place trail)) y z
+
+-- the representative of each successor of x has a parent, and x is that parent's representative
+pub record IsBelow (fs : List (Fact ℕ)) (x y : ℕ) : Type 0 where
+  pub up : ℕ
+  pub is_parent : parent fs (rep fs y) ≡ Some up
+  pub is_joined : rep fs up ≡ rep fs x
+
+abbrev pub SuccessorsAreBelow : Type 0
+SuccessorsAreBelow = (w : World) (sub not_sup k : ℕ) (trail : List Item) → Follows w (start sub not_sup) k trail
+    → (roles : ℕ → Bool) (x y : ℕ) → has_edge (facts_of trail) roles x y ≡ true → IsBelow (facts_of trail) x y
+
+-- a parent is less than its node, so that blocked nodes are found by recursion on the number
+abbrev pub ParentsAreLess : Type 0
+ParentsAreLess = (w : World) (sub not_sup k : ℕ) (trail : List Item) → Follows w (start sub not_sup) k trail
+    → (x p : ℕ) → parent (facts_of trail) x ≡ Some p → p < x
+
+-- ---- a saturated trail has no clash of any kind
+
+abbrev pub SaturatedHasNoClash : Type 0
+SaturatedHasNoClash = (w : World) (sub not_sup k : ℕ) (trail : List Item) → Follows w (start sub not_sup) k trail → IsSaturated w trail → ¬ HasClash w trail
