@@ -1,3 +1,4 @@
 pub mod Steps
 pub mod Reached
 pub mod Laws
+pub mod Examples
