@@ -1,7 +1,7 @@
 //! What refutations and searches know of their nodes: facts, and what a list of them says.
 #![tactic(auto)]
 
-ghost use Rattle.fact_specs.specs.Laws.{RepsAreLeast, LabelIsHeld, ApartIsSymmetric};
+ghost use Rattle.fact_specs.specs.Laws.{RepsAreLeast, LabelIsHeld, ApartIsSymmetric, ReadingKeepsState, NumbersReadAsTrees};
 
 /// A fact on nodes, over concepts of a kind: numbers of a table in a search.
 #[derive(Clone, Copy, Debug, PartialEq, Eq)]
@@ -29,4 +29,14 @@ pub fn labels_list_what_nodes_have()
 /// Where one node is apart from another, that one is apart from it.
 pub fn apart_is_symmetric<C>()
     ensures { ApartIsSymmetric C }
+{}
+
+/// Facts keep what they say of nodes, edges and joins when their concepts are read as others.
+pub fn reading_keeps_what_facts_say<C, D>()
+    ensures { ReadingKeepsState C D }
+{}
+
+/// A node has the tree of a number exactly where it has the number.
+pub fn numbers_read_as_trees()
+    ensures { NumbersReadAsTrees }
 {}

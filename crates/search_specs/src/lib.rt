@@ -1,7 +1,7 @@
 //! The trail of a search, and what it says: facts and marks, blocked nodes, and clashes.
 #![tactic(auto)]
 
-ghost use Rattle.search_specs.specs.Laws.{PlainClashIsClash};
+ghost use Rattle.search_specs.specs.Laws.{PlainClashIsClash, BlocksSayWhatTheyMean};
 
 use fact_specs::Fact;
 
@@ -50,4 +50,9 @@ pub enum Block {
 /// A plain clash is a clash.
 pub fn a_plain_clash_is_a_clash()
     ensures { PlainClashIsClash }
+{}
+
+/// The block of a node says of the node, of its parent and of the nodes below what the names of the blocks mean.
+pub fn blocks_say_what_they_mean()
+    ensures { BlocksSayWhatTheyMean }
 {}
