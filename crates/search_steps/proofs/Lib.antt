@@ -3,3 +3,5 @@ pub mod Good
 pub mod Legal
 pub mod Reached
 pub mod Saturated
+pub mod Under
+pub mod Listed

@@ -1,16 +1,22 @@
 -- Laws of the trails that a search reaches. They hold over any world, from any start.
-use Rattle.std.specs.Prelude.{◌≡◌, ℕ, ◌<◌, Bool, true, false, List, take, Some, slice_get}
+use Rattle.std.specs.Prelude.{◌≡◌, ℕ, ◌<◌, Bool, true, false, List, length, take, Some, slice_get}
+use Rattle.shq_base.specs.Concept.{Concept}
+use Rattle.shape_specs.specs.Shape.{Shape}
+use Rattle.shape_specs.specs.Rows.{Theory, Row}
 use Rattle.fact_specs.specs.declared.Fact.{Fact}
 use Rattle.fact_specs.specs.declared.Fact.TheVariants.{Has, Edge, Apart, Same}
 use Rattle.fact_specs.specs.Joins.{rep}
 use Rattle.fact_specs.specs.State.{node_count, parent, has_edge, is_successor, are_apart}
+use Rattle.fact_specs.specs.Reading.{are_listed}
+use Rattle.search_specs.specs.declared.Block.TheVariants.{Clear, Under}
+use Rattle.search_specs.specs.Blocked.{block_of}
 use Rattle.search_specs.specs.declared.Branch.{Branch}
 use Rattle.search_specs.specs.declared.Branch.TheVariants.{Or, Choose, Pair}
 use Rattle.search_specs.specs.declared.Item.{Item}
 use Rattle.search_specs.specs.declared.Item.TheVariants.{Fact as Says, Mark}
 use Rattle.search_specs.specs.Items.{facts_of}
 use Rattle.search_steps.specs.Steps.{World, IsSaturated, HasClash}
-use Rattle.search_steps.specs.Reached.{start, Follows}
+use Rattle.search_steps.specs.Reached.{start, Follows, IsReached}
 
 -- whether a role is any role
 abbrev pub any_role : ℕ → Bool
@@ -69,6 +75,19 @@ SuccessorsAreBelow = (w : World) (sub not_sup k : ℕ) (trail : List Item) → F
 abbrev pub ParentsAreLess : Type 0
 ParentsAreLess = (w : World) (sub not_sup k : ℕ) (trail : List Item) → Follows w (start sub not_sup) k trail
     → (x p : ℕ) → parent (facts_of trail) x ≡ Some p → p < x
+
+-- ---- below a clear node no successor is under a block
+
+abbrev pub ClearHasNoneUnder : Type 0
+ClearHasNoneUnder = (w : World) (sub not_sup k : ℕ) (trail : List Item) → Follows w (start sub not_sup) k trail
+    → (roles : ℕ → Bool) (x y : ℕ) → rep (facts_of trail) x ≡ x → block_of (facts_of trail) x ≡ Clear → is_successor (facts_of trail) roles x y ≡ true
+    → ¬ (block_of (facts_of trail) y ≡ Under)
+
+-- ---- the concepts of a trail are in the table
+
+abbrev pub NumbersAreListed : Type 0
+NumbersAreListed = (theory : Theory) (sub sup : Concept) (table : List Shape) (rows : List Row) (k : ℕ) (trail : List Item)
+    → IsReached theory sub sup table rows k trail → are_listed (length table) (facts_of trail) ≡ true
 
 -- ---- a saturated trail has no clash of any kind
 

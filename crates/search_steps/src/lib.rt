@@ -1,7 +1,7 @@
 //! The steps of a search: which are legal, when none is left, which trails they reach, and laws of these trails.
 #![tactic(auto)]
 
-ghost use Rattle.search_steps.specs.Laws.{NodesStandBefore, NoneIsApartFromItself, JoinsAreOfSiblings, SuccessorsAreBelow, ParentsAreLess, SaturatedHasNoClash};
+ghost use Rattle.search_steps.specs.Laws.{NodesStandBefore, NoneIsApartFromItself, JoinsAreOfSiblings, SuccessorsAreBelow, ParentsAreLess, ClearHasNoneUnder, NumbersAreListed, SaturatedHasNoClash};
 
 /// Each item of a reached trail speaks of nodes that stand before it.
 pub fn nodes_stand_before_they_are_spoken_of()
@@ -26,6 +26,16 @@ pub fn successors_are_below()
 /// In a reached trail the parent of a node is less than the node.
 pub fn parents_are_less()
     ensures { ParentsAreLess }
+{}
+
+/// In a reached trail a successor of a clear node is clear or blocked by a node, and never under a block.
+pub fn no_successor_of_a_clear_node_is_under_a_block()
+    ensures { ClearHasNoneUnder }
+{}
+
+/// Each concept number of a reached trail is in the table.
+pub fn numbers_are_listed()
+    ensures { NumbersAreListed }
 {}
 
 /// A reached trail that is saturated has no clash of any kind.
