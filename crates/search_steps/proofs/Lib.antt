@@ -5,3 +5,4 @@ pub mod Reached
 pub mod Saturated
 pub mod Under
 pub mod Listed
+pub mod Longer

@@ -68,12 +68,12 @@ module _ (w : World) (good : IsTable w.table) where
 
 -- ---- items
 
-abbrev BranchListed : ℕ → Branch → Type 0
+abbrev pub BranchListed : ℕ → Branch → Type 0
 BranchListed n (Or x c) = Unit {0}
 BranchListed n (Choose y e) = e < n
 BranchListed n (Pair y z) = Unit {0}
 
-abbrev ItemListed : ℕ → Item → Type 0
+abbrev pub ItemListed : ℕ → Item → Type 0
 ItemListed n (Says f) = is_listed n f ≡ true
 ItemListed n (Mark c) = BranchListed n c.branch
 
@@ -117,7 +117,7 @@ module _ (theory : Theory) (table : List Shape) (rows : List Row) (good : IsTabl
   makes_listed fs new (by_some x c s e at h sh none) = fresh_listed (length table) x s e (node_count fs) 1 (some_listed world good c s e sh)
   makes_listed fs new (by_least x c n s e at h sh none) = fresh_listed (length table) x s e (node_count fs) n (least_listed world good c n s e sh)
 
-  branch_listed : (fs : List (Fact ℕ)) (b : Branch) → MayBranch world fs b → BranchListed (length table) b
+  pub branch_listed : (fs : List (Fact ℕ)) (b : Branch) → MayBranch world fs b → BranchListed (length table) b
   branch_listed fs b (on_union x c parts lt h sh none) = tt
   branch_listed fs b (on_filler x c n s e y lt h sh next none out) = most_listed world good c n s e sh
   branch_listed fs b (on_pair x c n s e y z lt h sh more cy cz ne apart) = tt
@@ -147,11 +147,11 @@ module _ (theory : Theory) (table : List Shape) (rows : List Row) (good : IsTabl
       (let g = All-get_or (ItemListed (length table)) old place (Mark c) (slice_get_within old place (Mark c) read) h in rw (get_or_from_slice_get old place (Mark c) (Mark c) read) at g) in
       branched_listed (take place old) (next_choice world c) (c.alternative + 1) f (All-take (ItemListed (length table)) place old h) about alt
 
-  follows_listed : (first : List Item) (k : ℕ) (trail : List Item) → All (ItemListed (length table)) first → Follows world first k trail → All (ItemListed (length table)) trail
+  pub follows_listed : (first : List Item) (k : ℕ) (trail : List Item) → All (ItemListed (length table)) first → Follows world first k trail → All (ItemListed (length table)) trail
   follows_listed first zero trail h r = subst (All (ItemListed (length table))) (sym r) h
   follows_listed first (suc k) trail h r = legal_listed r.0 trail (follows_listed first k r.0 h r.1) r.2
 
-start_listed : (n a b : ℕ) → a < n → b < n → All (ItemListed n) (start a b)
+pub start_listed : (n a b : ℕ) → a < n → b < n → All (ItemListed n) (start a b)
 start_listed n a b lt mt =
     All-cons (ItemListed n) (Says (Has 0 a)) (Says (Has 0 b) ∷ []) (lt-ltb a n lt) (All-cons (ItemListed n) (Says (Has 0 b)) [] (lt-ltb b n mt) (All-nil (ItemListed n)))
 

@@ -1,7 +1,7 @@
 -- Laws of the trails that a search reaches. They hold over any world, from any start.
-use Rattle.std.specs.Prelude.{◌≡◌, ℕ, ◌<◌, Bool, true, false, List, length, take, Some, slice_get}
+use Rattle.std.specs.Prelude.{◌≡◌, ℕ, ◌<◌, Bool, true, false, List, ◌++◌, length, take, Some, slice_get}
 use Rattle.shq_base.specs.Concept.{Concept}
-use Rattle.shape_specs.specs.Shape.{Shape}
+use Rattle.shape_specs.specs.Shape.{Shape, IsTable}
 use Rattle.shape_specs.specs.Rows.{Theory, Row}
 use Rattle.fact_specs.specs.declared.Fact.{Fact}
 use Rattle.fact_specs.specs.declared.Fact.TheVariants.{Has, Edge, Apart, Same}
@@ -88,6 +88,12 @@ ClearHasNoneUnder = (w : World) (sub not_sup k : ℕ) (trail : List Item) → Fo
 abbrev pub NumbersAreListed : Type 0
 NumbersAreListed = (theory : Theory) (sub sup : Concept) (table : List Shape) (rows : List Row) (k : ℕ) (trail : List Item)
     → IsReached theory sub sup table rows k trail → are_listed (length table) (facts_of trail) ≡ true
+
+-- ---- a table may grow while a search goes on
+
+abbrev pub TablesMayGrow : Type 0
+TablesMayGrow = (theory : Theory) (sub sup : Concept) (table more : List Shape) (rows : List Row) (k : ℕ) (trail : List Item)
+    → IsReached theory sub sup table rows k trail → IsTable (table ++ more) → IsReached theory sub sup (table ++ more) rows k trail
 
 -- ---- a saturated trail has no clash of any kind
 

@@ -1,7 +1,7 @@
 //! The steps of a search: which are legal, when none is left, which trails they reach, and laws of these trails.
 #![tactic(auto)]
 
-ghost use Rattle.search_steps.specs.Laws.{NodesStandBefore, NoneIsApartFromItself, JoinsAreOfSiblings, SuccessorsAreBelow, ParentsAreLess, ClearHasNoneUnder, NumbersAreListed, SaturatedHasNoClash};
+ghost use Rattle.search_steps.specs.Laws.{NodesStandBefore, NoneIsApartFromItself, JoinsAreOfSiblings, SuccessorsAreBelow, ParentsAreLess, ClearHasNoneUnder, NumbersAreListed, TablesMayGrow, SaturatedHasNoClash};
 
 /// Each item of a reached trail speaks of nodes that stand before it.
 pub fn nodes_stand_before_they_are_spoken_of()
@@ -36,6 +36,11 @@ pub fn no_successor_of_a_clear_node_is_under_a_block()
 /// Each concept number of a reached trail is in the table.
 pub fn numbers_are_listed()
     ensures { NumbersAreListed }
+{}
+
+/// A trail that is reached over a table is reached over each longer one.
+pub fn tables_may_grow()
+    ensures { TablesMayGrow }
 {}
 
 /// A reached trail that is saturated has no clash of any kind.
