@@ -3,5 +3,6 @@ pub mod Normal
 pub mod Shape
 pub mod Tree
 pub mod Rows
+pub mod Roles
 pub mod Laws
 pub mod Examples
