@@ -1,0 +1,4 @@
+pub mod Lines
+pub mod Branches
+pub mod Makes
+pub mod Adds
