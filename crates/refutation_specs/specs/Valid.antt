@@ -1,5 +1,5 @@
 -- When a refutation is valid: its lines are in preorder a tree in which every branch ends in a line without children.
-use Rattle.std.specs.Prelude.{◌≡◌, ℕ, ◌+◌, nat_lt, ◌&&◌, List, [], ◌∷◌, ◌++◌, length, take, drop, Option, Some, None, if◌then◌else◌}
+use Rattle.std.specs.Prelude.{◌≡◌, ℕ, ◌+◌, ◌≤◌, nat_lt, ◌&&◌, List, [], ◌∷◌, ◌++◌, length, take, drop, Option, Some, None, if◌then◌else◌}
 use Rattle.std.specs.Option.{option_and_then, option_map}
 use Rattle.shq_base.specs.Concept.{Concept}
 use Rattle.shape_specs.specs.Shape.{Shape}
@@ -48,6 +48,7 @@ module _ (theory : Theory) (sub sup : Concept) (concept : ℕ → Option Concept
   pub record IsBrokenAt (lines : List Line) (place : ℕ) : Type 0 where
     pub count : ℕ
     pub counts : place ≡ count + 1
+    pub within : count ≤ length lines
     pub left : List Known
     pub before : open_after_all (nothing_known ∷ []) (take count lines) ≡ Some left
     pub breaks : Breaks left (drop count lines)
