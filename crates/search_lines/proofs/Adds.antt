@@ -49,7 +49,7 @@ named_is : (a : ℕ) (s : Shape) → is_named a s ≡ true → s ≡ name_shape 
 named_is a (name_shape b) h = ap name_shape (sym (eqb-true a b h))
 named_is a _ h = cc
 
-in_range_below : (z a n : ℕ) → list_any (λ d. eqb d z) (range_with_len a n) ≡ true → z < a + n
+pub in_range_below : (z a n : ℕ) → list_any (λ d. eqb d z) (range_with_len a n) ≡ true → z < a + n
 in_range_below z a zero h = cc
 in_range_below z a (suc n) h = elim (or_cases (eqb a z) (list_any (λ d. eqb d z) (range_with_len (a + 1) n)) h) [
   | inl here ↦ omega (arith, eqb-true a z here)

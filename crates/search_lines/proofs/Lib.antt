@@ -2,3 +2,4 @@ pub mod Lines
 pub mod Branches
 pub mod Makes
 pub mod Adds
+pub mod Clashes

@@ -77,7 +77,7 @@ module _ (w : World) (sub sup : Concept) (fs : List (Fact ℕ)) (over : IsOver w
       ap (λ (b : Bool). b && list_all (are_apart k.facts y) zs) ((keeps_state ℕ Concept (tree_of w.table) fs).aparts y z)
       ∙ ap (λ (b : Bool). are_apart fs y z && b) (each_apart_reads y zs)
 
-  all_apart_reads : (ys : List ℕ) → all_apart k.facts ys ≡ all_apart fs ys
+  pub all_apart_reads : (ys : List ℕ) → all_apart k.facts ys ≡ all_apart fs ys
   all_apart_reads [] = refl
   all_apart_reads (y ∷ ys) =
       ap (λ (b : Bool). b && all_apart k.facts ys) (each_apart_reads y ys) ∙ ap (λ (b : Bool). list_all (are_apart fs y) ys && b) (all_apart_reads ys)

@@ -1,5 +1,5 @@
 -- The steps of a search as rule lines, over what the facts of its trail make known.
-use Rattle.std.specs.Prelude.{◌≡◌, ℕ, ◌+◌, ◌^◌, ◌≤◌, nat_lt, true, List, [], ◌∷◌, ◌++◌, length, Option, Some, None, if◌then◌else◌, slice_get, Contains}
+use Rattle.std.specs.Prelude.{◌≡◌, ℕ, ◌+◌, ◌^◌, ◌≤◌, ◌↔◌, nat_lt, true, List, [], ◌∷◌, ◌++◌, length, Option, Some, None, if◌then◌else◌, slice_get, Contains}
 use Rattle.std.specs.List.{range_with_len}
 use Rattle.shq_base.specs.Concept.{Concept}
 use Rattle.shape_specs.specs.Shape.{Shape, IsTable}
@@ -33,9 +33,11 @@ pub record IsOver (w : World) (fs : List (Fact ℕ)) : Type 0 where
   pub is_table : IsTable w.table
   pub listed : are_listed (length w.table) fs ≡ true
 
+-- a clash is a line whose premises hold and which has no children
 abbrev pub ClashesAreLines : Type 0
-ClashesAreLines = (w : World) (sub sup : Concept) (fs : List (Fact ℕ)) → IsOver w fs → IsClash (below_of w) w.table fs
-    → (line : Line) × (children_in w sub sup fs line ≡ Some [])
+ClashesAreLines =
+    (w : World) (sub sup : Concept) (fs : List (Fact ℕ)) → IsOver w fs
+    → (IsClash (below_of w) w.table fs ↔ ((line : Line) × (children_in w sub sup fs line ≡ Some [])))
 
 -- the part that says a range is the first of its axiom
 abbrev pub RangesAreFirst : Theory → Type 0

@@ -3,7 +3,7 @@
 
 ghost use Rattle.search_lines.specs.Laws.{ClashesAreLines, AddsAreLines, MakesAreLines, BranchesAreLines};
 
-/// Where a state has a clash, some rule line has its premises and no children.
+/// A state has a clash exactly where some rule line without children has its premises.
 pub fn clashes_are_lines()
     ensures { ClashesAreLines }
 {}

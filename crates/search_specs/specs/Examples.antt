@@ -1,12 +1,13 @@
 -- Worked examples. Role 7 is below itself alone. The table's numbers are: 0 top, 1 and 2 names, 3 the complement of name
 -- 1, 4 'at most 2 of role 7 with concept 1'.
-use Rattle.std.specs.Prelude.{◌≡◌, ℕ, Bool, ◌==◌, List, [], ◌∷◌, ◌++◌, refl}
+use Rattle.std.specs.Prelude.{◌≡◌, ℕ, Bool, ◌==◌, List, [], ◌∷◌, ◌++◌, length, take, refl}
 use Rattle.std.proofs.Common.{lit<}
 use Rattle.shape_specs.specs.Shape.{Shape}
 use Rattle.shape_specs.specs.Shape.Shape.{top, name, not_name, at_most}
 use Rattle.fact_specs.specs.declared.Fact.{Fact}
 use Rattle.fact_specs.specs.declared.Fact.TheVariants.{Has, Edge, Apart, Same}
-use Rattle.fact_specs.specs.State.{fresh_facts}
+use Rattle.fact_specs.specs.Joins.{rep}
+use Rattle.fact_specs.specs.State.{node_count, successors, fresh_facts}
 use Rattle.search_specs.specs.declared.Block.TheVariants.{Clear, By, Under}
 use Rattle.search_specs.specs.declared.Branch.TheVariants.{Pair}
 use Rattle.search_specs.specs.declared.Item.{Item}
@@ -24,12 +25,39 @@ same_role r s = r == s
 
 -- ---- a trail with a mark
 
--- three nodes below node 0, a mark, and a fourth that is joined with the first
+-- nodes 1 to 3 are made below node 0 by role 7 with concept 1, then a mark stands, and then node 4 is made in the same way
 abbrev marked : List Item
-marked = says (fresh_facts 0 7 1 1 3) ++ Mark (record { line = 5; branch = Pair 4 1; alternative = 1 }) ∷ Says (Same 4 1) ∷ []
+marked = says (fresh_facts 0 7 1 1 3) ++ Mark (record { line = 5; branch = Pair 4 1; alternative = 1 }) ∷ says (fresh_facts 0 7 1 4 1)
 
-pub marks_are_no_facts : facts_of marked ≡ Edge 7 0 1 ∷ Has 1 1 ∷ Edge 7 0 2 ∷ Has 2 1 ∷ Edge 7 0 3 ∷ Has 3 1 ∷ Apart 1 2 ∷ Apart 1 3 ∷ Apart 2 3 ∷ Same 4 1 ∷ []
+pub nine_items_before_the_mark : length (says (fresh_facts 0 7 1 1 3)) ≡ 9
+nine_items_before_the_mark = refl
+
+pub marks_are_no_facts : facts_of marked
+    ≡ Edge 7 0 1 ∷ Has 1 1 ∷ Edge 7 0 2 ∷ Has 2 1 ∷ Edge 7 0 3 ∷ Has 3 1 ∷ Apart 1 2 ∷ Apart 1 3 ∷ Apart 2 3 ∷ Edge 7 0 4 ∷ Has 4 1 ∷ []
 marks_are_no_facts = refl
+
+pub five_nodes : node_count (facts_of marked) ≡ 5
+five_nodes = refl
+
+pub four_successors : successors (facts_of marked) (λ r. r == 7) 0 ≡ 1 ∷ 2 ∷ 3 ∷ 4 ∷ []
+four_successors = refl
+
+-- node 4 joined with node 1
+abbrev joined : List Item
+joined = marked ++ Says (Same 4 1) ∷ []
+
+pub joined_with_one : rep (facts_of joined) 4 ≡ 1
+joined_with_one = refl
+
+pub three_successors : successors (facts_of joined) (λ r. r == 7) 0 ≡ 1 ∷ 2 ∷ 3 ∷ []
+three_successors = refl
+
+-- back before the mark
+pub one_is_alone : rep (facts_of (take 9 joined)) 1 ≡ 1
+one_is_alone = refl
+
+pub four_nodes : node_count (facts_of (take 9 joined)) ≡ 4
+four_nodes = refl
 
 -- ---- blocked nodes
 
