@@ -6,3 +6,4 @@ pub mod Saturated
 pub mod Under
 pub mod Listed
 pub mod Longer
+pub mod End

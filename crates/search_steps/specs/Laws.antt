@@ -1,7 +1,8 @@
 -- Laws of the trails that a search reaches. They hold over any world, from any start.
 use Rattle.std.specs.Prelude.{◌≡◌, ℕ, ◌<◌, Bool, true, false, List, ◌++◌, length, take, Some, slice_get}
 use Rattle.shq_base.specs.Concept.{Concept}
-use Rattle.shape_specs.specs.Shape.{Shape, IsTable}
+use Rattle.shape_specs.specs.Shape.{Shape, shape_of, IsTable}
+use Rattle.shape_specs.specs.Shape.Shape.{all_of}
 use Rattle.shape_specs.specs.Rows.{Theory, Row}
 use Rattle.fact_specs.specs.declared.Fact.{Fact}
 use Rattle.fact_specs.specs.declared.Fact.TheVariants.{Has, Edge, Apart, Same}
@@ -15,7 +16,7 @@ use Rattle.search_specs.specs.declared.Branch.TheVariants.{Or, Choose, Pair}
 use Rattle.search_specs.specs.declared.Item.{Item}
 use Rattle.search_specs.specs.declared.Item.TheVariants.{Fact as Says, Mark}
 use Rattle.search_specs.specs.Items.{facts_of}
-use Rattle.search_steps.specs.Steps.{World, IsSaturated, HasClash}
+use Rattle.search_steps.specs.Steps.{World, IsCarried, IsLegal, IsSaturated, HasClash, HasPlainClash}
 use Rattle.search_steps.specs.Reached.{start, Follows, IsReached}
 
 -- whether a role is any role
@@ -99,3 +100,14 @@ TablesMayGrow = (theory : Theory) (sub sup : Concept) (table more : List Shape) 
 
 abbrev pub SaturatedHasNoClash : Type 0
 SaturatedHasNoClash = (w : World) (sub not_sup k : ℕ) (trail : List Item) → Follows w (start sub not_sup) k trail → IsSaturated w trail → ¬ HasClash w trail
+
+-- ---- saturated trails are those from which no step is legal
+
+-- each concept that is to be carried has a number in the table
+abbrev pub CarriedAreListed : World → List (Fact ℕ) → Type 0
+CarriedAreListed w fs = (x y c s t e : ℕ) → IsCarried w fs x y c s t e → (d : ℕ) × (shape_of w.table d ≡ all_of t e)
+
+abbrev pub SaturatedIsTheEnd : Type 0
+SaturatedIsTheEnd = (w : World) (sub not_sup k : ℕ) (trail : List Item) → Follows w (start sub not_sup) k trail
+    → (IsSaturated w trail → (new : List Item) → ¬ IsLegal w trail new)
+    × (¬ HasPlainClash w trail → CarriedAreListed w (facts_of trail) → ((new : List Item) → ¬ IsLegal w trail new) → IsSaturated w trail)

@@ -1,7 +1,7 @@
 //! The steps of a search: which are legal, when none is left, which trails they reach, and laws of these trails.
 #![tactic(auto)]
 
-ghost use Rattle.search_steps.specs.Laws.{NodesStandBefore, NoneIsApartFromItself, JoinsAreOfSiblings, SuccessorsAreBelow, ParentsAreLess, ClearHasNoneUnder, NumbersAreListed, TablesMayGrow, SaturatedHasNoClash};
+ghost use Rattle.search_steps.specs.Laws.{NodesStandBefore, NoneIsApartFromItself, JoinsAreOfSiblings, SuccessorsAreBelow, ParentsAreLess, ClearHasNoneUnder, NumbersAreListed, TablesMayGrow, SaturatedHasNoClash, SaturatedIsTheEnd};
 
 /// Each item of a reached trail speaks of nodes that stand before it.
 pub fn nodes_stand_before_they_are_spoken_of()
@@ -46,4 +46,9 @@ pub fn tables_may_grow()
 /// A reached trail that is saturated has no clash of any kind.
 pub fn a_saturated_trail_has_no_clash()
     ensures { SaturatedHasNoClash }
+{}
+
+/// From a reached trail that is saturated no step is legal, and one without a plain clash is saturated where none is.
+pub fn a_saturated_trail_is_an_end()
+    ensures { SaturatedIsTheEnd }
 {}
