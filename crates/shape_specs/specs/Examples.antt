@@ -1,8 +1,10 @@
 -- Worked examples. Names are numbers from 10, roles from 0.
-use Rattle.std.specs.Prelude.{◌≡◌, [], ◌∷◌, None, Some, refl}
+use Rattle.std.specs.Prelude.{◌≡◌, [], ◌∷◌, None, Some, zero, suc, ◌<◌, true, false, refl, ℕ, List}
+use Rattle.std.proofs.Common.{lit<, arith}
 use Rattle.shq_base.specs.Concept.{Concept, top, bottom, name, complement, intersection, union, some_of, all_of, at_least, at_most, exactly, parts_of}
 use Rattle.shape_specs.specs.Normal.{normal_form, negated_form}
-use Rattle.shape_specs.specs.Shape.Shape.{top as top_shape, name as name_shape, not_name, union as union_shape, some_of as some_shape}
+use Rattle.shape_specs.specs.Shape.{Shape, shape_of, has_parts_below, is_normal, IsTable}
+use Rattle.shape_specs.specs.Shape.Shape.{top as top_shape, bottom as bottom_shape, name as name_shape, not_name, intersection as and_shape, union as union_shape, some_of as some_shape, at_least as least_shape, at_most as most_shape}
 use Rattle.shape_specs.specs.Tree.{tree_of}
 use Rattle.shape_specs.specs.Rows.{Part, inclusion_of, row_of}
 use Rattle.shape_specs.specs.Rows.Part.{inclusion}
@@ -79,3 +81,69 @@ no_edge_row = refl
 
 pub no_range_row : row_of part (end_of 0) ≡ None
 no_range_row = refl
+
+-- ---- shapes in normal form, over a table with the numbers 0 top, 1 and 2 names, 3 their intersection, 4 bottom
+abbrev five : List Shape
+five = top_shape ∷ name_shape 10 ∷ name_shape 11 ∷ and_shape (1 ∷ 2 ∷ []) ∷ bottom_shape ∷ []
+
+pub two_names : is_normal five (and_shape (1 ∷ 2 ∷ [])) ≡ true
+two_names = refl
+
+pub intersection_in_a_union : is_normal five (union_shape (1 ∷ 3 ∷ [])) ≡ true
+intersection_in_a_union = refl
+
+pub intersection_in_an_intersection : is_normal five (and_shape (1 ∷ 3 ∷ [])) ≡ false
+intersection_in_an_intersection = refl
+
+pub one_part : is_normal five (and_shape (1 ∷ [])) ≡ false
+one_part = refl
+
+pub top_as_a_part : is_normal five (union_shape (1 ∷ 0 ∷ [])) ≡ false
+top_as_a_part = refl
+
+pub bottom_as_a_part : is_normal five (and_shape (1 ∷ 4 ∷ [])) ≡ false
+bottom_as_a_part = refl
+
+pub least_of_two : is_normal five (least_shape 2 0 1) ≡ true
+least_of_two = refl
+
+pub least_of_one : is_normal five (least_shape 1 0 1) ≡ false
+least_of_one = refl
+
+pub most_of_none : is_normal five (most_shape 0 0 1) ≡ false
+most_of_none = refl
+
+pub part_above : has_parts_below 2 (and_shape (1 ∷ 2 ∷ [])) ≡ false
+part_above = refl
+
+-- a table
+abbrev three : List Shape
+three = top_shape ∷ name_shape 10 ∷ some_shape 0 1 ∷ []
+
+three_below : (c : ℕ) → c < 3 → has_parts_below c (shape_of three c) ≡ true
+three_below zero lt = refl
+three_below (suc zero) lt = refl
+three_below (suc (suc zero)) lt = refl
+three_below (suc (suc (suc c))) lt = absurd (omega arith)
+
+three_normal : (c : ℕ) → c < 3 → is_normal three (shape_of three c) ≡ true
+three_normal zero lt = refl
+three_normal (suc zero) lt = refl
+three_normal (suc (suc zero)) lt = refl
+three_normal (suc (suc (suc c))) lt = absurd (omega arith)
+
+three_distinct : (c d : ℕ) → c < 3 → d < 3 → shape_of three c ≡ shape_of three d → c ≡ d
+three_distinct zero zero lt mt e = refl
+three_distinct zero (suc zero) lt mt e = cc
+three_distinct zero (suc (suc zero)) lt mt e = cc
+three_distinct (suc zero) zero lt mt e = cc
+three_distinct (suc zero) (suc zero) lt mt e = refl
+three_distinct (suc zero) (suc (suc zero)) lt mt e = cc
+three_distinct (suc (suc zero)) zero lt mt e = cc
+three_distinct (suc (suc zero)) (suc zero) lt mt e = cc
+three_distinct (suc (suc zero)) (suc (suc zero)) lt mt e = refl
+three_distinct (suc (suc (suc c))) d lt mt e = absurd (omega arith)
+three_distinct c (suc (suc (suc d))) lt mt e = absurd (omega arith)
+
+pub three_is_table : IsTable three
+three_is_table = record { has_top = lit< tt; begins_with_top = refl; parts_below = three_below; are_normal = three_normal; are_distinct = three_distinct }
