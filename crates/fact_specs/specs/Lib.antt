@@ -1,0 +1,5 @@
+pub mod Joins
+pub mod State
+pub mod Reading
+pub mod Laws
+pub mod Examples

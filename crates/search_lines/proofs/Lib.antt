@@ -1,0 +1,5 @@
+pub mod Lines
+pub mod Branches
+pub mod Makes
+pub mod Adds
+pub mod Clashes

@@ -1,0 +1,5 @@
+pub mod Items
+pub mod Blocked
+pub mod Clash
+pub mod Laws
+pub mod Examples

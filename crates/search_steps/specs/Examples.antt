@@ -1,0 +1,149 @@
+-- Worked examples. The table's numbers are: 0 top, 1 a class, 2 its complement, 3 another class, 4 the union of 2 and 3,
+-- 5 the intersection of 1 and 3, 6 'some of role 7 in 1'. There are no rows.
+use Rattle.std.specs.Prelude.{◌≡◌, ℕ, zero, suc, true, false, ◌==◌, List, [], ◌∷◌, ◌++◌, slice_get, Some, refl}
+use Rattle.std.proofs.Common.{lit<, ap, sym, subst, ◌∙◌, arith}
+use Rattle.std.proofs.lemmas.List.Elements.{All-nil, All-cons}
+use Rattle.shape_specs.specs.Shape.{Shape, shape_of}
+use Rattle.shape_specs.specs.Shape.Shape.{top, bottom, name, not_name, intersection, union, some_of, at_most}
+use Rattle.fact_specs.specs.declared.Fact.{Fact}
+use Rattle.fact_specs.specs.declared.Fact.TheVariants.{Has, Edge}
+use Rattle.fact_specs.specs.State.{node_count, has, fresh_facts}
+use Rattle.search_specs.specs.declared.Branch.TheVariants.{Or}
+use Rattle.search_specs.specs.declared.Choice.{Choice}
+use Rattle.search_specs.specs.declared.Item.{Item}
+use Rattle.search_specs.specs.declared.Item.TheVariants.{Fact as Says, Mark}
+use Rattle.search_specs.specs.Items.{facts_of, says}
+use Rattle.search_specs.specs.Clash.IsClash.{of_names}
+use Rattle.search_specs.specs.Clash.IsPlainClash.{plain_bottom, plain_names, plain_most}
+use Rattle.search_steps.specs.Steps.{World, Makes, IsLegal, HasClash, HasPlainClash}
+use Rattle.search_steps.specs.Steps.Adds.{by_and}
+use Rattle.search_steps.specs.Steps.Makes.{by_some, by_least}
+use Rattle.search_steps.specs.Steps.MayBranch.{on_union}
+use Rattle.search_steps.specs.Steps.IsAlternative.{of_union}
+use Rattle.search_steps.specs.Steps.IsLegal.{add, generate, choose, back}
+use Rattle.search_steps.specs.Reached.{start, Follows}
+
+abbrev table : List Shape
+table = top ∷ name 10 ∷ not_name 10 ∷ name 11 ∷ union (2 ∷ 3 ∷ []) ∷ intersection (1 ∷ 3 ∷ []) ∷ some_of 7 1 ∷ []
+
+abbrev world : World
+world = record { theory = record { parts = []; below = λ r s. r == s; is_transitive = λ r. false }; table = table; rows = [] }
+
+-- ---- Choose and Back
+
+abbrev choice : ℕ → Choice
+choice k = record { line = 1; branch = Or 0 4; alternative = k }
+
+-- node 0 has the union and the class
+abbrev undecided : List Item
+undecided = start 4 1
+
+abbrev first_taken : List Item
+first_taken = undecided ++ Mark (choice 1) ∷ Says (Has 0 2) ∷ []
+
+abbrev second_taken : List Item
+second_taken = undecided ++ Mark (choice 2) ∷ Says (Has 0 3) ∷ []
+
+-- the first part clashes with the class, and the search goes back and takes the second
+pub clashes : HasClash world first_taken
+clashes = of_names 0 1 2 10 (lit< tt) refl refl refl refl
+
+pub goes_back : IsLegal world first_taken second_taken
+goes_back = back 2 (choice 1) (Has 0 3) clashes refl (of_union 0 4 1 3 (2 ∷ 3 ∷ []) refl refl)
+
+-- no number is bottom or an 'at most', and only 2 is the complement of a class
+abbrev IsPlain : Shape → Type 0
+IsPlain bottom = ⊥
+IsPlain (at_most n s e) = ⊥
+IsPlain _ = Unit {0}
+
+plain_table : (c : ℕ) → IsPlain (shape_of table c)
+plain_table zero = tt
+plain_table (suc zero) = tt
+plain_table (suc (suc zero)) = tt
+plain_table (suc (suc (suc zero))) = tt
+plain_table (suc (suc (suc (suc zero)))) = tt
+plain_table (suc (suc (suc (suc (suc zero))))) = tt
+plain_table (suc (suc (suc (suc (suc (suc zero)))))) = tt
+plain_table (suc (suc (suc (suc (suc (suc (suc c))))))) = tt
+
+abbrev IsNegative : Shape → ℕ → Type 0
+IsNegative (not_name a) c = c ≡ 2
+IsNegative _ c = Unit {0}
+
+only_two : (c : ℕ) → IsNegative (shape_of table c) c
+only_two zero = tt
+only_two (suc zero) = tt
+only_two (suc (suc zero)) = refl
+only_two (suc (suc (suc zero))) = tt
+only_two (suc (suc (suc (suc zero)))) = tt
+only_two (suc (suc (suc (suc (suc zero))))) = tt
+only_two (suc (suc (suc (suc (suc (suc zero)))))) = tt
+only_two (suc (suc (suc (suc (suc (suc (suc c))))))) = tt
+
+-- so node 0 alone has no plain clash where it does not have 2
+no_plain : (is : List Item) → node_count (facts_of is) ≡ 1 → has (facts_of is) 0 2 ≡ false → ¬ HasPlainClash world is
+no_plain is one out (plain_bottom x c lt h sh) = subst IsPlain sh (plain_table c)
+no_plain is one out (plain_names x c d a lt h sh g th) =
+    let e : d ≡ 2 = subst (λ (s : Shape). IsNegative s d) th (only_two d) in
+    let z : x ≡ 0 = omega (arith, lt, one) in
+    let k : has (facts_of is) 0 2 ≡ true = ap (λ (y : ℕ). has (facts_of is) y 2) (sym z) ∙ ap (λ (f : ℕ). has (facts_of is) x f) (sym e) ∙ g in
+    cc
+no_plain is one out (plain_most x c n s e lt h sh more every) = subst IsPlain sh (plain_table c)
+
+-- the choice of the first part is legal, and the second trail is reached by two steps
+pub chooses : IsLegal world undecided first_taken
+chooses =
+    choose (choice 1) (Has 0 2) (no_plain undecided refl refl)
+    (on_union 0 4 (2 ∷ 3 ∷ []) (lit< tt) refl refl (All-cons (λ d. has (facts_of undecided) 0 d ≡ false) 2 (3 ∷ []) refl (All-cons (λ d. has (facts_of undecided) 0 d ≡ false) 3 [] refl (All-nil (λ d. has (facts_of undecided) 0 d ≡ false)))))
+    refl (of_union 0 4 0 2 (2 ∷ 3 ∷ []) refl refl)
+
+pub two_steps : Follows world (start 4 1) 2 second_taken
+two_steps = (first_taken, (undecided, refl, chooses), goes_back)
+
+-- ---- Add
+
+-- node 0 has the intersection of 1 and 3, and 1
+abbrev half : List Item
+half = start 5 1
+
+pub adds_the_rest : IsLegal world half (half ++ Says (Has 0 3) ∷ [])
+adds_the_rest = add 0 3 (no_plain half refl refl) (by_and 0 5 3 (1 ∷ 3 ∷ []) (lit< tt) refl refl (1, lit< tt, refl)) refl
+
+-- 1 is a part of the intersection too, but it adds nothing, and no other step comes to the same
+one_said : (new : List (Fact ℕ)) → says new ≡ Says (Has 0 1) ∷ [] → new ≡ Has 0 1 ∷ []
+one_said [] e = cc
+one_said (f ∷ []) e = cc
+one_said (f ∷ g ∷ fs) e = cc
+
+fresh_is_no_concept : (x s e first n : ℕ) → ¬ (◌≡◌ {A = List (Fact ℕ)} (fresh_facts x s e first n) (Has 0 1 ∷ []))
+fresh_is_no_concept x s e first zero h = cc
+fresh_is_no_concept x s e first (suc n) h = cc
+
+makes_no_concept : (fs new : List (Fact ℕ)) → Makes world fs new → ¬ (new ≡ Has 0 1 ∷ [])
+makes_no_concept fs new (by_some x c s e at h sh none) eq = fresh_is_no_concept x s e (node_count fs) 1 eq
+makes_no_concept fs new (by_least x c n s e at h sh none) eq = fresh_is_no_concept x s e (node_count fs) n eq
+
+no_mark : (place : ℕ) (c : Choice) → ¬ (slice_get half place ≡ Some (Mark c))
+no_mark zero c h = cc
+no_mark (suc zero) c h = cc
+no_mark (suc (suc place)) c h = cc
+
+not_again : (new : List Item) → IsLegal world half new → ¬ (new ≡ half ++ Says (Has 0 1) ∷ [])
+not_again new (add x d nc adds out) e =
+    let p : x ≡ 0 = cc in
+    let q : d ≡ 1 = cc in
+    let k : has (facts_of half) 0 1 ≡ false = ap (λ (y : ℕ). has (facts_of half) y 1) (sym p) ∙ ap (λ (f : ℕ). has (facts_of half) x f) (sym q) ∙ out in
+    cc
+not_again new (generate fs nc makes) e = let k : says fs ≡ Says (Has 0 1) ∷ [] = cc in makes_no_concept (facts_of half) fs makes (one_said fs k)
+not_again new (choose c f nc may one alt) e = cc
+not_again new (back place c f clash read alt) e = absurd (no_mark place c read)
+
+pub adds_nothing : ¬ IsLegal world half (half ++ Says (Has 0 1) ∷ [])
+adds_nothing h = not_again (half ++ Says (Has 0 1) ∷ []) h refl
+
+-- ---- Generate
+
+-- node 0 has 'some of role 7 in 1', and no successor yet
+pub generates : IsLegal world (start 6 6) (start 6 6 ++ Says (Edge 7 0 1) ∷ Says (Has 1 1) ∷ [])
+generates = generate (Edge 7 0 1 ∷ Has 1 1 ∷ []) (no_plain (start 6 6) refl refl) (by_some 0 6 7 1 (record { is_node = lit< tt; is_rep = refl; is_clear = refl }) refl refl refl)
