@@ -1,8 +1,8 @@
 -- A group is its head and its items.
-use Rattle.std.proofs.Common.{◌≡◌, ◌≢◌, ℕ, List, [], ◌∷◌, ◌++◌, length, Option, Some, None, Result, Ok, Err, refl, ap, sym, ◌∙◌, subst}
+use Rattle.std.proofs.Common.{◌≡◌, ℕ, List, length, Option, Some, Result, Ok, Err, ap, sym, ◌∙◌, subst}
 use Rattle.ofn_tree.specs.Items.{Item, items_of}
 use Rattle.ofn_reader.specs.Counts.{Counts}
-use Rattle.ofn_reader.specs.Walk.{Test, walked, Gives, Judged}
+use Rattle.ofn_reader.specs.Walk.{Test, walked, Judged}
 use Rattle.ofn_reader.specs.Classes.{item_count, joined, group_tests, head_tests, inner_tests}
 use Rattle.ofn_reader.specs.declared.keywords.ClassKeyword.{ClassKeyword}
 use Rattle.ofn_reader.specs.declared.refusal.Refusal.{Refusal}

@@ -1,6 +1,6 @@
 -- A name that is listed keeps its number.
-use Rattle.std.proofs.Common.{◌≡◌, ◌≢◌, Bool, not, ℕ, zero, suc, ◌+◌, ◌<◌, ◌≤◌, List, [], ◌∷◌, ◌++◌, map, cond, length, true, false, Option, Some, None, refl, ap, sym, ◌∙◌, position, arith, subst}
-use Rattle.std.specs.Prelude.{nat_lt, Result, Ok, Err, IfOk, option_map}
+use Rattle.std.proofs.Common.{◌≡◌, Bool, not, ℕ, suc, ◌+◌, ◌<◌, List, [], ◌∷◌, ◌++◌, cond, length, true, false, Option, Some, None, refl, ap, sym, ◌∙◌, position, arith, subst}
+use Rattle.std.specs.Prelude.{nat_lt, Result, Ok, Err}
 use Rattle.std.specs.Str.{bytes_eq}
 use Rattle.std.proofs.lemmas.Slice.Eq.{bytes_eq-Decides}
 use Rattle.std.proofs.lemmas.Bool.Decides.{nat_tests}

@@ -1,17 +1,16 @@
 -- Items as a list, and one more of them read.
-use Rattle.std.proofs.Common.{◌≡◌, ℕ, zero, suc, ◌+◌, ◌<◌, ◌≤◌, List, [], ◌∷◌, ◌++◌, Bool, true, false, ◌&&◌, length, get_or, drop, drop-cons, Result, Ok, Err, refl, ap, sym, ◌∙◌, subst, add-one, append_assoc, append-nil, arith}
+use Rattle.std.proofs.Common.{◌≡◌, ℕ, zero, suc, ◌+◌, ◌<◌, ◌≤◌, List, [], ◌∷◌, ◌++◌, Bool, true, false, ◌&&◌, length, get_or, drop, drop-cons, Result, Ok, Err, refl, ap, sym, ◌∙◌, subst, add-one, arith}
 use Rattle.std.proofs.lemmas.List.{drop_all}
 use Rattle.shq_base.specs.Concept.{Concept, Parts, no_parts, part, parts_of}
-use Rattle.shq_terms.specs.Uses.{uses_listed, parts_use_listed, axiom_uses_listed}
-use Rattle.shq_terms.specs.declared.axioms.Query.{Query}
+use Rattle.shq_terms.specs.Uses.{uses_listed, parts_use_listed}
 use Rattle.ofn_tree.specs.Items.{Item, items_of, nesting, nesting_all}
 use Rattle.ofn_reader.specs.Counts.{Counts}
 use Rattle.ofn_reader.specs.Walk.{Test, walked}
-use Rattle.ofn_reader.specs.Classes.{item_count, class_tests, each_class, concept_of, concepts_of, Keeps, IsListed, AreListed, Means, MeanAll, joined}
+use Rattle.ofn_reader.specs.Classes.{item_count, class_tests, each_class, concepts_of, Keeps, IsListed, AreListed, Means, MeanAll, joined}
 use Rattle.ofn_reader.specs.Parts.{put_parts}
 use Rattle.ofn_reader.specs.declared.refusal.Refusal.{Refusal}
 use Rattle.ofn_reader.proofs.Walks.{goes_on, stops}
-use Rattle.ofn_reader.proofs.Kept.{keeps_all, keeps_keeps, walked_keeps}
+use Rattle.ofn_reader.proofs.Kept.{keeps_keeps, walked_keeps}
 
 pub item_count_is : (is : List Item) → item_count (items_of is) ≡ length is
 item_count_is [] = refl

@@ -1,8 +1,7 @@
 -- Axioms one after another, and what each stands for.
-use Rattle.std.proofs.Common.{◌≡◌, ℕ, ◌+◌, ◌<◌, ◌≤◌, List, [], ◌∷◌, ◌++◌, length, get_or, drop, drop-cons, Result, Ok, Err, Some, refl, ap, sym, ◌∙◌, subst, add-one, append_assoc, append-nil, arith, length-append}
+use Rattle.std.proofs.Common.{◌≡◌, ℕ, ◌+◌, ◌<◌, List, [], ◌∷◌, ◌++◌, length, get_or, drop, drop-cons, Result, Ok, Err, Some, refl, ap, sym, ◌∙◌, subst, add-one, append_assoc}
 use Rattle.std.specs.Prelude.{OnOk, IfOk}
 use Rattle.std.specs.Result.{result_map_both}
-use Rattle.std.proofs.lemmas.List.{drop_all}
 use Rattle.shq_base.specs.Concept.{Concept}
 use Rattle.shq_terms.specs.declared.axioms.Axiom.TheVariants.{SubClassOf}
 use Rattle.shq_terms.specs.declared.axioms.Numbered.{Numbered}
@@ -13,7 +12,7 @@ use Rattle.ofn_reader.specs.Walk.{Test, walked, Judged}
 use Rattle.ofn_reader.specs.Classes.{class_tests, Keeps, Means}
 use Rattle.ofn_reader.specs.Axioms.{sub_class_items, item_line, pair_in, numbered_at, axiom_tests, axioms_tests, axiom_in, axioms_in, MeansPair}
 use Rattle.ofn_reader.specs.declared.refusal.Refusal.{Refusal}
-use Rattle.ofn_reader.proofs.Kept.{keeps_all, keeps_keeps, walked_keeps}
+use Rattle.ofn_reader.proofs.Kept.{keeps_keeps, walked_keeps}
 
 pub on_ok : {T E P Q : Type 0} (r : Result T E) → (P → Q) → OnOk r P → OnOk r Q
 on_ok (Ok x) f p = f p

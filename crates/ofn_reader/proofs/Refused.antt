@@ -1,11 +1,11 @@
 -- Why a text is refused.
-use Rattle.std.proofs.Common.{◌≡◌, ◌≢◌, ℕ, List, [], ◌∷◌, Bool, true, false, cond, Result, Ok, Err, refl, ap, sym, ◌∙◌, arith}
+use Rattle.std.proofs.Common.{◌≡◌, ◌≢◌, ℕ, List, [], ◌∷◌, Bool, true, false, cond, Result, Ok, Err, refl, sym, ◌∙◌}
 use Rattle.std.specs.Prelude.{IfErr}
 use Rattle.ofn_tree.specs.Items.{Item}
 use Rattle.ofn_tree.specs.declared.fault.TextFault.{TextFault}
 use Rattle.ofn_reader.specs.Counts.{Counts}
 use Rattle.ofn_reader.specs.Walk.{Test, shape, numbered, nodes, class, holds, refusal, after, walked}
-use Rattle.ofn_reader.specs.Documents.{HasItems, Fails, IsRefusedBy}
+use Rattle.ofn_reader.specs.Documents.{HasItems, IsRefusedBy}
 use Rattle.ofn_reader.specs.declared.refusal.Refusal.{Refusal}
 use Rattle.ofn_reader.specs.declared.refusal.Refusal.TheVariants.{Text, BadShape, Limit, NoMemory}
 use Rattle.ofn_reader.proofs.Walks.{walked-cons}

@@ -1,5 +1,5 @@
 -- Lists of tests one behind another.
-use Rattle.std.proofs.Common.{◌≡◌, ℕ, List, [], ◌∷◌, ◌++◌, Bool, true, false, cond, Option, Some, None, Result, Ok, Err, refl, ap, sym, ◌∙◌, subst}
+use Rattle.std.proofs.Common.{◌≡◌, List, [], ◌∷◌, ◌++◌, Bool, true, false, cond, Some, Result, Ok, Err, refl, ap, sym, ◌∙◌, subst}
 use Rattle.ofn_reader.specs.Counts.{Counts}
 use Rattle.ofn_reader.specs.Walk.{Test, holds, refusal, after, after_all, outcomes, first_failing, verdict, walked, Gives, Judged}
 use Rattle.ofn_reader.specs.declared.refusal.Refusal.{Refusal}

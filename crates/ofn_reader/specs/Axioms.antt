@@ -1,15 +1,13 @@
 -- The tests of axioms, and what the axioms say.
-use Rattle.std.specs.Prelude.{◌≡◌, ℕ, Bool, true, false, List, [], ◌∷◌, ◌++◌, length, Option, Some, None, codes, if◌then◌else◌, nat_eq}
+use Rattle.std.specs.Prelude.{◌≡◌, ℕ, false, List, [], ◌∷◌, ◌++◌, Option, Some, None, codes, if◌then◌else◌, nat_eq}
 use Rattle.std.specs.Str.{bytes_eq}
 use Rattle.ofn_tree.specs.Items.{Item, name_item, iri_item, literal_item, sign_item, group_item, Items, no_items, item}
-use Rattle.shq_terms.specs.declared.axioms.Axiom.{Axiom}
 use Rattle.shq_terms.specs.declared.axioms.Axiom.TheVariants.{SubClassOf}
 use Rattle.shq_terms.specs.declared.axioms.Numbered.{Numbered}
 use Rattle.shq_terms.specs.declared.axioms.Query.{Query}
-use Rattle.shq_terms.specs.Uses.{axiom_uses_listed, all_use_listed}
 use Rattle.ofn_reader.specs.Counts.{Counts}
 use Rattle.ofn_reader.specs.Walk.{Test, shape, numbered}
-use Rattle.ofn_reader.specs.Classes.{item_count, class_tests, each_class, joined, concept_of, Keeps, IsListed}
+use Rattle.ofn_reader.specs.Classes.{item_count, each_class, joined, concept_of, Keeps, IsListed}
 
 -- the items of a group with a name
 abbrev pub group_items : List ℕ → Item → Option Items

@@ -1,7 +1,7 @@
 -- The tests of class expressions in the order of the walk, and what the expressions stand for.
-use Rattle.std.specs.Prelude.{◌≡◌, ℕ, zero, suc, ◌+◌, Bool, true, false, List, [], ◌∷◌, ◌++◌, length, Option, Some, None, nat_le, nat_eq, position, codes, if◌then◌else◌}
+use Rattle.std.specs.Prelude.{◌≡◌, ℕ, ◌+◌, Bool, true, false, List, [], ◌∷◌, ◌++◌, length, Option, Some, None, nat_le, nat_eq, position, codes, if◌then◌else◌}
 use Rattle.std.specs.Str.{bytes_eq}
-use Rattle.shq_base.specs.Concept.{Concept, top, bottom, name, complement, intersection, Parts, no_parts, part, parts_of}
+use Rattle.shq_base.specs.Concept.{Concept, top, bottom, name, complement, intersection, Parts, no_parts, part}
 use Rattle.shq_terms.specs.Uses.{uses_listed, parts_use_listed}
 use Rattle.ofn_tree.specs.Items.{Item, name_item, iri_item, literal_item, sign_item, group_item, Items, no_items, item}
 use Rattle.ofn_reader.specs.Counts.{Counts}

@@ -1,5 +1,5 @@
 -- What a text says as a document, or as a query on one.
-use Rattle.std.specs.Prelude.{◌≡◌, ◌≢◌, ℕ, ◌+◌, ◌^◌, ◌≤◌, ◌<◌, false, List, [], ◌∷◌, length, Option, Some, None, Ok, Err, codes}
+use Rattle.std.specs.Prelude.{◌≡◌, ℕ, ◌^◌, ◌≤◌, ◌<◌, false, List, [], ◌∷◌, length, Option, Some, None, Ok, Err, codes}
 use Rattle.ofn_tree.specs.Items.{Item, Items, IsTree}
 use Rattle.ofn_tree.specs.Document.{Reading, reading}
 use Rattle.ofn_tree.specs.Faults.{bracket_fault}

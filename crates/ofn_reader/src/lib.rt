@@ -12,3 +12,6 @@ mod refusal;
 pub use documents::{Context, read_ontology};
 pub use queries::read_query;
 pub use refusal::{Refusal, Which};
+
+#[cfg(test)]
+mod tests;

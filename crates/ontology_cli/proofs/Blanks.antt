@@ -1,5 +1,5 @@
 -- Blank lines in front.
-use Rattle.std.proofs.Common.{◌≡◌, ℕ, zero, suc, ◌+◌, List, [], ◌∷◌, Bool, not, cond, map, drop, refl, ap}
+use Rattle.std.proofs.Common.{◌≡◌, ℕ, zero, suc, ◌+◌, List, [], ◌∷◌, cond, map, drop, refl, ap}
 use Rattle.std.specs.List.{prefix_len}
 use Rattle.certificate_lines.specs.Lines.{is_blank}
 use denote.Ref.{Bor}

@@ -39,3 +39,6 @@ fn main(rt: HostRuntime) -> ExitCode {
     let status = run(alloc, &words, &mut source, &mut sink, &mut log);
     ExitCode::from(status as u8)
 }
+
+#[cfg(test)]
+mod tests;

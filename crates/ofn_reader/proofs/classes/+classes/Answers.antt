@@ -1,9 +1,9 @@
-use Rattle.std.proofs.Common.{◌≡◌, ◌∙◌, arith, ap, sym, subst, rules}
+use Rattle.std.proofs.Common.{arith, ap}
 use Rattle.std.proofs.lemmas.Result.{err_from_is_err_and}
 use Rattle.ofn_tree.specs.Items.{nesting, items_of}
 use Rattle.ofn_reader.specs.Keywords.{class_keyword}
 use Rattle.ofn_reader.specs.Classes.{class_tests, each_class}
-use Rattle.ofn_reader.proofs.Growing.{grows_grows, grows_same}
+use Rattle.ofn_reader.proofs.Growing.{grows_grows}
 use Rattle.ofn_reader.proofs.Groups.{group_stops, group_goes}
 use Rattle.ofn_reader.proofs.Lists.{nesting_at, tests_step, tests_stop, value_step, value_done, classes_tests, classes_cons}
 use Rattle.ofn_reader.proofs.classes.+classes.Goals as goal
