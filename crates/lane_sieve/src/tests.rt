@@ -1,4 +1,4 @@
-ghost use Rattle.std.specs.Prelude.{◌≡◌, ◌<◌, length, IfOk};
+ghost use Rattle.std.specs.Prelude.{◌≡◌, ◌<◌, length};
 
 use crate::{Lanes, candidates, meets_words, subset_words, union_words};
 use std::alloc::Global;
@@ -67,19 +67,22 @@ fn words_of_each_length(rt: HostRuntime) -> Result<(), Fail> {
     Ok(())
 }
 
-/// A table of `len` prints in which the one at `place` has the bits 3 and 200, and the others one of the two.
-fn table_with(alloc: Global, len: u32, place: u32) -> Result<Lanes, Fail>
-    ensures { IfOk result (λ t. length t ≡ len) }
-{
+/// A print with the bits 3 and 200 where the two places are equal, and else one with one of the two.
+fn print_at(at: u32, place: u32) -> [u64; 4] {
+    if at == place {
+        [8, 0, 0, 256]
+    } else if at % 2 == 0 {
+        [8, 0, 0, 255]
+    } else {
+        [u64::MAX ^ 8, 7, 9, 256]
+    }
+}
+
+/// A table of `len` prints, of which that at `place` alone has both bits.
+fn table_with(alloc: Global, len: u32, place: u32) -> Result<Lanes, Fail> {
     let mut table = Lanes::new(alloc);
     for at in 0..len {
-        if at == place {
-            table.push([8, 0, 0, 256])?;
-        } else if at % 2 == 0 {
-            table.push([8, 0, 0, 255])?;
-        } else {
-            table.push([u64::MAX ^ 8, 7, 9, 256])?;
-        }
+        table.push(print_at(at, place))?;
     }
     Ok(table)
 }
@@ -89,6 +92,7 @@ fn places_in_tables_of_each_length(rt: HostRuntime) -> Result<(), Fail> {
     for len in 0..71 {
         for place in 0..len {
             let table = table_with(rt.alloc(), len, place)?;
+            assert_eq!(rt; table.len(), len);
             let mut out = [77; 71];
             assert_eq!(rt;
                 candidates([8, 0, 0, 256], &table, &mut out),
@@ -113,6 +117,7 @@ fn places_in_tables_of_each_length(rt: HostRuntime) -> Result<(), Fail> {
 #[test]
 fn table_calls(rt: HostRuntime) -> Result<(), Fail> {
     let mut table = table_with(rt.alloc(), 5, 2)?;
+    assert_eq!(rt; table.len(), 5);
     let mut out = [77; 5];
     table.set(4, [12, 1, 1, 256]);
     assert_eq!(rt; candidates([8, 0, 0, 256], &table, &mut out), 2);
