@@ -2,6 +2,8 @@
 #![tactic(auto)]
 
 mod numbered;
+#[cfg(test)]
+mod tests;
 
 pub use numbered::AxiomSet;
 pub use word_sets::Numbers;

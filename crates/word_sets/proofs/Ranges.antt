@@ -187,3 +187,36 @@ passing-at p a (suc n) i d lt =
           let skipped : i < length (passing p (a + 1) n) → Passes p a (a + suc n) (get_or (passing p (a + 1) n) i d) = λ h. let m = more i d h in (m.0, omega (arith, m.1), omega (arith, m.2)) in
           subst (λ (xs : List ℕ). i < length xs → Passes p a (a + suc n) (get_or xs i d)) (sym (passing_skip p a n f)) skipped lt
     ]
+
+-- each number that passes has a place
+pub passing-place : (p : ℕ → Bool) (a n k : ℕ) → a ≤ k → k < a + n → p k ≡ true → (j : ℕ) × (j < length (passing p a n)) × (get_or (passing p a n) j 0 ≡ k)
+passing-place p a zero k low high h = absurd (omega arith)
+passing-place p a (suc n) k low high h =
+    elim (cases_Bool (p a)) [
+      | inl t ↦ subst (λ (xs : List ℕ). (j : ℕ) × (j < length xs) × (get_or xs j 0 ≡ k)) (sym (passing_take p a n t)) (elim (cases_order a k) [
+        | inl e ↦ (0, omega arith, e)
+        | inr r ↦ elim r [
+          | inl lt ↦ let more = passing-place p (a + 1) n k (omega arith) (omega arith) h in (suc more.0, omega (arith, more.1), more.2)
+          | inr gt ↦ absurd (omega arith)
+        ]
+      ])
+      | inr f ↦
+          let other : (a ≡ k) → ⊥ = λ e. false≢true (sym f ∙ ap p e ∙ h) in
+          subst (λ (xs : List ℕ). (j : ℕ) × (j < length xs) × (get_or xs j 0 ≡ k)) (sym (passing_skip p a n f)) (passing-place p (a + 1) n k (omega arith) (omega arith) h)
+    ]
+
+ascends_more : (p : ℕ → Bool) (a n : ℕ) → ((k l : ℕ) → k < l → l < length (passing p (a + 1) n) → get_or (passing p (a + 1) n) k 0 < get_or (passing p (a + 1) n) l 0) → (i j : ℕ) → i < j → j < length (a ∷ passing p (a + 1) n)
+    → get_or (a ∷ passing p (a + 1) n) i 0 < get_or (a ∷ passing p (a + 1) n) j 0
+ascends_more p a n ih i zero lt within = absurd (omega arith)
+ascends_more p a n ih zero (suc j) lt within = omega (arith, (passing-at p (a + 1) n j 0 (omega arith)).1)
+ascends_more p a n ih (suc i) (suc j) lt within = ih i j (omega arith) (omega arith)
+
+-- the numbers ascend
+pub passing-ascends : (p : ℕ → Bool) (a n i j : ℕ) → i < j → j < length (passing p a n) → get_or (passing p a n) i 0 < get_or (passing p a n) j 0
+unfolding passing
+passing-ascends p a zero i j lt within = absurd (omega arith)
+passing-ascends p a (suc n) i j lt within =
+    elim (cases_Bool (p a)) [
+      | inl t ↦ subst (λ (xs : List ℕ). j < length xs → get_or xs i 0 < get_or xs j 0) (sym (passing_take p a n t)) (ascends_more p a n (λ k l less h. passing-ascends p (a + 1) n k l less h) i j lt) within
+      | inr f ↦ subst (λ (xs : List ℕ). j < length xs → get_or xs i 0 < get_or xs j 0) (sym (passing_skip p a n f)) (λ h. passing-ascends p (a + 1) n i j lt h) within
+    ]

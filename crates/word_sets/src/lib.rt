@@ -7,6 +7,8 @@ mod members;
 mod numbers;
 mod order;
 mod pairs;
+#[cfg(test)]
+mod tests;
 
 pub use law::words_are_sets;
 pub use made::{copy_words, repeat_word};
