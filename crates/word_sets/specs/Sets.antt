@@ -1,0 +1,34 @@
+-- What set of numbers a list of words of 64 bits stands for.
+use Rattle.std.specs.Prelude.{◌≡◌, ℕ, zero, suc, ◌+◌, ◌*◌, ◌/◌, ◌%◌, ◌==◌, Bool, true, List, [], ◌∷◌, length, slice_index, if◌then◌else◌}
+use Rattle.std.specs.Int.{bit_at}
+use Rattle.std.specs.Ordering.{nat_cmp}
+use Rattle.std.specs.FinSet as set
+
+-- a finite set of numbers
+abbrev pub NumberSet : Type 0
+NumberSet = set.FinSet nat_cmp
+
+-- bit k of the words: bit k % 64 of word k / 64, where behind the last word no bit is set
+unfoldable pub has_bit : List ℕ → ℕ → Bool
+has_bit words k = bit_at (slice_index words (k / 64)) (k % 64) == 1
+
+-- those of the numbers first, first + 1, .. (count of them) that pass a test, in ascending order
+unfoldable pub passing : (ℕ → Bool) → ℕ → ℕ → List ℕ
+passing test first zero = []
+passing test first (suc count) = if test first then first ∷ passing test (first + 1) count else passing test (first + 1) count
+
+-- the set of the numbers whose bits are set
+unfoldable pub number_set : List ℕ → NumberSet
+number_set words = set.from_list (passing (has_bit words) 0 (64 * length words))
+
+-- the members below a bound, in ascending order
+abbrev pub members_below : NumberSet → ℕ → List ℕ
+members_below s bound = passing (set.contains s) 0 bound
+
+-- each member of s is a member of t
+abbrev pub IsPart : NumberSet → NumberSet → Type 0
+IsPart s t = (k : ℕ) → set.contains s k ≡ true → set.contains t k ≡ true
+
+-- some number is a member of both
+abbrev pub DoMeet : NumberSet → NumberSet → Type 0
+DoMeet s t = (k : ℕ) × (set.contains s k ≡ true) × (set.contains t k ≡ true)
