@@ -5,3 +5,4 @@ pub mod Lists
 pub mod Groups
 pub mod Numbering
 pub mod Refused
+pub mod Unique

@@ -6,3 +6,4 @@ pub mod Parts
 pub mod Axioms
 pub mod Documents
 pub mod Refusals
+pub mod Laws

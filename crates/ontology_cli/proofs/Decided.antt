@@ -1,0 +1,119 @@
+-- The words and the input decide the answer.
+use Rattle.std.proofs.Common.{◌≡◌, ℕ, ◌<◌, ◌≤◌, ◌^◌, List, length, drop, true, false, Bool, Option, Some, None, refl, ap, sym, ◌∙◌, subst, arith}
+use Rattle.std.specs.Prelude.{MatchOption, codes, not}
+use Rattle.shq_terms.specs.Listed.{Listed}
+use Rattle.shq_meaning.specs.Truth.{refutes_at}
+use Rattle.shq_meaning.specs.Least.{IsFirstBelow}
+use Rattle.shq_meaning.proofs.Below.{all_below-false}
+use Rattle.finite_model.specs.Kept.{meaning}
+use Rattle.ofn_reader.proofs.Unique.{documents, documents_not_refused, queries, queries_not_refused}
+use Rattle.ontology_cli.specs.Words.{Job, check, job_of}
+use Rattle.ontology_cli.specs.Certificates.{certified}
+use Rattle.ontology_cli.specs.Checking.{with_names, IsClaim, IsInput, IsNoClaim, no_query, no_model, IsNotBuilt, no_document, no_claim, IsVerdict}
+use Rattle.ontology_cli.specs.Answers.{line, verdict_answer, AnswersJob, Answers}
+use Rattle.ontology_cli.specs.Laws.{IsDecided}
+use Rattle.ontology_cli.specs.declared.checking.Claim.{Claim}
+use Rattle.ontology_cli.specs.declared.checking.Input.{Input}
+use Rattle.ontology_cli.specs.declared.checking.Verdict.{Verdict}
+use Rattle.ontology_cli.specs.declared.checking.Verdict.TheVariants.{Accepted, Axiom, Query}
+use Rattle.ontology_cli.specs.declared.status.Status.{Status}
+use Rattle.ontology_cli.specs.declared.status.Status.TheVariants.{Done, Rejected, BadWords, Limit, ReadFault, WriteFault, NoMemory, NotBuilt}
+
+some_same : {A : Type 0} (a b : A) → Some a ≡ Some b → a ≡ b
+some_same a b same = cc same
+
+-- what is claimed is unique
+same_claim : (o : Listed) (n : ℕ) (query rest : List ℕ) (a b : Listed) (x y : Claim) → IsClaim o n query rest a x → IsClaim o n query rest b y → (a ≡ b) × (x ≡ y)
+same_claim o n query rest a b x y p q =
+    let asked = queries _ query p.behind q.behind x.asked y.asked p.is_query q.is_query in
+    let names : a ≡ b = p.listed ∙ ap (with_names o) asked.0 ∙ sym q.listed in
+    let model : x.model ≡ y.model = some_same x.model y.model (sym p.model ∙ ap (λ l. certified l rest) names ∙ q.model) in
+    (names, λ i. record { asked = asked.1 i; model = model i })
+
+no_claim_claimed : (o : Listed) (n : ℕ) (query rest : List ℕ) (a : Listed) (x : Claim) → IsClaim o n query rest a x → IsNoClaim o n query rest → ⊥
+no_claim_claimed o n query rest a x p (no_query e why) = queries_not_refused _ query p.behind x.asked e p.is_query why
+no_claim_claimed o n query rest a x p (no_model behind q is_query none) =
+    let same = queries _ query p.behind behind x.asked q p.is_query is_query in
+    let clash : Some x.model ≡ None = sym p.model ∙ ap (λ l. certified l rest) (p.listed ∙ ap (with_names o) same.0) ∙ none in
+    absurd (cc clash)
+
+-- the input of a verification is unique
+same_input : (query bytes : List ℕ) (x y : Input) → IsInput query bytes x → IsInput query bytes y → x ≡ y
+same_input query bytes x y p q =
+    let d = documents bytes p.document q.document p.nodes q.nodes p.end q.end p.is_document q.is_document in
+    let moved : IsClaim q.document q.nodes query (drop q.end bytes) x.ontology (record { asked = x.asked; model = x.model }) =
+    subst (λ e. IsClaim q.document q.nodes query (drop e bytes) x.ontology (record { asked = x.asked; model = x.model })) d.2
+    (subst (λ n. IsClaim q.document n query (drop p.end bytes) x.ontology (record { asked = x.asked; model = x.model })) d.1
+    (subst (λ o. IsClaim o p.nodes query (drop p.end bytes) x.ontology (record { asked = x.asked; model = x.model })) d.0 p.is_claim)
+    ) in
+    let c = same_claim q.document q.nodes query (drop q.end bytes) x.ontology y.ontology _ _ moved q.is_claim in
+    λ i. record { ontology = c.0 i; asked = (c.1 i).asked; model = (c.1 i).model }
+
+-- what is an input is built
+input_is_built : (query bytes : List ℕ) (x : Input) → IsInput query bytes x → IsNotBuilt query bytes → ⊥
+input_is_built query bytes x p (no_document e why) = documents_not_refused bytes p.document p.nodes p.end e p.is_document why
+input_is_built query bytes x p (no_claim o n d is_document why) =
+    let same = documents bytes p.document o p.nodes n p.end d p.is_document is_document in
+    no_claim_claimed p.document p.nodes query (drop p.end bytes) x.ontology (record { asked = x.asked; model = x.model }) p.is_claim
+    (subst (λ e. IsNoClaim p.document p.nodes query (drop e bytes)) (sym same.2)
+    (subst (λ m. IsNoClaim p.document m query (drop d bytes)) (sym same.1) (subst (λ l. IsNoClaim l n query (drop d bytes)) (sym same.0) why))
+    )
+
+-- a least element that passes, and none that passes, exclude each other
+none_and_least : (x : Input) (y : ℕ) → IsFirstBelow x.model.size (refutes_at (meaning x.model) x.asked) (Some y) → IsFirstBelow x.model.size (refutes_at (meaning x.model) x.asked) None → ⊥
+none_and_least x y some none =
+    let p : ℕ → Bool = refutes_at (meaning x.model) x.asked in
+    let fails : not (p y) ≡ false = ap not some.passes in
+    let clash : true ≡ false = sym none ∙ all_below-false x.model.size (λ z. not (p z)) y some.below fails in
+    absurd (cc clash)
+
+-- one verdict on an input excludes the others
+same_verdict : (x : Input) (v w : Verdict) → IsVerdict x v → IsVerdict x w → ◌≡◌ {A = Status × List ℕ} (verdict_answer v) (verdict_answer w)
+same_verdict x Accepted Accepted p q = refl
+same_verdict x Accepted (Axiom k) p q = let clash : None ≡ Some k = sym p.0 ∙ q in absurd (cc clash)
+same_verdict x Accepted Query p q = absurd (none_and_least x p.1.0 p.1.1 q.1)
+same_verdict x (Axiom j) Accepted p q = let clash : None ≡ Some j = sym q.0 ∙ p in absurd (cc clash)
+same_verdict x (Axiom j) (Axiom k) p q = let same : j ≡ k = some_same j k (sym p ∙ q) in ap (λ n. verdict_answer (Axiom n)) same
+same_verdict x (Axiom j) Query p q = let clash : None ≡ Some j = sym q.0 ∙ p in absurd (cc clash)
+same_verdict x Query Accepted p q = absurd (none_and_least x q.1.0 q.1.1 p.1)
+same_verdict x Query (Axiom k) p q = let clash : None ≡ Some k = sym p.0 ∙ q in absurd (cc clash)
+same_verdict x Query Query p q = refl
+
+-- the three answers of a verification, each with what holds then
+data Outcome (query bytes : List ℕ) (a : Status × List ℕ) : Type 0 where
+  too_long : 2 ^ 24 < length bytes → ◌≡◌ {A = Status × List ℕ} a (Limit, line (codes "limit text")) → Outcome query bytes a
+  unread : length bytes ≤ 2 ^ 24 → IsNotBuilt query bytes → ◌≡◌ {A = Status × List ℕ} a (NotBuilt, line (codes "not built")) → Outcome query bytes a
+  judged : length bytes ≤ 2 ^ 24 → (x : Input) (v : Verdict) → IsInput query bytes x → IsVerdict x v → ◌≡◌ {A = Status × List ℕ} a (verdict_answer v) → Outcome query bytes a
+
+same_outcome : (query bytes : List ℕ) (a b : Status × List ℕ) → Outcome query bytes a → Outcome query bytes b → ◌≡◌ {A = Status × List ℕ} a b
+same_outcome query bytes a b (too_long long p) (too_long more q) = p ∙ sym q
+same_outcome query bytes a b (too_long long p) (unread short why q) = absurd (omega arith)
+same_outcome query bytes a b (too_long long p) (judged short y w is_input is_verdict q) = absurd (omega arith)
+same_outcome query bytes a b (unread short why p) (too_long long q) = absurd (omega arith)
+same_outcome query bytes a b (unread short why p) (unread less because q) = p ∙ sym q
+same_outcome query bytes a b (unread short why p) (judged less y w is_input is_verdict q) = absurd (input_is_built query bytes y is_input why)
+same_outcome query bytes a b (judged short x v is_input is_verdict p) (too_long long q) = absurd (omega arith)
+same_outcome query bytes a b (judged short x v is_input is_verdict p) (unread less why q) = absurd (input_is_built query bytes x is_input why)
+same_outcome query bytes a b (judged short x v is_input is_verdict p) (judged less y w reads says q) =
+    let same = same_input query bytes x y is_input reads in
+    p ∙ same_verdict y v w (subst (λ z. IsVerdict z v) same is_verdict) says ∙ sym q
+
+-- which of the three an answer is
+outcome : (query bytes out : List ℕ) (s : Status) → IsDecided s → AnswersJob (check query) bytes out s → Outcome query bytes (s, out)
+outcome query bytes out Done known (short, (x, v, reads, says, is)) = judged short x v reads says is
+outcome query bytes out Rejected known (short, (x, v, reads, says, is)) = judged short x v reads says is
+outcome query bytes out BadWords known (short, (x, v, reads, says, is)) = judged short x v reads says is
+outcome query bytes out Limit known (long, is) = too_long long (λ i. (Limit, is i))
+outcome query bytes out ReadFault known answer = absurd known
+outcome query bytes out WriteFault known answer = absurd known
+outcome query bytes out NoMemory known answer = absurd known
+outcome query bytes out NotBuilt known (short, (why, is)) = unread short why (λ i. (NotBuilt, is i))
+
+pub answers : (words : List (List ℕ)) (bytes out text : List ℕ) (s t : Status) → IsDecided s → IsDecided t → Answers words bytes out s → Answers words bytes text t → (s ≡ t) × (out ≡ text)
+answers words bytes out text s t known sure = by (job_of words)
+  where
+    by : (j : Option Job) → MatchOption j ((s ≡ BadWords) × (out ≡ line (codes "bad words"))) (λ job. AnswersJob job bytes out s) → MatchOption j ((t ≡ BadWords) × (text ≡ line (codes "bad words"))) (λ job. AnswersJob job bytes text t) → (s ≡ t) × (out ≡ text)
+    by None p q = (p.0 ∙ sym q.0, p.1 ∙ sym q.1)
+    by (Some (check query)) p q =
+        let same = same_outcome query bytes (s, out) (t, text) (outcome query bytes out s known p) (outcome query bytes text t sure q) in
+        ((λ i. (same i).0), (λ i. (same i).1))
