@@ -7,3 +7,6 @@ mod reading;
 pub use interp::Interp;
 pub use reading::{ModelFault, read_text};
 pub use shq_base::NoMemory;
+
+#[cfg(test)]
+mod tests;
