@@ -84,7 +84,12 @@ fn finds_the_least_counter_element(rt: HostRuntime) -> Result<(), Fail> {
         sup: name(1),
     };
     let mut model = Interp::new(rt.alloc(), 3);
-    for (class, x, least) in [(0, 2, Some(2)), (0, 1, Some(1)), (1, 1, Some(2)), (1, 2, None)] {
+    for (class, x, least) in [
+        (0, 2, Some(2)),
+        (0, 1, Some(1)),
+        (1, 1, Some(2)),
+        (1, 2, None),
+    ] {
         put(&mut model, class, x)?;
         assert_eq!(rt; model.refutes(&query), least);
     }
@@ -110,7 +115,13 @@ fn read(alloc: Global, text: &[u8]) -> Result<Result<Interp, ModelFault>, Fail> 
 fn reads_a_model(rt: HostRuntime) -> Result<(), Fail> {
     let model = read(rt.alloc(), b"model 3\nclass <B> 0 2\nclass <A> 1\nend\n \n")??;
     assert_eq!(rt; model.size(), 3);
-    for (class, x, member) in [(0, 0, false), (0, 1, true), (1, 0, true), (1, 1, false), (1, 2, true)] {
+    for (class, x, member) in [
+        (0, 0, false),
+        (0, 1, true),
+        (1, 0, true),
+        (1, 1, false),
+        (1, 2, true),
+    ] {
         assert_eq!(rt; x < model.size() && model.holds(&name(class), x), member);
     }
     Ok(())
