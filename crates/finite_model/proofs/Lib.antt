@@ -1,2 +1,5 @@
 pub mod Failing
 pub mod Maps
+pub mod Pairs
+pub mod Ranges
+pub mod Texts

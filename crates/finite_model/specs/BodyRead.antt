@@ -1,10 +1,14 @@
 -- What was read of a model's text, as the definitions see it.
-use Rattle.finite_model.specs.ModelText.{Body, ClassLine}
+use Rattle.finite_model.specs.ModelText.{Body, ClassLine, RoleLine}
 use Rattle.finite_model.specs.declared.reading.BodyRead.{BodyRead}
 use Rattle.finite_model.specs.declared.reading.ClassRead.{ClassRead}
+use Rattle.finite_model.specs.declared.reading.RoleRead.{RoleRead}
 
 abbrev pub body_of : BodyRead → Body
-body_of b = record { classes = b.classes.keys; model = b.model }
+body_of b = record { classes = b.classes.keys; roles = b.roles.keys; model = b.model }
 
-abbrev pub line_of : ClassRead → ClassLine
-line_of c = record { class = c.class; elements = c.elements.items }
+abbrev pub class_of : ClassRead → ClassLine
+class_of c = record { class = c.class; elements = c.elements.items }
+
+abbrev pub role_of : RoleRead → RoleLine
+role_of r = record { role = r.role; pairs = r.pairs.items }

@@ -1,12 +1,13 @@
 -- The text of a model in a certificate, from its line `model N` on, and what it stands for.
-use Rattle.std.specs.Prelude.{◌≡◌, ℕ, ◌+◌, Bool, true, false, ◌&&◌, nat_eq, nat_lt, nat_le, List, [], ◌∷◌, drop, codes, position, Option, Some, None, option_map, option_and_then, if◌then◌else◌}
+use Rattle.std.specs.Prelude.{◌≡◌, ℕ, ◌+◌, Bool, true, false, ◌&&◌, ◌||◌, nat_eq, nat_lt, nat_le, List, [], ◌∷◌, take, drop, codes, position, Option, Some, None, option_map, option_and_then, if◌then◌else◌}
 use Rattle.std.specs.List.{list_all, list_any}
 use Rattle.std.specs.Ordering.{nat_cmp}
 use Rattle.std.specs.BTreeSet.{insert_key}
 use Rattle.std.specs.Str.{bytes_eq}
 use Rattle.certificate_lines.specs.Lines.{words, is_blank, number_in, iri_in}
 use Rattle.shq_terms.specs.Listed.{Listed}
-use Rattle.finite_model.specs.Kept.{Kept, member_cmp}
+use Rattle.finite_model.specs.Kept.{Kept, member_cmp, link_cmp}
+use Rattle.finite_model.specs.declared.reading.Pair.{Pair}
 use Rattle.finite_model.specs.declared.reading.ModelFault.{ModelFault}
 use Rattle.finite_model.specs.declared.reading.ModelFault.TheVariants.{Malformed, NoMemory}
 
@@ -19,42 +20,93 @@ abbrev pub elements_from : ℕ → ℕ → List (List ℕ) → Option (List ℕ)
 elements_from low size [] = Some []
 elements_from low size (w ∷ ws) = elim (element_in low size w) [ None ↦ None | Some x ↦ option_map (λ xs. x ∷ xs) (elements_from (x + 1) size ws) ]
 
+-- the elements of `X,Y`, where both are below the size
+abbrev pub pair_at : ℕ → List ℕ → ℕ → Option Pair
+pair_at size word comma = option_and_then (λ x. option_map (λ y. record { from = x; to = y }) (element_in 0 size (drop (comma + 1) word))) (element_in 0 size (take comma word))
+
+abbrev pub pair_in : ℕ → List ℕ → Option Pair
+pair_in size word = option_and_then (pair_at size word) (position (nat_eq 44) word)
+
+-- a pair comes before another by its first element, and then by its second
+abbrev pub is_at_least : Pair → Pair → Bool
+is_at_least low p = nat_lt low.from p.from || (nat_eq low.from p.from && nat_le low.to p.to)
+
+abbrev pub pair_from : Pair → ℕ → List ℕ → Option Pair
+pair_from low size word = option_and_then (λ p. if is_at_least low p then Some p else None) (pair_in size word)
+
+-- the pairs of words, the first at least low and each other behind the one before it
+abbrev pub pairs_from : Pair → ℕ → List (List ℕ) → Option (List Pair)
+pairs_from low size [] = Some []
+pairs_from low size (w ∷ ws) = elim (pair_from low size w) [ None ↦ None | Some p ↦ option_map (λ ps. p ∷ ps) (pairs_from (record { from = p.from; to = p.to + 1 }) size ws) ]
+
+-- the number of the name of `KIND NAME X ..`, where there is an X
+abbrev pub named_in : List ℕ → List (List ℕ) → List (List ℕ) → Option ℕ
+named_in kind names (k ∷ name ∷ w ∷ ws) =
+    if bytes_eq k kind then option_and_then (λ iri. position (bytes_eq iri) names) (iri_in name) else None
+named_in kind names _ = None
+
 -- a class with its elements
 pub record ClassLine : Type 0 where
   pub class : ℕ
   pub elements : List ℕ
 
--- the class of `class NAME X ..`, where there is an element
-abbrev pub class_of_words : Listed → List (List ℕ) → Option ℕ
-class_of_words o (k ∷ name ∷ w ∷ ws) =
-    if bytes_eq k (codes "class") then option_and_then (λ iri. position (bytes_eq iri) o.classes) (iri_in name) else None
-class_of_words o _ = None
-
 abbrev pub class_line : Listed → ℕ → List (List ℕ) → Option ClassLine
-class_line o size ws = option_and_then (λ a. option_map (λ xs. record { class = a; elements = xs }) (elements_from 0 size (drop 2 ws))) (class_of_words o ws)
+class_line o size ws = option_and_then (λ a. option_map (λ xs. record { class = a; elements = xs }) (elements_from 0 size (drop 2 ws))) (named_in (codes "class") o.classes ws)
+
+-- a role with its pairs
+pub record RoleLine : Type 0 where
+  pub role : ℕ
+  pub pairs : List Pair
+
+abbrev pub role_line : Listed → ℕ → List (List ℕ) → Option RoleLine
+role_line o size ws = option_and_then (λ r. option_map (λ ps. record { role = r; pairs = ps }) (pairs_from (record { from = 0; to = 0 }) size (drop 2 ws))) (named_in (codes "role") o.roles ws)
 
 abbrev pub with_elements : ℕ → List ℕ → Kept → Kept
 with_elements a [] k = k
 with_elements a (x ∷ xs) k = with_elements a xs (record k { members = insert_key member_cmp k.members (a, x) })
 
--- what was read: the classes that had a line, and the model so far
+abbrev pub with_pairs : ℕ → List Pair → Kept → Kept
+with_pairs r [] k = k
+with_pairs r (p ∷ ps) k = with_pairs r ps (record k { links = insert_key link_cmp k.links (r, p.from, p.to) })
+
+-- what was read: the classes and the roles that had a line, and the model so far
 pub record Body : Type 0 where
   pub classes : List ℕ
+  pub roles : List ℕ
   pub model : Kept
 
--- one class line more, of a class that had none
-abbrev pub with_line : Body → ClassLine → Option Body
-with_line b c =
+-- one line more, of a class that had none
+abbrev pub with_class : Body → ClassLine → Option Body
+with_class b c =
     if list_any (nat_eq c.class) b.classes then None
-    else Some (record { classes = insert_key nat_cmp b.classes c.class; model = with_elements c.class c.elements b.model })
+    else Some (record b { classes = insert_key nat_cmp b.classes c.class; model = with_elements c.class c.elements b.model })
+
+-- one line more, of a role that had none
+abbrev pub with_role : Body → RoleLine → Option Body
+with_role b r =
+    if list_any (nat_eq r.role) b.roles then None
+    else Some (record b { roles = insert_key nat_cmp b.roles r.role; model = with_pairs r.role r.pairs b.model })
+
+abbrev pub is_role_line : List (List ℕ) → Bool
+is_role_line [] = false
+is_role_line (k ∷ ws) = bytes_eq k (codes "role")
+
+abbrev pub class_read : Listed → Body → List (List ℕ) → Option Body
+class_read o b ws = option_and_then (with_class b) (class_line o b.model.size ws)
+
+abbrev pub role_read : Listed → Body → List (List ℕ) → Option Body
+role_read o b ws = option_and_then (with_role b) (role_line o b.model.size ws)
+
+abbrev pub words_read : Listed → Body → List (List ℕ) → Option Body
+words_read o b ws = if is_role_line ws then role_read o b ws else class_read o b ws
 
 abbrev pub line_read : Listed → Body → List ℕ → Option Body
-line_read o b line = option_and_then (with_line b) (class_line o b.model.size (words line))
+line_read o b line = words_read o b (words line)
 
 abbrev pub is_end : List ℕ → Bool
 is_end line = bytes_eq line (codes "end")
 
--- the lines behind the first: class lines, then the line `end`, and then blank lines
+-- the lines behind the first: lines of classes and roles, then the line `end`, and then blank lines
 abbrev pub body_from : Listed → Body → List (List ℕ) → Option Kept
 body_from o b [] = None
 body_from o b (l ∷ ls) = elim (is_end l) [
@@ -67,12 +119,16 @@ abbrev pub size_line : List (List ℕ) → Option ℕ
 size_line (k ∷ n ∷ []) = if bytes_eq k (codes "model") then option_and_then (λ x. if nat_eq x 0 then None else Some x) (number_in n) else None
 size_line _ = None
 
+-- nothing was put
+abbrev pub empty_body : ℕ → Body
+empty_body n = record { classes = []; roles = []; model = record { size = n; members = []; links = [] } }
+
 -- the model that the lines stand for, where they are the text of one
 abbrev pub model_of : Listed → List (List ℕ) → Option Kept
 model_of o [] = None
-model_of o (l ∷ ls) = option_and_then (λ n. body_from o (record { classes = []; model = record { size = n; members = []; links = [] } }) ls) (size_line (words l))
+model_of o (l ∷ ls) = option_and_then (λ n. body_from o (empty_body n) ls) (size_line (words l))
 
--- a fault that is told: that the lines are no text of a model, or that memory was refused
+-- a fault that is told: that there is no text, or that memory was refused
 abbrev pub IsFaultOf : {A : Type 0} → Option A → ModelFault → Type 0
 IsFaultOf there NoMemory = Unit {0}
-IsFaultOf there (Malformed line) = (there ≡ None) × (line ≡ 0)
+IsFaultOf there (Malformed line) = there ≡ None

@@ -1,11 +1,12 @@
 // A finite interpretation.
-ghost use Rattle.std.specs.Prelude.{◌≡◌, ◌<◌, ◌≤◌, [], OnOk, OnErr, ◌&&◌, nat_le};
+ghost use Rattle.std.specs.Prelude.{◌≡◌, ◌<◌, ◌≤◌, [], OnOk, OnErr, IfOk, ◌&&◌, nat_le};
 ghost use Rattle.std.specs.BTreeSet.{insert_key};
 ghost use Rattle.shq_base.specs.Concept.{parts_of};
 ghost use Rattle.shq_meaning.specs.Below.{all_below, count_below};
 ghost use Rattle.shq_meaning.specs.Truth.{holds, hold_all, hold_any, successors, each_successor, implies, same, all_same, none_twice, included, roles_equal, meets, refutes_at};
 ghost use Rattle.shq_meaning.specs.Least.{IsFirstBelow};
 ghost use Rattle.finite_model.specs.Kept.{meaning, member_cmp, link_cmp};
+ghost use Rattle.finite_model.specs.Written.{elements_of, pairs_of};
 
 use shq_terms::{Axiom, Concept, NoMemory, Node, Query};
 use std::alloc::Global;
@@ -74,6 +75,34 @@ impl Interp {
     {
         self.links.insert((role, x, y))?;
         Ok(())
+    }
+
+    /// The elements of the class, ascending.
+    #[tactic(auto, using(crate::proofs::Ranges::members_between))]
+    pub(crate) fn elements(&self, alloc: Global, class: u32) -> Result<Vec<u32>, NoMemory>
+        requires { class < 4294967295 }
+        ensures { IfOk result (λ xs. xs.items ≡ elements_of class self.now.members) }
+    {
+        Ok(
+            self.members
+                .range((class, 0)..(class + 1, 0))
+                .map(|member| member.1)
+                .collect(alloc)?,
+        )
+    }
+
+    /// The pairs of the role, each behind the role, ascending.
+    #[tactic(auto, using(crate::proofs::Ranges::links_between))]
+    pub(crate) fn pairs(&self, alloc: Global, role: u32) -> Result<Vec<(u32, u32, u32)>, NoMemory>
+        requires { role < 4294967295 }
+        ensures { IfOk result (λ ps. ps.items ≡ pairs_of role self.now.links) }
+    {
+        Ok(
+            self.links
+                .range((role, 0, 0)..(role + 1, 0, 0))
+                .copied()
+                .collect(alloc)?,
+        )
     }
 
     fn in_class(&self, class: u32, x: u32) -> bool

@@ -3,6 +3,7 @@
 
 mod interp;
 mod reading;
+mod writing;
 
 pub use interp::Interp;
 pub use reading::{ModelFault, read_text};

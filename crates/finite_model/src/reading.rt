@@ -1,9 +1,10 @@
 // The text of a model, as it stands in a certificate.
-ghost use Rattle.std.specs.Prelude.{◌≡◌, ◌<◌, ◌≤◌, map, length, All, Some, IfOk, IfErr, OnOk, IfSome};
+ghost use Rattle.std.specs.Prelude.{◌≡◌, ◌<◌, ◌≤◌, ◌+◌, ◌^◌, map, length, true, false, nat_eq, position, All, Some, None, IfOk, IfErr, OnOk, IfSome, MatchOption, codes};
 ghost use Rattle.std.specs.List.{list_all};
 ghost use Rattle.certificate_lines.specs.Lines.{is_blank};
-ghost use Rattle.finite_model.specs.ModelText.{element_in, elements_from, class_of_words, class_line, with_line, line_read, with_elements, body_from, size_line, model_of, IsFaultOf};
-ghost use Rattle.finite_model.specs.BodyRead.{body_of, line_of};
+ghost use Rattle.finite_model.specs.ModelText.{element_in, elements_from, pair_at, pair_in, pair_from, pairs_from, named_in, class_line, role_line, with_class, with_role, with_elements, with_pairs, is_role_line, class_read, role_read, line_read, body_from, size_line, model_of, IsFaultOf};
+ghost use Rattle.finite_model.specs.Malformed.{first_unblank, malformed_from, first_malformed, told, IsFaultAt, IsFaultOfLine};
+ghost use Rattle.finite_model.specs.BodyRead.{body_of, class_of, role_of};
 
 use crate::{Interp, NoMemory};
 use certificate_lines::{iri, is_blank, number, words};
@@ -15,7 +16,8 @@ use thiserror::Error;
 /// Why lines are not the text of a model.
 #[derive(Clone, Copy, Debug, PartialEq, Eq, Error)]
 pub enum ModelFault {
-    /// A line is outside the format. Its number is 0 for now.
+    /// The number of the first line outside the format, where the line `model N` has the number 2. A number above
+    /// 4,294,967,295 is told as 4,294,967,295.
     #[error("line {0} is malformed")]
     Malformed(u32),
     #[error("memory was refused")]
@@ -44,26 +46,30 @@ impl<T: Drop> From<AllocFailed<T>> for ModelFault {
     }
 }
 
-/// The model whose text these lines are: `model N`, lines `class NAME X ..`, the line `end`, and blank lines. A name is
-/// the full IRI of a listed class between `<` and `>`, and has one line at most. The elements of a line are below N and
-/// ascend strictly.
+/// The model whose text these lines are: `model N`, lines `class NAME X ..` and `role NAME X,Y ..` in any order, the line
+/// `end`, and blank lines. A name is the full IRI of a listed class or role between `<` and `>`, and has one line at most
+/// as a class and one as a role. Elements are below N and ascend strictly on their line. Pairs ascend strictly by the
+/// first element and then by the second.
 ///
 /// # Errors
 ///
-/// `Malformed` exactly where the lines are no such text, and `NoMemory`.
+/// `Malformed` exactly where the lines are no such text, and `NoMemory`. The first of the lines has the number 2. The
+/// malformed line is the first with which no text begins, or the line behind the last where a text begins with them all.
 pub fn read_text(alloc: Global, lines: &[&[u8]], ontology: &Ontology) -> Result<Interp, ModelFault>
     ensures model { IfOk result (λ k. model_of ontology.now (map (λ l. l.now) lines.now) ≡ Some k) }
     ensures fault { IfErr result (IsFaultOf (model_of ontology.now (map (λ l. l.now) lines.now))) }
+    ensures line { IfErr result (IsFaultOfLine (first_malformed ontology.now (map (λ l. l.now) lines.now))) }
 {
     if lines.is_empty() {
-        return Err(ModelFault::Malformed(0));
+        return Err(ModelFault::Malformed(2));
     }
     let first = words(alloc, lines[0])?;
     let Some(size) = read_size(&first) else {
-        return Err(ModelFault::Malformed(0));
+        return Err(ModelFault::Malformed(2));
     };
     let body = BodyRead {
         classes: BTreeSet::new(alloc),
+        roles: BTreeSet::new(alloc),
         model: Interp::new(alloc, size),
     };
     read_body(alloc, &lines[1..], ontology, body)
@@ -82,11 +88,19 @@ fn read_size(words: &[&[u8]]) -> Option<u32>
     }
 }
 
-// The classes that had a line, and the model so far.
+// The classes and roles that had a line, and the model so far.
 #[derive(Drop)]
 pub(crate) struct BodyRead {
     classes: BTreeSet<u32>,
+    roles: BTreeSet<u32>,
     model: Interp,
+}
+
+// The number of a line as it is told.
+fn told(number: usize) -> u32
+    ensures { result ≡ told number }
+{
+    u32::try_from(number).unwrap_or(u32::MAX)
 }
 
 fn read_body(
@@ -97,44 +111,85 @@ fn read_body(
 ) -> Result<Interp, ModelFault>
     ensures model { IfOk result (λ k. body_from ontology.now (body_of body) (map (λ l. l.now) lines.now) ≡ Some k) }
     ensures fault { IfErr result (IsFaultOf (body_from ontology.now (body_of body) (map (λ l. l.now) lines.now))) }
+    ensures line { IfErr result (IsFaultOfLine (malformed_from ontology.now 3 (body_of body) (map (λ l. l.now) lines.now))) }
 {
     for index in 0..lines.len() {
         if lines[index] == b"end".as_slice() {
-            return if all_blank(&lines[index + 1..]) {
-                Ok(body.model)
-            } else {
-                Err(ModelFault::Malformed(0))
+            return match first_unblank(&lines[index + 1..], index + 4) {
+                None => Ok(body.model),
+                Some(number) => Err(ModelFault::Malformed(told(number))),
             };
         }
-        read_line(alloc, lines[index], ontology, &mut body)?;
+        read_line(alloc, lines[index], told(index + 3), ontology, &mut body)?;
     }
-    Err(ModelFault::Malformed(0))
+    Err(ModelFault::Malformed(told(lines.len() + 3)))
 }
 
-fn all_blank(lines: &[&[u8]]) -> bool
-    ensures { result ≡ list_all is_blank (map (λ l. l.now) lines.now) }
+// The number of the first line that is not blank, where the first of all has the number that is given.
+fn first_unblank(lines: &[&[u8]], number: usize) -> Option<usize>
+    requires { number + length lines.now < 2 ^ 62 }
+    ensures first { result ≡ first_unblank number (map (λ l. l.now) lines.now) }
+    ensures blank { MatchOption result (list_all is_blank (map (λ l. l.now) lines.now) ≡ true) (λ _. list_all is_blank (map (λ l. l.now) lines.now) ≡ false) }
 {
-    for line in lines {
-        if !is_blank(line) {
-            return false;
+    for index in 0..lines.len() {
+        if !is_blank(lines[index]) {
+            return Some(number + index);
         }
     }
-    true
+    None
 }
 
-// Reads one class line more.
+// Reads one line more, whose number is given.
 fn read_line(
     alloc: Global,
     line: &[u8],
+    number: u32,
     ontology: &Ontology,
     body: &mut BodyRead,
 ) -> Result<(), ModelFault>
     ensures read { OnOk result (line_read ontology.now (body_of body.old) line.now ≡ Some (body_of body.new)) }
-    ensures fault { IfErr result (IsFaultOf (line_read ontology.now (body_of body.old) line.now)) }
+    ensures fault { IfErr result (IsFaultAt number (line_read ontology.now (body_of body.old) line.now)) }
 {
     let words = words(alloc, line)?;
-    let line = read_class_line(alloc, &words, ontology, body.model.size())?;
-    put_line(body, &line)
+    if is_role_line(&words) {
+        add_role_line(alloc, &words, number, ontology, body)
+    } else {
+        add_class_line(alloc, &words, number, ontology, body)
+    }
+}
+
+fn is_role_line(words: &[&[u8]]) -> bool
+    ensures { result ≡ is_role_line (map (λ w. w.now) words.now) }
+{
+    !words.is_empty() && words[0] == b"role".as_slice()
+}
+
+fn add_class_line(
+    alloc: Global,
+    words: &[&[u8]],
+    number: u32,
+    ontology: &Ontology,
+    body: &mut BodyRead,
+) -> Result<(), ModelFault>
+    ensures read { OnOk result (class_read ontology.now (body_of body.old) (map (λ w. w.now) words.now) ≡ Some (body_of body.new)) }
+    ensures fault { IfErr result (IsFaultAt number (class_read ontology.now (body_of body.old) (map (λ w. w.now) words.now))) }
+{
+    let line = read_class_line(alloc, words, number, ontology, body.model.size())?;
+    put_class_line(body, number, &line)
+}
+
+fn add_role_line(
+    alloc: Global,
+    words: &[&[u8]],
+    number: u32,
+    ontology: &Ontology,
+    body: &mut BodyRead,
+) -> Result<(), ModelFault>
+    ensures read { OnOk result (role_read ontology.now (body_of body.old) (map (λ w. w.now) words.now) ≡ Some (body_of body.new)) }
+    ensures fault { IfErr result (IsFaultAt number (role_read ontology.now (body_of body.old) (map (λ w. w.now) words.now))) }
+{
+    let line = read_role_line(alloc, words, number, ontology, body.model.size())?;
+    put_role_line(body, number, &line)
 }
 
 // A class with its elements.
@@ -144,39 +199,85 @@ pub(crate) struct ClassRead {
     elements: Vec<u32>,
 }
 
-fn put_line(body: &mut BodyRead, line: &ClassRead) -> Result<(), ModelFault>
+// A pair of elements.
+#[derive(Clone, Copy, Debug)]
+pub(crate) struct Pair {
+    from: u32,
+    to: u32,
+}
+
+// A role with its pairs.
+#[derive(Drop)]
+pub(crate) struct RoleRead {
+    role: u32,
+    pairs: Vec<Pair>,
+}
+
+fn put_class_line(body: &mut BodyRead, number: u32, line: &ClassRead) -> Result<(), ModelFault>
     requires { All (λ x. x < body.old.model.size) line.now.elements.items }
-    ensures read { OnOk result (with_line (body_of body.old) (line_of line.now) ≡ Some (body_of body.new)) }
-    ensures fault { IfErr result (IsFaultOf (with_line (body_of body.old) (line_of line.now))) }
+    ensures read { OnOk result (with_class (body_of body.old) (class_of line.now) ≡ Some (body_of body.new)) }
+    ensures fault { IfErr result (IsFaultAt number (with_class (body_of body.old) (class_of line.now))) }
 {
     if body.classes.contains(&line.class) {
-        return Err(ModelFault::Malformed(0));
+        return Err(ModelFault::Malformed(number));
     }
     body.classes.insert(line.class)?;
     put_elements(&mut body.model, line.class, &line.elements)
+}
+
+fn put_role_line(body: &mut BodyRead, number: u32, line: &RoleRead) -> Result<(), ModelFault>
+    requires { All (λ p. (p.from < body.old.model.size) × (p.to < body.old.model.size)) line.now.pairs.items }
+    ensures read { OnOk result (with_role (body_of body.old) (role_of line.now) ≡ Some (body_of body.new)) }
+    ensures fault { IfErr result (IsFaultAt number (with_role (body_of body.old) (role_of line.now))) }
+{
+    if body.roles.contains(&line.role) {
+        return Err(ModelFault::Malformed(number));
+    }
+    body.roles.insert(line.role)?;
+    put_pairs(&mut body.model, line.role, &line.pairs)
 }
 
 #[tactic(auto, using(crate::proofs::Maps::words_drop))]
 fn read_class_line(
     alloc: Global,
     words: &[&[u8]],
+    number: u32,
     ontology: &Ontology,
     size: u32,
 ) -> Result<ClassRead, ModelFault>
     ensures below { IfOk result (λ c. All (λ x. x < size) c.elements.items) }
-    ensures line { IfOk result (λ c. class_line ontology.now size (map (λ w. w.now) words.now) ≡ Some (line_of c)) }
-    ensures fault { IfErr result (IsFaultOf (class_line ontology.now size (map (λ w. w.now) words.now))) }
+    ensures line { IfOk result (λ c. class_line ontology.now size (map (λ w. w.now) words.now) ≡ Some (class_of c)) }
+    ensures fault { IfErr result (IsFaultAt number (class_line ontology.now size (map (λ w. w.now) words.now))) }
 {
     let Some(class) = read_class(words, ontology) else {
-        return Err(ModelFault::Malformed(0));
+        return Err(ModelFault::Malformed(number));
     };
-    let elements = read_elements(alloc, words.split_at(2).1, size)?;
+    let elements = read_elements(alloc, words.split_at(2).1, number, size)?;
     Ok(ClassRead { class, elements })
+}
+
+#[tactic(auto, using(crate::proofs::Maps::words_drop))]
+fn read_role_line(
+    alloc: Global,
+    words: &[&[u8]],
+    number: u32,
+    ontology: &Ontology,
+    size: u32,
+) -> Result<RoleRead, ModelFault>
+    ensures below { IfOk result (λ r. All (λ p. (p.from < size) × (p.to < size)) r.pairs.items) }
+    ensures line { IfOk result (λ r. role_line ontology.now size (map (λ w. w.now) words.now) ≡ Some (role_of r)) }
+    ensures fault { IfErr result (IsFaultAt number (role_line ontology.now size (map (λ w. w.now) words.now))) }
+{
+    let Some(role) = read_role(words, ontology) else {
+        return Err(ModelFault::Malformed(number));
+    };
+    let pairs = read_pairs(alloc, words.split_at(2).1, number, size)?;
+    Ok(RoleRead { role, pairs })
 }
 
 // The class that the first words name, where an element follows them.
 fn read_class(words: &[&[u8]], ontology: &Ontology) -> Option<u32>
-    ensures value { result ≡ class_of_words ontology.now (map (λ w. w.now) words.now) }
+    ensures value { result ≡ named_in (codes "class") ontology.now.classes (map (λ w. w.now) words.now) }
     ensures long { IfSome result (λ _. 3 ≤ length words.now) }
 {
     if words.len() < 3 || words[0] != b"class".as_slice() {
@@ -185,16 +286,32 @@ fn read_class(words: &[&[u8]], ontology: &Ontology) -> Option<u32>
     ontology.class_of_bytes(iri(words[1])?)
 }
 
-fn read_elements(alloc: Global, words: &[&[u8]], size: u32) -> Result<Vec<u32>, ModelFault>
+// The role that the first words name, where a pair follows them.
+fn read_role(words: &[&[u8]], ontology: &Ontology) -> Option<u32>
+    ensures value { result ≡ named_in (codes "role") ontology.now.roles (map (λ w. w.now) words.now) }
+    ensures long { IfSome result (λ _. 3 ≤ length words.now) }
+{
+    if words.len() < 3 || words[0] != b"role".as_slice() {
+        return None;
+    }
+    ontology.role_of_bytes(iri(words[1])?)
+}
+
+fn read_elements(
+    alloc: Global,
+    words: &[&[u8]],
+    number: u32,
+    size: u32,
+) -> Result<Vec<u32>, ModelFault>
     ensures below { IfOk result (λ xs. All (λ x. x < size) xs.items) }
     ensures elements { IfOk result (λ xs. elements_from 0 size (map (λ w. w.now) words.now) ≡ Some xs.items) }
-    ensures fault { IfErr result (IsFaultOf (elements_from 0 size (map (λ w. w.now) words.now))) }
+    ensures fault { IfErr result (IsFaultAt number (elements_from 0 size (map (λ w. w.now) words.now))) }
 {
     let mut elements = Vec::new(alloc);
     let mut low = 0;
     for word in words {
         let Some(x) = read_element(word, low, size) else {
-            return Err(ModelFault::Malformed(0));
+            return Err(ModelFault::Malformed(number));
         };
         elements.push(x)?;
         low = x + 1;
@@ -211,6 +328,67 @@ fn read_element(word: &[u8], low: u32, size: u32) -> Option<u32>
     }
 }
 
+fn read_pairs(
+    alloc: Global,
+    words: &[&[u8]],
+    number: u32,
+    size: u32,
+) -> Result<Vec<Pair>, ModelFault>
+    ensures below { IfOk result (λ ps. All (λ p. (p.from < size) × (p.to < size)) ps.items) }
+    ensures pairs { IfOk result (λ ps. pairs_from (record { from = 0; to = 0 }) size (map (λ w. w.now) words.now) ≡ Some ps.items) }
+    ensures fault { IfErr result (IsFaultAt number (pairs_from (record { from = 0; to = 0 }) size (map (λ w. w.now) words.now))) }
+{
+    let mut pairs = Vec::new(alloc);
+    let mut low = Pair { from: 0, to: 0 };
+    for word in words {
+        let Some(pair) = read_pair_from(word, low, size) else {
+            return Err(ModelFault::Malformed(number));
+        };
+        pairs.push(pair)?;
+        low = Pair {
+            from: pair.from,
+            to: pair.to + 1,
+        };
+    }
+    Ok(pairs)
+}
+
+// The pair that a word is, where it does not come before the least that is allowed.
+fn read_pair_from(word: &[u8], low: Pair, size: u32) -> Option<Pair>
+    ensures pair { result ≡ pair_from low size word.now }
+    ensures below { IfSome result (λ p. (p.from < size) × (p.to < size)) }
+{
+    let pair = read_pair(word, size)?;
+    if low.from < pair.from || (low.from == pair.from && low.to <= pair.to) {
+        return Some(pair);
+    }
+    None
+}
+
+fn read_pair(word: &[u8], size: u32) -> Option<Pair>
+    ensures pair { result ≡ pair_in size word.now }
+    ensures below { IfSome result (λ p. (p.from < size) × (p.to < size)) }
+{
+    read_pair_at(word, size, comma(word)?)
+}
+
+fn comma(word: &[u8]) -> Option<usize>
+    ensures place { result ≡ position (nat_eq 44) word.now }
+    ensures within { IfSome result (λ n. n < length word.now) }
+{
+    word.iter().position(|byte| b',' == *byte)
+}
+
+fn read_pair_at(word: &[u8], size: u32, place: usize) -> Option<Pair>
+    requires { place < length word.now }
+    ensures pair { result ≡ pair_at size word.now place }
+    ensures below { IfSome result (λ p. (p.from < size) × (p.to < size)) }
+{
+    let from = read_element(word.split_at(place).0, 0, size)?;
+    let to = read_element(word.split_at(place + 1).1, 0, size)?;
+    Some(Pair { from, to })
+}
+
 fn put_elements(model: &mut Interp, class: u32, elements: &[u32]) -> Result<(), ModelFault>
     requires { All (λ x. x < model.old.size) elements.now }
     ensures put { OnOk result (model.new ≡ with_elements class elements.now model.old) }
@@ -218,6 +396,17 @@ fn put_elements(model: &mut Interp, class: u32, elements: &[u32]) -> Result<(), 
 {
     for x in elements {
         model.put_class(class, *x)?;
+    }
+    Ok(())
+}
+
+fn put_pairs(model: &mut Interp, role: u32, pairs: &[Pair]) -> Result<(), ModelFault>
+    requires { All (λ p. (p.from < model.old.size) × (p.to < model.old.size)) pairs.now }
+    ensures put { OnOk result (model.new ≡ with_pairs role pairs.now model.old) }
+    ensures memory { IfErr result (λ e. e ≡ ModelFault.NoMemory) }
+{
+    for pair in pairs {
+        model.put_pair(role, pair.from, pair.to)?;
     }
     Ok(())
 }

@@ -113,7 +113,10 @@ fn read(alloc: Global, text: &[u8]) -> Result<Result<Interp, ModelFault>, Fail> 
 
 #[test]
 fn reads_a_model(rt: HostRuntime) -> Result<(), Fail> {
-    let model = read(rt.alloc(), b"model 3\nclass <B> 0 2\nclass <A> 1\nend\n \n")??;
+    let model = read(
+        rt.alloc(),
+        b"model 3\nclass <B> 0 2\nrole <R> 0,0 0,2 2,1\nclass <A> 1\nend\n \n",
+    )??;
     assert_eq!(rt; model.size(), 3);
     for (class, x, member) in [
         (0, 0, false),
@@ -128,23 +131,48 @@ fn reads_a_model(rt: HostRuntime) -> Result<(), Fail> {
 }
 
 #[test]
-fn refuses_malformed_texts(rt: HostRuntime) -> Result<(), Fail> {
-    let cases: [&[u8]; 12] = [
-        b"",
-        b"model 0\nend\n",
-        b"model 02\nend\n",
-        b"model 2 \nend\n",
-        b"model 2\n",
-        b"model 2\n\nend\n",
-        b"model 2\nclass <A>\nend\n",
-        b"model 2\nclass <C> 0\nend\n",
-        b"model 2\nclass <A> 0 2\nend\n",
-        b"model 2\nclass <A> 1 0\nend\n",
-        b"model 2\nclass <A> 0\nclass <A> 1\nend\n",
-        b"model 2\nend\nend\n",
+fn tells_the_first_malformed_line(rt: HostRuntime) -> Result<(), Fail> {
+    let cases: [(&[u8], u32); 16] = [
+        (b"", 2),
+        (b"model 0\nend\n", 2),
+        (b"model 02\nend\n", 2),
+        (b"model 2 \nend\n", 2),
+        (b"model 2", 3),
+        (b"model 2\n\nend\n", 3),
+        (b"model 2\nclass <A>\nend\n", 3),
+        (b"model 2\nclass <C> 0\nend\n", 3),
+        (b"model 2\nclass <A> 0 2\nend\n", 3),
+        (b"model 2\nclass <A> 1 0\nend\n", 3),
+        (b"model 2\nclass <A> 0\nclass <A> 1\nclass <A>", 4),
+        (b"model 2\nrole <A> 0,0\nend\n", 3),
+        (b"model 2\nrole <R> 1,0 0,1\nend\n", 3),
+        (b"model 2\nrole <R> 0,1 0,1\nend\n", 3),
+        (b"model 2\nrole <R> 0,1\nrole <R> 1,0\nend\n", 4),
+        (b"model 2\nend\n\nend\n", 5),
     ];
-    for text in cases {
-        assert!(rt; matches!(read(rt.alloc(), text)?, Err(ModelFault::Malformed(_))));
+    for (text, line) in cases {
+        let fault = ModelFault::Malformed(line);
+        assert!(rt; matches!(read(rt.alloc(), text)?, Err(told) if told == fault));
     }
+    Ok(())
+}
+
+#[test]
+fn writes_a_model(rt: HostRuntime) -> Result<(), Fail> {
+    let alloc = rt.alloc();
+    let mut ontology = Ontology::new(alloc);
+    ontology.add_class("A")?;
+    ontology.add_class("B")?;
+    ontology.add_role("R")?;
+    let mut model = Interp::new(alloc, 11);
+    model.put_class(1, 10)?;
+    model.put_class(1, 2)?;
+    model.put_pair(0, 10, 2)?;
+    model.put_pair(0, 2, 10)?;
+    let mut text = Vec::new(alloc);
+    text.push(b'#')?;
+    model.text(alloc, &mut text, &ontology)?;
+    let wanted: &[u8] = b"#model 11\nclass <B> 2 10\nrole <R> 2,10 10,2\nend\n";
+    assert!(rt; text.as_slice() == wanted);
     Ok(())
 }
