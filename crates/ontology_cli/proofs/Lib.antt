@@ -1,5 +1,5 @@
 pub mod Unmet
 pub mod Blanks
 pub mod Replies
-pub mod Unread
+pub mod Reasons
 pub mod Decided

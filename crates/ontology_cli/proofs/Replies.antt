@@ -5,29 +5,49 @@ use Rattle.std.specs.Io.KnownBytes.{Consumes, IsAtEnd}
 use Rattle.std.proofs.lemmas.Bool.Decides.{nat_tests}
 use Rattle.shq_io.specs.Causes.{TakesOut}
 use Rattle.ontology_cli.specs.Words.{check}
-use Rattle.ontology_cli.specs.Answers.{verdict_answer, Checked, AnswersJob, left_by, LeavesFor}
+use Rattle.ontology_cli.specs.Checking.{IsVerdictOn}
+use Rattle.ontology_cli.specs.Answers.{verdict_answer, IsVerdictText, Checked, AnswersJob, left_by, LeavesFor}
 use Rattle.ontology_cli.specs.declared.checking.Verdict.{Verdict}
-use Rattle.ontology_cli.specs.declared.checking.Verdict.TheVariants.{Accepted, Axiom, Query}
+use Rattle.ontology_cli.specs.declared.checking.Verdict.TheVariants.{Accepted, Line, Axiom, Query}
 use Rattle.ontology_cli.specs.declared.status.Status.{Status}
 use Rattle.ontology_cli.specs.declared.status.Status.TheVariants.{Done, Rejected, BadWords, Limit, ReadFault, WriteFault, NoMemory, NotBuilt}
 
 no_limit : (v : Verdict) (out : List ℕ) → ◌≡◌ {A = Status × List ℕ} (Limit, out) (verdict_answer v) → ⊥
 no_limit Accepted out is = let e : Limit ≡ Done = ap (λ (p : Status × List ℕ). p.0) is in absurd (cc e)
+no_limit (Line k) out is = let e : Limit ≡ Rejected = ap (λ (p : Status × List ℕ). p.0) is in absurd (cc e)
 no_limit (Axiom k) out is = let e : Limit ≡ Rejected = ap (λ (p : Status × List ℕ). p.0) is in absurd (cc e)
 no_limit Query out is = let e : Limit ≡ Rejected = ap (λ (p : Status × List ℕ). p.0) is in absurd (cc e)
 
 no_fault : (v : Verdict) (out : List ℕ) → ◌≡◌ {A = Status × List ℕ} (ReadFault, out) (verdict_answer v) → ⊥
 no_fault Accepted out is = let e : ReadFault ≡ Done = ap (λ (p : Status × List ℕ). p.0) is in absurd (cc e)
+no_fault (Line k) out is = let e : ReadFault ≡ Rejected = ap (λ (p : Status × List ℕ). p.0) is in absurd (cc e)
 no_fault (Axiom k) out is = let e : ReadFault ≡ Rejected = ap (λ (p : Status × List ℕ). p.0) is in absurd (cc e)
 no_fault Query out is = let e : ReadFault ≡ Rejected = ap (λ (p : Status × List ℕ). p.0) is in absurd (cc e)
+
+no_not_built : (v : Verdict) (out : List ℕ) → ◌≡◌ {A = Status × List ℕ} (NotBuilt, out) (verdict_answer v) → ⊥
+no_not_built Accepted out is = let e : NotBuilt ≡ Done = ap (λ (p : Status × List ℕ). p.0) is in absurd (cc e)
+no_not_built (Line k) out is = let e : NotBuilt ≡ Rejected = ap (λ (p : Status × List ℕ). p.0) is in absurd (cc e)
+no_not_built (Axiom k) out is = let e : NotBuilt ≡ Rejected = ap (λ (p : Status × List ℕ). p.0) is in absurd (cc e)
+no_not_built Query out is = let e : NotBuilt ≡ Rejected = ap (λ (p : Status × List ℕ). p.0) is in absurd (cc e)
+
+-- the answer to a verdict is one of the verification
+pub verdict_checked : (query bytes : List ℕ) (v : Verdict) (out : List ℕ) (s : Status) → IsVerdictOn query bytes v → IsVerdictText v out s → Checked query bytes out s
+verdict_checked query bytes v out Done says is = (v, says, is)
+verdict_checked query bytes v out Rejected says is = (v, says, is)
+verdict_checked query bytes v out BadWords says is = (v, says, is)
+verdict_checked query bytes v out Limit says is = (v, says, is)
+verdict_checked query bytes v out ReadFault says is = (v, says, is)
+verdict_checked query bytes v out WriteFault says is = (v, says, is)
+verdict_checked query bytes v out NoMemory says is = is
+verdict_checked query bytes v out NotBuilt says is = absurd (no_not_built v out is)
 
 -- the answer of a verification is one to the job
 checked_answers : (query bytes out : List ℕ) (s : Status) → length bytes ≤ 2 ^ 24 → Checked query bytes out s → AnswersJob (check query) bytes out s
 checked_answers query bytes out Done short checked = (short, checked)
 checked_answers query bytes out Rejected short checked = (short, checked)
 checked_answers query bytes out BadWords short checked = (short, checked)
-checked_answers query bytes out Limit short (input, v, is_input, is_verdict, is) = absurd (no_limit v out is)
-checked_answers query bytes out ReadFault short (input, v, is_input, is_verdict, is) = absurd (no_fault v out is)
+checked_answers query bytes out Limit short (v, is_verdict, is) = absurd (no_limit v out is)
+checked_answers query bytes out ReadFault short (v, is_verdict, is) = absurd (no_fault v out is)
 checked_answers query bytes out WriteFault short checked = (short, checked)
 checked_answers query bytes out NoMemory short checked = checked
 checked_answers query bytes out NotBuilt short checked = (short, checked)

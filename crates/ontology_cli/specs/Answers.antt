@@ -3,10 +3,9 @@ use Rattle.std.specs.Prelude.{◌≡◌, ℕ, ◌+◌, ◌<◌, ◌≤◌, ◌^�
 use Rattle.std.specs.Io.KnownBytes.{Appends}
 use Rattle.shq_io.specs.Causes.{TakesFront}
 use Rattle.ontology_cli.specs.Words.{Job, check, job_of}
-use Rattle.ontology_cli.specs.Checking.{IsInput, IsNotBuilt, IsVerdict}
-use Rattle.ontology_cli.specs.declared.checking.Input.{Input}
+use Rattle.ontology_cli.specs.Checking.{IsNotBuilt, IsVerdictOn}
 use Rattle.ontology_cli.specs.declared.checking.Verdict.{Verdict}
-use Rattle.ontology_cli.specs.declared.checking.Verdict.TheVariants.{Accepted, Axiom, Query}
+use Rattle.ontology_cli.specs.declared.checking.Verdict.TheVariants.{Accepted, Line, Axiom, Query}
 use Rattle.ontology_cli.specs.declared.text.Text.{Text}
 use Rattle.ontology_cli.specs.declared.text.Text.TheVariants.{Fixed, Made}
 use Rattle.ontology_cli.specs.declared.status.Status.{Status}
@@ -26,6 +25,7 @@ no_memory = line (codes "no memory")
 -- the answer to a verdict
 abbrev pub verdict_answer : Verdict → Status × List ℕ
 verdict_answer Accepted = (Done, line (codes "accepted not entailed"))
+verdict_answer (Line n) = (Rejected, line (codes "rejected line " ++ decimal n))
 verdict_answer (Axiom k) = (Rejected, line (codes "rejected axiom " ++ decimal k))
 verdict_answer Query = (Rejected, line (codes "rejected query"))
 
@@ -38,7 +38,7 @@ IsVerdictText v out s = ◌≡◌ {A = Status × List ℕ} (s, out) (verdict_ans
 abbrev pub Checked : List ℕ → List ℕ → List ℕ → Status → Type 0
 Checked query bytes out NotBuilt = IsNotBuilt query bytes × (out ≡ line (codes "not built"))
 Checked query bytes out NoMemory = out ≡ no_memory
-Checked query bytes out s = (input : Input) × (v : Verdict) × IsInput query bytes input × IsVerdict input v × (◌≡◌ {A = Status × List ℕ} (s, out) (verdict_answer v))
+Checked query bytes out s = (v : Verdict) × IsVerdictOn query bytes v × (◌≡◌ {A = Status × List ℕ} (s, out) (verdict_answer v))
 
 -- the answer to an accepted list of words
 abbrev pub AnswersJob : Job → List ℕ → List ℕ → Status → Type 0

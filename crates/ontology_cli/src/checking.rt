@@ -1,28 +1,17 @@
 // The verification of a model.
-ghost use Rattle.std.specs.Prelude.{◌≡◌, ◌≢◌, ◌≤◌, IfOk, IfErr, length, Some, None};
+ghost use Rattle.std.specs.Prelude.{◌≡◌, ◌≤◌, IfOk, IfErr, length};
 ghost use Rattle.std.specs.Result.{result_map_both};
 ghost use Rattle.finite_model.specs.Kept.{meaning};
 ghost use Rattle.ofn_reader.specs.Counts.{Counts};
 ghost use Rattle.ofn_reader.specs.Documents.{IsDocument, IsNoDocument, IsQuery, IsNoQuery, query_start};
-ghost use Rattle.ofn_reader.specs.declared.refusal.Refusal.{Refusal as Refused};
-ghost use Rattle.ofn_reader.specs.declared.refusal.Refusal.TheVariants.{NoMemory};
-ghost use Rattle.ontology_cli.specs.Certificates.{certified};
-ghost use Rattle.ontology_cli.specs.Checking.{IsInput, IsNotBuilt, IsClaim, IsNoClaim, IsVerdict, first_unmet, with_names};
-ghost use Rattle.ontology_cli.specs.declared.checking.Unread.TheVariants.{NotBuilt};
+ghost use Rattle.ontology_cli.specs.Checking.{IsInput, IsUnread, IsClaim, IsUnclaimed, IsUnasked, IsUndocumented, IsVerdict, first_unmet, with_names};
 
 use crate::certificate::read_certificate;
-use finite_model::{Interp, ModelFault};
+use crate::unread::Unread;
+use finite_model::Interp;
 use ofn_reader::{Context, Refusal, read_ontology, read_query};
 use shq_terms::{Ontology, Query};
 use std::alloc::Global;
-
-/// Why there is nothing to verify.
-#[derive(Clone, Copy, Debug, PartialEq, Eq)]
-pub(crate) enum Unread {
-    /// The document or the query is not plain, or the rest is no certificate of a model.
-    NotBuilt,
-    NoMemory,
-}
 
 /// What is verified: the axioms, the query and the model.
 #[derive(Drop)]
@@ -32,14 +21,16 @@ pub(crate) struct Input {
     pub model: Interp,
 }
 
-/// What a model shows.
+/// What a certificate shows.
 #[derive(Clone, Copy, Debug, PartialEq, Eq)]
 pub(crate) enum Verdict {
-    /// It meets every axiom and refutes the query.
+    /// Its model meets every axiom and refutes the query.
     Accepted,
-    /// It does not meet the axiom of this number, which is the least.
+    /// It is none, and the line of this number is the first malformed one.
+    Line(u32),
+    /// Its model does not meet the axiom of this number, which is the least.
     Axiom(u32),
-    /// It meets every axiom and does not refute the query.
+    /// Its model meets every axiom and does not refute the query.
     Query,
 }
 
@@ -71,7 +62,7 @@ pub(crate) fn judge(input: &Input) -> Verdict
 /// Reads the document, the query on it and the certificate that follows it.
 pub(crate) fn read_input(alloc: Global, query: &str, bytes: &[u8]) -> Result<Input, Unread>
     ensures input { IfOk result (IsInput query.now bytes.now) }
-    ensures not_built { IfErr result (λ u. u ≡ NotBuilt → IsNotBuilt query.now bytes.now) }
+    ensures unread { IfErr result (IsUnread query.now bytes.now) }
 {
     let (mut ontology, context, end) = document(alloc, bytes)?;
     let claim = read_claim(alloc, query, bytes.split_at(end).1, &mut ontology, &context);
@@ -110,10 +101,10 @@ fn read_claim(
     context: &Context,
 ) -> Result<Claim, Unread>
     ensures claim { IfOk result (IsClaim ontology.old context.now query.now rest.now ontology.new) }
-    ensures refused { IfErr result (λ u. u ≡ NotBuilt → IsNoClaim ontology.old context.now query.now rest.now) }
+    ensures unclaimed { IfErr result (IsUnclaimed ontology.old context.now query.now rest.now) }
 {
     let asked = query_on(alloc, query, ontology, context)?;
-    let model = model_of_text(alloc, rest, ontology);
+    let model = read_certificate(alloc, rest, ontology);
     claim_of(asked, model)
 }
 
@@ -129,24 +120,15 @@ fn claim_of(asked: Query, model: Result<Interp, Unread>) -> Result<Claim, Unread
     }
 }
 
-// Want of memory, or else that the text is not plain.
-fn without_reason(refusal: Refusal) -> Unread
-    ensures { result ≡ NotBuilt → refusal ≢ NoMemory }
-{
-    match refusal {
-        Refusal::NoMemory => Unread::NoMemory,
-        _ => Unread::NotBuilt,
-    }
-}
-
 fn document(alloc: Global, bytes: &[u8]) -> Result<(Ontology, Context, usize), Unread>
     ensures document { IfOk result (λ r. IsDocument bytes.now r.0 r.1 r.2) }
     ensures within { IfOk result (λ r. r.2 ≤ length bytes.now) }
-    ensures refused { IfErr result (λ u. u ≡ NotBuilt → (e : Refused) × IsNoDocument bytes.now e) }
+    ensures refused { IfErr result (IsUndocumented bytes.now) }
 {
     match read_ontology(alloc, bytes) {
         Ok(read) => Ok(read),
-        Err(refusal) => Err(without_reason(refusal)),
+        Err(Refusal::NoMemory) => Err(Unread::NoMemory),
+        Err(_) => Err(Unread::NotBuilt),
     }
 }
 
@@ -157,21 +139,11 @@ fn query_on(
     context: &Context,
 ) -> Result<Query, Unread>
     ensures query { IfOk result (λ q. (behind : Counts) × IsQuery (query_start ontology.old context.now) query.now behind q × (ontology.new ≡ with_names ontology.old behind)) }
-    ensures refused { IfErr result (λ u. u ≡ NotBuilt → (e : Refused) × IsNoQuery (query_start ontology.old context.now) query.now e) }
+    ensures refused { IfErr result (IsUnasked ontology.old context.now query.now) }
 {
     match read_query(alloc, query, ontology, context) {
         Ok(asked) => Ok(asked),
-        Err(refusal) => Err(without_reason(refusal)),
-    }
-}
-
-fn model_of_text(alloc: Global, text: &[u8], ontology: &Ontology) -> Result<Interp, Unread>
-    ensures model { IfOk result (λ k. certified ontology.now text.now ≡ Some k) }
-    ensures refused { IfErr result (λ u. u ≡ NotBuilt → certified ontology.now text.now ≡ None) }
-{
-    match read_certificate(alloc, text, ontology) {
-        Ok(model) => Ok(model),
-        Err(ModelFault::NoMemory) => Err(Unread::NoMemory),
-        Err(ModelFault::Malformed(_)) => Err(Unread::NotBuilt),
+        Err(Refusal::NoMemory) => Err(Unread::NoMemory),
+        Err(_) => Err(Unread::NotBuilt),
     }
 }

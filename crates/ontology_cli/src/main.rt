@@ -8,6 +8,7 @@ mod run;
 mod run_log;
 mod status;
 mod text;
+mod unread;
 mod words;
 
 use run::run;

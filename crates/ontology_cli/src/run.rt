@@ -4,10 +4,11 @@ ghost use Rattle.shq_io.specs.Causes.{Rose};
 ghost use Rattle.ontology_cli.specs.Words.{check, job_of, command_job, texts_of};
 ghost use Rattle.ontology_cli.specs.Answers.{AnswersJob, Answers, Answered, Checked, IsVerdictText, LeavesFor, Leaves, text_bytes};
 
-use crate::checking::{Unread, Verdict, judge, read_input};
+use crate::checking::{Verdict, judge, read_input};
 use crate::run_log::RunLog;
 use crate::status::Status;
 use crate::text::Text;
+use crate::unread::Unread;
 use crate::words::{Command, read_words};
 use shq_io::{ReadEnd, Sink, Source, WriteFailed, read_all, write_whole};
 use std::alloc::Global;
@@ -89,6 +90,7 @@ fn verify(alloc: Global, query: &str, input: &[u8]) -> (Status, Text)
             drop(read);
             verdict_text(alloc, verdict)
         }
+        Err(Unread::Line(number)) => verdict_text(alloc, Verdict::Line(number)),
         Err(Unread::NotBuilt) => (Status::NotBuilt, Text::Fixed("not built\n")),
         Err(Unread::NoMemory) => (Status::NoMemory, Text::Fixed("no memory\n")),
     }
@@ -100,6 +102,10 @@ fn verdict_text(alloc: Global, verdict: Verdict) -> (Status, Text)
 {
     match verdict {
         Verdict::Accepted => (Status::Done, Text::Fixed("accepted not entailed\n")),
+        Verdict::Line(number) => match format!(in alloc; "rejected line {number}\n") {
+            Ok(text) => (Status::Rejected, Text::Made(text)),
+            Err(_) => (Status::NoMemory, Text::Fixed("no memory\n")),
+        },
         Verdict::Axiom(number) => match format!(in alloc; "rejected axiom {number}\n") {
             Ok(text) => (Status::Rejected, Text::Made(text)),
             Err(_) => (Status::NoMemory, Text::Fixed("no memory\n")),

@@ -33,7 +33,7 @@ fn run_on(
 
 #[test]
 fn verifies_models(rt: HostRuntime) -> Result<(), Fail> {
-    let cases: [([&str; 2], Status, &str); 12] = [
+    let cases: [([&str; 2], Status, &str); 15] = [
         (
             [
                 DOCUMENT,
@@ -79,25 +79,40 @@ fn verifies_models(rt: HostRuntime) -> Result<(), Fail> {
                 DOCUMENT,
                 "not entailed\nmodel 1\nclass <http://e.org/D> 0\nend\n",
             ],
-            Status::NotBuilt,
-            "not built\n",
+            Status::Rejected,
+            "rejected line 3\n",
         ),
         (
-            [DOCUMENT, "entailed\nmodel 1\nend\n"],
-            Status::NotBuilt,
-            "not built\n",
-        ),
-        (
-            [DOCUMENT, " not entailed\nmodel 1\nend\n"],
-            Status::NotBuilt,
-            "not built\n",
+            [DOCUMENT, "not entailed\nmodel 1\n"],
+            Status::Rejected,
+            "rejected line 3\n",
         ),
         (
             [DOCUMENT, "not entailed\nmodel 0\nend\n"],
+            Status::Rejected,
+            "rejected line 2\n",
+        ),
+        (
+            [DOCUMENT, "entailed\nmodel 1\nend\n"],
+            Status::Rejected,
+            "rejected line 2\n",
+        ),
+        (
+            [DOCUMENT, "unsatisfiable"],
+            Status::Rejected,
+            "rejected line 2\n",
+        ),
+        (
+            [DOCUMENT, " not entailed\nmodel 1\nend\n"],
+            Status::Rejected,
+            "rejected line 1\n",
+        ),
+        ([DOCUMENT, ""], Status::Rejected, "rejected line 1\n"),
+        (
+            [DOCUMENT, "unsatisfiable\nrefutation\naxioms\n"],
             Status::NotBuilt,
             "not built\n",
         ),
-        ([DOCUMENT, ""], Status::NotBuilt, "not built\n"),
         (["", ""], Status::NotBuilt, "not built\n"),
         (
             [
@@ -140,7 +155,7 @@ fn tells_faults(rt: HostRuntime) -> Result<(), Fail> {
     assert!(rt; sink.taken() == b"read fault\n".as_slice());
     let (status, sink) = run_on(rt.alloc(), &["check", QUERY], [DOCUMENT, ""], [0, 2])?;
     assert_eq!(rt; status, Status::WriteFault);
-    assert!(rt; sink.taken() == b"not ".as_slice());
+    assert!(rt; sink.taken() == b"reje".as_slice());
     Ok(())
 }
 

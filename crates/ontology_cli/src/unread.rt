@@ -1,0 +1,24 @@
+// What keeps an input from being verified.
+
+use shq_base::NoMemory;
+
+/// Why there is nothing to verify.
+#[derive(Clone, Copy, Debug, PartialEq, Eq)]
+pub(crate) enum Unread {
+    /// The document or the query is not plain, or the certificate is a refutation.
+    NotBuilt,
+    /// The rest is no certificate, and this is the number of its first malformed line.
+    Line(u32),
+    NoMemory,
+}
+
+impl From<NoMemory> for Unread {
+    ghost use Rattle.std.specs.Prelude.{◌≡◌};
+    ghost use Rattle.ontology_cli.specs.declared.unread.Unread.TheVariants as unread;
+
+    ghost from_gives = { λ _ u. u ≡ unread.NoMemory };
+
+    fn from(_: NoMemory) -> Self {
+        Unread::NoMemory
+    }
+}
