@@ -3,3 +3,4 @@ pub mod Maps
 pub mod Pairs
 pub mod Ranges
 pub mod Texts
+pub mod FirstLine
