@@ -1,5 +1,5 @@
 -- The first malformed line.
-use Rattle.std.proofs.Common.{◌≡◌, ℕ, zero, suc, ◌+◌, ◌-◌, ◌<◌, ◌≤◌, Bool, true, false, ◌&&◌, List, [], ◌∷◌, ◌++◌, length, take, Option, Some, None, refl, ap, sym, ◌∙◌, subst, arith, add-one}
+use Rattle.std.proofs.Common.{◌≡◌, ℕ, suc, ◌+◌, ◌-◌, ◌<◌, ◌≤◌, Bool, true, false, ◌&&◌, List, [], ◌∷◌, ◌++◌, length, take, Option, Some, None, refl, ap, sym, ◌∙◌, subst, arith}
 use Rattle.std.specs.Prelude.{codes, option_and_then, if◌then◌else◌}
 use Rattle.std.specs.List.{list_all}
 use Rattle.certificate_lines.specs.Lines.{is_blank, words}
@@ -31,22 +31,28 @@ unblank_at n m (l ∷ ls) is = by (unblank_at (n + 1) m ls) (is_blank l) refl
   where
     by : (first_unblank (n + 1) ls ≡ Some m → (j : ℕ) × (m ≡ n + 1 + j) × IsUnblank ls j) → (b : Bool) → is_blank l ≡ b → (j : ℕ) × (m ≡ n + j) × IsUnblank (l ∷ ls) j
     by behind true blank =
-        let more = behind (sym (unblank_here n l ls true blank) ∙ is) in
-        (suc more.0, omega (arith, more.1), record {
-          inside = omega (arith, more.2.inside);
-          blank = blank_here l (take more.0 ls ++ []) blank ∙ more.2.blank;
-          word = λ rest. blank_here l (take (suc more.0) ls ++ rest) blank ∙ more.2.word rest;
-          none = blank_here l ls blank ∙ more.2.none;
-        })
+        let more = behind (sym (unblank_here n l ls true blank) ∙ is) in (
+          suc more.0,
+          omega (arith, more.1),
+          record {
+            inside = omega (arith, more.2.inside);
+            blank = blank_here l (take more.0 ls ++ []) blank ∙ more.2.blank;
+            word = λ rest. blank_here l (take (suc more.0) ls ++ rest) blank ∙ more.2.word rest;
+            none = blank_here l ls blank ∙ more.2.none;
+          },
+        )
     by behind false word =
         let here : ◌≡◌ {A = Option ℕ} (Some n) (Some m) = sym (unblank_here n l ls false word) ∙ is in
-        let same : n ≡ m = cc here in
-        (0, omega (arith, same), record {
-          inside = omega arith;
-          blank = refl;
-          word = λ rest. unblank_here_all l rest word;
-          none = unblank_here_all l ls word;
-        })
+        let same : n ≡ m = cc here in (
+          0,
+          omega (arith, same),
+          record {
+            inside = omega arith;
+            blank = refl;
+            word = λ rest. unblank_here_all l rest word;
+            none = unblank_here_all l ls word;
+          },
+        )
 
 blank_all : (n : ℕ) (ls : List (List ℕ)) → first_unblank n ls ≡ None → list_all is_blank ls ≡ true
 blank_all n [] is = refl
@@ -59,22 +65,22 @@ blank_all n (l ∷ ls) is = by (blank_all (n + 1) ls) (is_blank l) refl
 -- one line of a body
 
 body_end : (o : Listed) (b : Body) (l : List ℕ) (ls : List (List ℕ)) → is_end l ≡ true → body_from o b (l ∷ ls) ≡ (if list_all is_blank ls then Some b.model else None)
-body_end o b l ls is = ap (λ (v : Bool). elim v [ | true ↦ if list_all is_blank ls then Some b.model else None | false ↦ elim (line_read o b l) [ None ↦ None | Some next ↦ body_from o next ls ] ]) is
+body_end o b l ls is = ap (λ (v : Bool). elim v [ true ↦ if list_all is_blank ls then Some b.model else None | false ↦ elim (line_read o b l) [ None ↦ None | Some next ↦ body_from o next ls ] ]) is
 
 body_ends : (o : Listed) (b : Body) (l : List ℕ) (ls : List (List ℕ)) (v : Bool) → is_end l ≡ true → list_all is_blank ls ≡ v → body_from o b (l ∷ ls) ≡ (if v then Some b.model else None)
 body_ends o b l ls v is blank = body_end o b l ls is ∙ ap (λ (w : Bool). if w then Some b.model else None) blank
 
 body_line : (o : Listed) (b : Body) (l : List ℕ) (ls : List (List ℕ)) (read : Option Body) → is_end l ≡ false → line_read o b l ≡ read → body_from o b (l ∷ ls) ≡ elim read [ None ↦ None | Some next ↦ body_from o next ls ]
 body_line o b l ls read is line =
-    ap (λ (v : Bool). elim v [ | true ↦ if list_all is_blank ls then Some b.model else None | false ↦ elim (line_read o b l) [ None ↦ None | Some next ↦ body_from o next ls ] ]) is
+    ap (λ (v : Bool). elim v [ true ↦ if list_all is_blank ls then Some b.model else None | false ↦ elim (line_read o b l) [ None ↦ None | Some next ↦ body_from o next ls ] ]) is
     ∙ ap (λ (r : Option Body). elim r [ None ↦ None | Some next ↦ body_from o next ls ]) line
 
 malformed_end : (o : Listed) (n : ℕ) (b : Body) (l : List ℕ) (ls : List (List ℕ)) → is_end l ≡ true → malformed_from o n b (l ∷ ls) ≡ first_unblank (n + 1) ls
-malformed_end o n b l ls is = ap (λ (v : Bool). elim v [ | true ↦ first_unblank (n + 1) ls | false ↦ elim (line_read o b l) [ None ↦ Some n | Some next ↦ malformed_from o (n + 1) next ls ] ]) is
+malformed_end o n b l ls is = ap (λ (v : Bool). elim v [ true ↦ first_unblank (n + 1) ls | false ↦ elim (line_read o b l) [ None ↦ Some n | Some next ↦ malformed_from o (n + 1) next ls ] ]) is
 
 malformed_line : (o : Listed) (n : ℕ) (b : Body) (l : List ℕ) (ls : List (List ℕ)) (read : Option Body) → is_end l ≡ false → line_read o b l ≡ read → malformed_from o n b (l ∷ ls) ≡ elim read [ None ↦ Some n | Some next ↦ malformed_from o (n + 1) next ls ]
 malformed_line o n b l ls read is line =
-    ap (λ (v : Bool). elim v [ | true ↦ first_unblank (n + 1) ls | false ↦ elim (line_read o b l) [ None ↦ Some n | Some next ↦ malformed_from o (n + 1) next ls ] ]) is
+    ap (λ (v : Bool). elim v [ true ↦ first_unblank (n + 1) ls | false ↦ elim (line_read o b l) [ None ↦ Some n | Some next ↦ malformed_from o (n + 1) next ls ] ]) is
     ∙ ap (λ (r : Option Body). elim r [ None ↦ Some n | Some next ↦ malformed_from o (n + 1) next ls ]) line
 
 -- some text begins with the lines before the k-th, and none with it
@@ -89,44 +95,56 @@ no_model found m none is = let clash : ◌≡◌ {A = Option Kept} None (Some m)
 
 body_first : (o : Listed) (b : Body) (n m : ℕ) (ls : List (List ℕ)) → malformed_from o n b ls ≡ Some m → (k : ℕ) × (m ≡ n + k) × IsFirstIn o b ls k
 body_first o b n m [] is =
-    let same : n ≡ m = cc is in
-    (0, omega (arith, same), record {
-      none = refl;
-      within = omega arith;
-      begins = (codes "end" ∷ [], b.model, refl);
-      stops = λ less rest k found. absurd (omega arith);
-    })
+    let same : n ≡ m = cc is in (
+      0,
+      omega (arith, same),
+      record {
+        none = refl;
+        within = omega arith;
+        begins = (codes "end" ∷ [], b.model, refl);
+        stops = λ less rest k found. absurd (omega arith);
+      },
+    )
 body_first o b n m (l ∷ ls) is = by_end (λ next. body_first o next (n + 1) m ls) (is_end l) refl
   where
     by_end : ((next : Body) → malformed_from o (n + 1) next ls ≡ Some m → (k : ℕ) × (m ≡ n + 1 + k) × IsFirstIn o next ls k) → (e : Bool) → is_end l ≡ e → (k : ℕ) × (m ≡ n + k) × IsFirstIn o b (l ∷ ls) k
     by_end behind true ends =
-        let more = unblank_at (n + 1) m ls (sym (malformed_end o n b l ls ends) ∙ is) in
-        (suc more.0, omega (arith, more.1), record {
-          none = body_ends o b l ls false ends more.2.none;
-          within = omega (arith, more.2.inside);
-          begins = ([], b.model, body_ends o b l (take more.0 ls ++ []) true ends more.2.blank);
-          stops = λ less rest k found. no_model _ k (body_ends o b l (take (suc more.0) ls ++ rest) false ends (more.2.word rest)) found;
-        })
+        let more = unblank_at (n + 1) m ls (sym (malformed_end o n b l ls ends) ∙ is) in (
+          suc more.0,
+          omega (arith, more.1),
+          record {
+            none = body_ends o b l ls false ends more.2.none;
+            within = omega (arith, more.2.inside);
+            begins = ([], b.model, body_ends o b l (take more.0 ls ++ []) true ends more.2.blank);
+            stops = λ less rest k found. no_model _ k (body_ends o b l (take (suc more.0) ls ++ rest) false ends (more.2.word rest)) found;
+          },
+        )
     by_end behind false goes = by_line (line_read o b l) refl
       where
         by_line : (read : Option Body) → line_read o b l ≡ read → (k : ℕ) × (m ≡ n + k) × IsFirstIn o b (l ∷ ls) k
         by_line None bad =
             let here : ◌≡◌ {A = Option ℕ} (Some n) (Some m) = sym (malformed_line o n b l ls None goes bad) ∙ is in
-            let same : n ≡ m = cc here in
-            (0, omega (arith, same), record {
-              none = body_line o b l ls None goes bad;
-              within = omega arith;
-              begins = (codes "end" ∷ [], b.model, refl);
-              stops = λ less rest k found. no_model _ k (body_line o b l rest None goes bad) found;
-            })
+            let same : n ≡ m = cc here in (
+              0,
+              omega (arith, same),
+              record {
+                none = body_line o b l ls None goes bad;
+                within = omega arith;
+                begins = (codes "end" ∷ [], b.model, refl);
+                stops = λ less rest k found. no_model _ k (body_line o b l rest None goes bad) found;
+              },
+            )
         by_line (Some next) good =
-            let more = behind next (sym (malformed_line o n b l ls (Some next) goes good) ∙ is) in
-            (suc more.0, omega (arith, more.1), record {
-              none = body_line o b l ls (Some next) goes good ∙ more.2.none;
-              within = omega (arith, more.2.within);
-              begins = (more.2.begins.0, more.2.begins.1, body_line o b l (take more.0 ls ++ more.2.begins.0) (Some next) goes good ∙ more.2.begins.2);
-              stops = λ less rest k found. more.2.stops (omega (arith, less)) rest k (sym (body_line o b l (take (suc more.0) ls ++ rest) (Some next) goes good) ∙ found);
-            })
+            let more = behind next (sym (malformed_line o n b l ls (Some next) goes good) ∙ is) in (
+              suc more.0,
+              omega (arith, more.1),
+              record {
+                none = body_line o b l ls (Some next) goes good ∙ more.2.none;
+                within = omega (arith, more.2.within);
+                begins = (more.2.begins.0, more.2.begins.1, body_line o b l (take more.0 ls ++ more.2.begins.0) (Some next) goes good ∙ more.2.begins.2);
+                stops = λ less rest k found. more.2.stops (omega (arith, less)) rest k (sym (body_line o b l (take (suc more.0) ls ++ rest) (Some next) goes good) ∙ found);
+              },
+            )
 
 body_is_text : (o : Listed) (b : Body) (n : ℕ) (ls : List (List ℕ)) → malformed_from o n b ls ≡ None → (k : Kept) × (body_from o b ls ≡ Some k)
 body_is_text o b n [] is = let clash : ◌≡◌ {A = Option ℕ} (Some n) None = is in absurd (cc clash)

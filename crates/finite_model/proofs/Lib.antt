@@ -4,3 +4,4 @@ pub mod Pairs
 pub mod Ranges
 pub mod Texts
 pub mod FirstLine
+pub mod Rows
