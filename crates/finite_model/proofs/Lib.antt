@@ -3,3 +3,5 @@ pub mod Maps
 pub mod Pairs
 pub mod Ranges
 pub mod Texts
+pub mod FirstLine
+pub mod Rows

@@ -50,3 +50,10 @@ told n = min n (2 ^ 32 - 1)
 abbrev pub IsFaultOfLine : Option ℕ → ModelFault → Type 0
 IsFaultOfLine malformed NoMemory = Unit {0}
 IsFaultOfLine malformed (Malformed line) = option_map told malformed ≡ Some line
+
+-- the malformed line that is told is the first, and without one the lines are a text
+abbrev pub MalformedIsFirst : Type 0
+MalformedIsFirst = (o : Listed) (lines : List (List ℕ)) (n : ℕ) → first_malformed o lines ≡ Some n → IsFirstMalformed o lines n
+
+abbrev pub UnlessMalformed : Type 0
+UnlessMalformed = (o : Listed) (lines : List (List ℕ)) → first_malformed o lines ≡ None → (k : Kept) × (model_of o lines ≡ Some k)

@@ -1,5 +1,5 @@
 // A finite interpretation.
-ghost use Rattle.std.specs.Prelude.{◌≡◌, ◌<◌, ◌≤◌, [], OnOk, OnErr, IfOk, ◌&&◌, nat_le};
+ghost use Rattle.std.specs.Prelude.{◌≡◌, ◌<◌, ◌≤◌, [], OnOk, OnErr, IfOk, ◌&&◌, ◌||◌, nat_le};
 ghost use Rattle.std.specs.BTreeSet.{insert_key};
 ghost use Rattle.shq_base.specs.Concept.{parts_of};
 ghost use Rattle.shq_meaning.specs.Below.{all_below, count_below};
@@ -275,15 +275,21 @@ impl Interp {
         met
     }
 
+    // Whether the element is outside the domain, or the pair is in the role.
+    fn is_pair_unless_outside(&self, role: u32, x: u32, y: u32) -> bool
+        ensures { result ≡ (nat_le self.now.size y || (meaning self.now).in_role role x y) }
+    {
+        y >= self.size || self.in_role(role, x, y)
+    }
+
     fn row_included(&self, role: u32, other: u32, x: u32) -> bool
+        requires { x < self.now.size }
         ensures { result ≡ all_below self.now.size (λ y. implies ((meaning self.now).in_role role x y) ((meaning self.now).in_role other x y)) }
     {
-        let mut met = true;
-        for y in 0..self.size {
-            let kept = !self.in_role(role, x, y) || self.in_role(other, x, y);
-            met = met && kept;
-        }
-        met
+        prove!(x < self.size);
+        self.links
+            .range((role, x, 0)..(role, x + 1, 0))
+            .all(|link| self.is_pair_unless_outside(other, x, link.2))
     }
 
     fn included(&self, role: u32, other: u32) -> bool
@@ -352,25 +358,30 @@ impl Interp {
     }
 
     fn passes_on(&self, role: u32, x: u32, y: u32) -> bool
+        requires { y < self.now.size }
         ensures { result ≡ all_below self.now.size (λ z. implies ((meaning self.now).in_role role y z) ((meaning self.now).in_role role x z)) }
     {
-        let mut met = true;
-        for z in 0..self.size {
-            let kept = !self.in_role(role, y, z) || self.in_role(role, x, z);
-            met = met && kept;
-        }
-        met
+        prove!(y < self.size);
+        self.links
+            .range((role, y, 0)..(role, y + 1, 0))
+            .all(|link| self.is_pair_unless_outside(role, x, link.2))
+    }
+
+    // Whether the element y is outside the domain, or x has the successors of y.
+    fn passes_on_unless_outside(&self, role: u32, x: u32, y: u32) -> bool
+        ensures { result ≡ (nat_le self.now.size y || all_below self.now.size (λ z. implies ((meaning self.now).in_role role y z) ((meaning self.now).in_role role x z))) }
+    {
+        y >= self.size || self.passes_on(role, x, y)
     }
 
     fn row_is_transitive(&self, role: u32, x: u32) -> bool
+        requires { x < self.now.size }
         ensures { result ≡ all_below self.now.size (λ y. implies ((meaning self.now).in_role role x y) (all_below self.now.size (λ z. implies ((meaning self.now).in_role role y z) ((meaning self.now).in_role role x z)))) }
     {
-        let mut met = true;
-        for y in 0..self.size {
-            let kept = !self.in_role(role, x, y) || self.passes_on(role, x, y);
-            met = met && kept;
-        }
-        met
+        prove!(x < self.size);
+        self.links
+            .range((role, x, 0)..(role, x + 1, 0))
+            .all(|link| self.passes_on_unless_outside(role, x, link.2))
     }
 
     fn is_transitive(&self, role: u32) -> bool
