@@ -11,6 +11,11 @@ each_pair test (x ∷ xs) (y ∷ ys) = test x y && each_pair test xs ys
 abbrev pub is_part : ℕ → ℕ → Bool
 is_part x y = bit_and x y == x
 
+-- whether there is no number in a list of which x is a part
+abbrev pub is_part_of_none : ℕ → List ℕ → Bool
+is_part_of_none x [] = true
+is_part_of_none x (y ∷ ys) = not (is_part x y) && is_part_of_none x ys
+
 -- whether x and y have no bit in common
 abbrev pub is_apart : ℕ → ℕ → Bool
 is_apart x y = bit_and x y == 0

@@ -2,7 +2,7 @@
 
 ghost use Rattle.std.specs.Prelude.{◌≡◌, ◌+◌, ◌≤◌, length, bit_or};
 ghost use Rattle.std.specs.Simd.Lanes.{zip2, chunk, put_chunk};
-ghost use Rattle.lane_sieve.specs.Words.{each_pair, is_part, is_apart};
+ghost use Rattle.lane_sieve.specs.Words.{each_pair, is_part, is_apart, is_part_of_none};
 
 use std::simd::prelude::*;
 
@@ -19,6 +19,17 @@ pub fn is_part_at(a: &[u64], b: &[u64], at: usize) -> bool
     let x = u64x4::from_slice(&a[at..]);
     let y = u64x4::from_slice(&b[at..]);
     (x & y).simd_ne(x).to_bitmask() == 0
+}
+
+/// Whether none of the four words of `list` at `at` has each bit of `word`.
+#[inline]
+pub fn is_part_of_none_at(word: u64, list: &[u64], at: usize) -> bool
+    requires { at + 4 ≤ length list.now }
+    ensures { result ≡ is_part_of_none word (chunk at 4 list.now) }
+{
+    let x = u64x4::splat(word);
+    let y = u64x4::from_slice(&list[at..]);
+    (x & y).simd_eq(x).to_bitmask() == 0
 }
 
 /// Whether no bit is set both in the block of `a` at `at` and in that of `b`.

@@ -3,7 +3,7 @@
 ghost use Rattle.std.specs.Prelude.{◌≡◌, ◌==◌, ◌<◌, ◌≤◌, [], ◌∷◌, ◌++◌, length, take, drop, slice_set, OnOk, OnErr};
 ghost use Rattle.lane_sieve.specs.Words.{is_subset, places};
 
-use crate::block::is_part_at;
+use crate::block::{BLOCK, is_part_at, is_part_of_none_at};
 use shq_base::NoMemory;
 use std::alloc::Global;
 use std::marker::Model;
@@ -12,16 +12,20 @@ use std::marker::Model;
 #[derive(Drop)]
 pub struct Lanes {
     prints: Vec<[u64; 4]>,
+
+    /// The first words of the prints, side by side.
+    firsts: Vec<u64>,
 }
 
 impl Model for Lanes {
     ghost use Rattle.std.specs.Prelude.{List, ℕ, ◌<◌, ◌^◌, length};
+    ghost use Rattle.lane_sieve.specs.Columns.{AreFirsts};
 
     ghost Value = { List (List ℕ) };
 
     ghost view = { λ t. t.prints.items };
 
-    ghost invariant = { λ t. length t.prints.items < 2 ^ 32 };
+    ghost invariant = { λ t. (length t.prints.items < 2 ^ 32) × AreFirsts t.firsts.items t.prints.items };
 }
 
 impl Lanes {
@@ -31,6 +35,7 @@ impl Lanes {
     {
         Lanes {
             prints: Vec::new(alloc),
+            firsts: Vec::new(alloc),
         }
     }
 
@@ -43,7 +48,11 @@ impl Lanes {
         if self.prints.len() >= u32::MAX as usize {
             return Err(NoMemory);
         }
-        self.prints.push(print)?;
+        self.firsts.push(print[0])?;
+        if self.prints.push(print).is_err() {
+            self.firsts.truncate(self.prints.len());
+            return Err(NoMemory);
+        }
         Ok(())
     }
 
@@ -53,6 +62,7 @@ impl Lanes {
         ensures { self.new ≡ slice_set self.old place print }
     {
         self.prints[place as usize] = print;
+        self.firsts[place as usize] = print[0];
     }
 
     /// Keeps the first `len` prints.
@@ -61,6 +71,7 @@ impl Lanes {
         ensures { self.new ≡ take len self.old }
     {
         self.prints.truncate(len as usize);
+        self.firsts.truncate(len as usize);
     }
 
     /// How many prints the table has.
@@ -86,9 +97,42 @@ pub fn candidates(print: [u64; 4], table: &Lanes, out: &mut [u32]) -> usize
     ensures found { take result out.new ≡ places 0 print table.now }
     ensures rest { drop result out.new ≡ drop result out.old }
 {
+    let firsts = table.firsts.as_slice();
+    let mut at = 0;
     let mut found = 0;
-    for (place, row) in table.prints.iter().enumerate() {
-        if is_covered(&print, row) {
+    while firsts.len() - at >= BLOCK {
+        if !is_part_of_none_at(print[0], firsts, at) {
+            found = write_covered(&print, table, at, at + BLOCK, out, found);
+        }
+        at += BLOCK;
+    }
+    write_covered(&print, table, at, firsts.len(), out, found)
+}
+
+/// Where the places before `from` that contain `print` stand at the front of `out`, `found` of them, writes behind them
+/// those from there to before `to`, and answers how many there are then.
+#[inline]
+fn write_covered(
+    print: &[u64; 4],
+    table: &Lanes,
+    from: usize,
+    to: usize,
+    out: &mut [u32],
+    found: usize,
+) -> usize
+    requires room { length table.now ≤ length out.old }
+    requires order { from ≤ to }
+    requires within { to ≤ length table.now }
+    requires found { found ≤ from }
+    requires before { take found out.old ≡ places 0 print.now (take from table.now) }
+    ensures count { result ≤ to }
+    ensures more { found ≤ result }
+    ensures found { take result out.new ≡ places 0 print.now (take to table.now) }
+    ensures rest { drop result out.new ≡ drop result out.old }
+{
+    let mut found = found;
+    for place in from..to {
+        if is_covered(print, &table.prints[place]) {
             out[found] = place as u32;
             found += 1;
         }
