@@ -1,7 +1,5 @@
 // The loops over single words that the kernels are compared with.
 
-ghost use Rattle.std.specs.Prelude.{◌≤◌, length};
-
 /// Whether each bit that is set in `a` is set at its place in `b`.
 pub fn plain_subset(a: &[u64], b: &[u64]) -> bool {
     for (x, y) in a.iter().zip(b) {
@@ -34,7 +32,7 @@ pub fn plain_union(a: &mut [u64], b: &[u64]) {
 pub fn plain_candidates(print: [u64; 4], rows: &[[u64; 4]], out: &mut [u32]) -> usize {
     let mut found = 0;
     for (place, row) in rows.iter().enumerate() {
-        if plain_subset(&print, row) && found < out.len() && place < 10_000 {
+        if plain_subset(&print, row) && found < out.len() && place < u32::MAX as usize {
             out[found] = place as u32;
             found += 1;
         }
