@@ -1,3 +1,5 @@
 pub mod Position
 pub mod Cut
 pub mod Uses
+pub mod Distinct
+pub mod Added

@@ -2,4 +2,5 @@ pub mod Node
 pub mod NodeFalls
 pub mod Listed
 pub mod Names
+pub mod Distinct
 pub mod Uses

@@ -3,6 +3,7 @@ ghost use Rattle.std.specs.Prelude.{◌≡◌, ◌<◌, ◌≤◌, ◌+◌, ◌-
 ghost use Rattle.std.specs.Str.{bytes_eq};
 ghost use Rattle.shq_terms.specs.Names.{number_of, with_name};
 ghost use Rattle.shq_terms.specs.Uses.{axiom_uses_listed, all_use_listed};
+ghost use Rattle.shq_terms.specs.Distinct.{AreDistinct};
 
 use crate::lists::push_item;
 use crate::names::NameList;
@@ -36,6 +37,7 @@ impl Model for Ontology {
     ghost use Rattle.shq_base.specs.Code.{concept_code};
     ghost use Rattle.shq_terms.specs.Listed.{Listed};
     ghost use Rattle.shq_terms.specs.Uses.{all_use_listed};
+    ghost use Rattle.shq_terms.specs.Distinct.{AreDistinct};
 
     ghost Value = { Listed };
 
@@ -43,7 +45,7 @@ impl Model for Ontology {
 
     ghost view = { λ o. record { axioms = o.axioms.items; classes = o.classes; roles = o.roles } };
 
-    ghost invariant = { λ o. (length o.axioms.items ≤ 20000) × (length o.classes ≤ 20000) × (length o.roles ≤ 1000) × (all_use_listed (length o.classes) (length o.roles) o.axioms.items ≡ true) };
+    ghost invariant = { λ o. (length o.axioms.items ≤ 20000) × (length o.classes ≤ 20000) × (length o.roles ≤ 1000) × (all_use_listed (length o.classes) (length o.roles) o.axioms.items ≡ true) × AreDistinct o.classes × AreDistinct o.roles };
 }
 
 impl Ontology {
@@ -70,6 +72,7 @@ impl Ontology {
     pub fn class_count(&self) -> u32
         ensures count { result ≡ length self.now.classes }
         ensures within { result ≤ MAX_CLASSES }
+        ensures distinct { AreDistinct self.now.classes }
     {
         self.classes.len()
     }
@@ -77,6 +80,7 @@ impl Ontology {
     pub fn role_count(&self) -> u32
         ensures count { result ≡ length self.now.roles }
         ensures within { result ≤ MAX_ROLES }
+        ensures distinct { AreDistinct self.now.roles }
     {
         self.roles.len()
     }
@@ -144,7 +148,6 @@ impl Ontology {
     }
 
     /// The number of a class. A listed name keeps its number, and a new name goes last.
-    #[tactic(auto, using(crate::proofs::Uses::all_use_more, crate::proofs::Uses::with_name_longer))]
     pub fn add_class(&mut self, iri: &str) -> Result<u32, AddFault>
         ensures number { IfOk result (λ k. k ≡ number_of self.old.classes iri.now) }
         ensures added { OnOk result (self.new ≡ record self.old { classes = with_name self.old.classes iri.now }) }
@@ -156,7 +159,6 @@ impl Ontology {
     }
 
     /// The number of a role. A listed name keeps its number, and a new name goes last.
-    #[tactic(auto, using(crate::proofs::Uses::all_use_more, crate::proofs::Uses::with_name_longer))]
     pub fn add_role(&mut self, iri: &str) -> Result<u32, AddFault>
         ensures number { IfOk result (λ k. k ≡ number_of self.old.roles iri.now) }
         ensures added { OnOk result (self.new ≡ record self.old { roles = with_name self.old.roles iri.now }) }
@@ -186,6 +188,7 @@ impl Ontology {
     }
 
     /// Keeps the first names of each kind alone. No axiom uses a name that is cut.
+    #[tactic(auto, using(crate::proofs::Distinct::taken_distinct))]
     pub fn cut_names(&mut self, classes: u32, roles: u32)
         requires classes { classes ≤ length self.old.classes }
         requires roles { roles ≤ length self.old.roles }

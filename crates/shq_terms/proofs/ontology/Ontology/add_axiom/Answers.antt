@@ -11,4 +11,4 @@ invariant_of-self-2 c =
     let one : axiom_uses_listed (length inside.classes) (length inside.roles) c.args.axiom ≡ true =
     subst (λ (o : Listed). axiom_uses_listed (length o.classes) (length o.roles) c.args.axiom ≡ true) (sym c.self.view_is) c.requires in
     let all = ap (λ l. all_use_listed (length inside.classes) (length inside.roles) l) pushed ∙ all_use_push (length inside.classes) (length inside.roles) inside.axioms.items _ c.self.invariant.3 one in
-    (omega (arith, simp length-append at (ap length pushed)), c.self.invariant.1, c.self.invariant.2, all)
+    (omega (arith, simp length-append at (ap length pushed)), c.self.invariant.1, c.self.invariant.2, all, c.self.invariant.4, c.self.invariant.5)
