@@ -1,5 +1,5 @@
 -- Numerals, as std reads them.
-use Rattle.std.proofs.Common.{◌≡◌, ℕ, ◌<◌, ◌^◌, Bool, true, false, not, ◌&&◌, ◌||◌, List, [], ◌∷◌, length, refl, ap, Some, None, Option, Result, Ok, Err, arith, sym, ◌∙◌, subst}
+use Rattle.std.proofs.Common.{◌≡◌, ℕ, ◌<◌, ◌^◌, Bool, true, false, not, ◌&&◌, ◌||◌, List, [], ◌∷◌, length, refl, ap, None, Result, Err, arith, sym, ◌∙◌, subst}
 use Rattle.std.specs.Prelude.{nat_lt, nat_eq, slice_index}
 use Rattle.std.specs.Char.{is_ascii_digit}
 use Rattle.std.specs.List.{list_all}
@@ -11,11 +11,11 @@ use Rattle.std.proofs.lemmas.Str.Parse.{IsNumeralModel, numerals_by_value, tells
 use Rattle.std.proofs.lemmas.Fmt.{IsAscii-from_digits}
 use Rattle.certificate_lines.specs.Lines.{is_numeral, small_value}
 
-digits_all : (bs : List ℕ) → list_all is_ascii_digit bs ≡ all_ascii_digits bs
+pub digits_all : (bs : List ℕ) → list_all is_ascii_digit bs ≡ all_ascii_digits bs
 digits_all [] = refl
 digits_all (b ∷ bs) = ap (λ v. is_ascii_digit b && v) (digits_all bs)
 
-own : IsNumeralModel (λ ds. all_ascii_digits ds ≡ true) (digits_value 10)
+pub own : IsNumeralModel (λ ds. all_ascii_digits ds ≡ true) (digits_value 10)
 own = numerals_by_value _ tells_all_ascii_digits
 
 first : (a b : Bool) → (a && b) ≡ true → a ≡ true

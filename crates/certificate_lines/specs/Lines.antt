@@ -1,5 +1,5 @@
 -- A text as lines, a line as words, and what a word stands for.
-use Rattle.std.specs.Prelude.{ℕ, ◌+◌, ◌-◌, ◌^◌, Bool, not, ◌&&◌, ◌||◌, List, length, take, drop, map, nat_eq, nat_lt, Option, Some, None, if◌then◌else◌, slice_index}
+use Rattle.std.specs.Prelude.{ℕ, ◌-◌, ◌^◌, Bool, not, ◌&&◌, ◌||◌, List, length, take, drop, map, nat_eq, nat_lt, Option, Some, None, if◌then◌else◌, slice_index}
 use Rattle.std.specs.List.{list_all, slice_split}
 use Rattle.std.specs.Char.{is_ascii_digit}
 use Rattle.std.specs.Str.Lines.{strip_carriage_return}

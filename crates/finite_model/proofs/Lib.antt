@@ -1,7 +1,16 @@
-pub mod Failing
 pub mod Maps
 pub mod Pairs
 pub mod Ranges
 pub mod Texts
 pub mod FirstLine
 pub mod Rows
+pub mod First
+pub mod Skipped
+pub mod Empty
+pub mod Nexts
+pub mod Candidates
+pub mod Groups
+pub mod Numerals
+pub mod TextLines
+pub mod TextRead
+pub mod TextBack

@@ -8,17 +8,7 @@ use Rattle.std.specs.BTreeMap.Range.{range_contains}
 use Rattle.std.proofs.lemmas.Bool.Decides.{nat_tests}
 use Rattle.shq_meaning.specs.Below.{all_below}
 use Rattle.shq_meaning.specs.Truth.{implies}
-use Rattle.std.specs.declared.cmp.Ordering.{Ordering}
-use Rattle.std.specs.Ordering.{nat_cmp, ordering_then}
-use Rattle.finite_model.specs.Kept.{is_link}
-
--- the pair begins with the element, in the role
-abbrev pub is_from : ℕ → ℕ → ℕ × ℕ × ℕ → Bool
-is_from r x l = nat_eq l.0 r && nat_eq l.1 x
-
--- the order of triples as a set of them keeps it
-abbrev pub tuple_cmp : ℕ × ℕ × ℕ → ℕ × ℕ × ℕ → Ordering
-tuple_cmp a b = ordering_then (ordering_then (nat_cmp a.0 b.0) (nat_cmp a.1 b.1)) (nat_cmp a.2 b.2)
+use Rattle.finite_model.specs.Kept.{is_link, is_from, tuple_cmp}
 
 -- the part of a set of triples that begin with r and x
 abbrev pub row_of : ℕ → ℕ → List (ℕ × ℕ × ℕ) → List (ℕ × ℕ × ℕ)

@@ -19,6 +19,14 @@ is_member a x m = nat_eq m.0 a && nat_eq m.1 x
 abbrev pub is_link : ℕ → ℕ → ℕ → ℕ × ℕ × ℕ → Bool
 is_link r x y l = nat_eq l.0 r && nat_eq l.1 x && nat_eq l.2 y
 
+-- the pair begins with the element, in the role
+abbrev pub is_from : ℕ → ℕ → ℕ × ℕ × ℕ → Bool
+is_from r x l = nat_eq l.0 r && nat_eq l.1 x
+
+-- some pair of the role begins with the element
+abbrev pub begins : Kept → ℕ → ℕ → Bool
+begins k r x = list_any (is_from r x) k.links
+
 abbrev pub meaning : Kept → Interpretation
 meaning k = record {
   size = k.size;
@@ -33,3 +41,7 @@ member_cmp a b = ordering_then (nat_cmp a.0 b.0) (nat_cmp a.1 b.1)
 -- by role, then by the first of the pair, and then by the second
 abbrev pub link_cmp : ℕ × ℕ × ℕ → ℕ × ℕ × ℕ → Ordering
 link_cmp a b = ordering_then (nat_cmp a.0 b.0) (ordering_then (nat_cmp a.1 b.1) (nat_cmp a.2 b.2))
+
+-- the same order, as a set of triples keeps it
+abbrev pub tuple_cmp : ℕ × ℕ × ℕ → ℕ × ℕ × ℕ → Ordering
+tuple_cmp a b = ordering_then (ordering_then (nat_cmp a.0 b.0) (nat_cmp a.1 b.1)) (nat_cmp a.2 b.2)

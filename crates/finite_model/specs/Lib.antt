@@ -1,5 +1,7 @@
 pub mod Kept
+pub mod Next
 pub mod ModelText
 pub mod Malformed
 pub mod BodyRead
 pub mod Written
+pub mod ReadBack

@@ -1,14 +1,18 @@
-// A finite interpretation.
-ghost use Rattle.std.specs.Prelude.{◌≡◌, ◌<◌, ◌≤◌, [], OnOk, OnErr, IfOk, ◌&&◌, ◌||◌, nat_le};
+// A finite interpretation: what it keeps, and how elements are found in it.
+ghost use Rattle.std.specs.Prelude.{◌≡◌, ◌<◌, ◌≤◌, ◌+◌, ◌^◌, [], true, false, OnOk, OnErr, IfOk, IfSome, ◌||◌, nat_le, slice_get};
+ghost use Rattle.std.specs.BTreeMap.Range.{range_contains};
 ghost use Rattle.std.specs.BTreeSet.{insert_key};
-ghost use Rattle.shq_base.specs.Concept.{parts_of};
-ghost use Rattle.shq_meaning.specs.Below.{all_below, count_below};
-ghost use Rattle.shq_meaning.specs.Truth.{holds, hold_all, hold_any, successors, each_successor, implies, same, all_same, none_twice, included, roles_equal, meets, refutes_at};
-ghost use Rattle.shq_meaning.specs.Least.{IsFirstBelow};
-ghost use Rattle.finite_model.specs.Kept.{meaning, member_cmp, link_cmp};
+ghost use Rattle.std.specs.List.{filter};
+ghost use Rattle.std.specs.List.Sorted.{IsStrictlySortedBy};
+ghost use Rattle.std.specs.Ordering.{is_gt};
+ghost use Rattle.std.specs.declared.ops.Bound.TheVariants.{Included};
+ghost use Rattle.shq_meaning.specs.Below.{all_below};
+ghost use Rattle.shq_meaning.specs.Truth.{implies};
+ghost use Rattle.finite_model.specs.Kept.{meaning, begins, member_cmp, link_cmp, tuple_cmp};
+ghost use Rattle.finite_model.specs.Next.{IsNext, within};
 ghost use Rattle.finite_model.specs.Written.{elements_of, pairs_of};
 
-use shq_terms::{Axiom, Concept, NoMemory, Node, Query};
+use shq_terms::NoMemory;
 use std::alloc::Global;
 use std::collections::BTreeSet;
 use std::marker::Model;
@@ -105,174 +109,81 @@ impl Interp {
         )
     }
 
-    fn in_class(&self, class: u32, x: u32) -> bool
+    pub(crate) fn in_class(&self, class: u32, x: u32) -> bool
         ensures { result ≡ (meaning self.now).in_class class x }
     {
         self.members.contains(&(class, x))
     }
 
-    fn in_role(&self, role: u32, x: u32, y: u32) -> bool
+    pub(crate) fn in_role(&self, role: u32, x: u32, y: u32) -> bool
         ensures { result ≡ (meaning self.now).in_role role x y }
     {
         self.links.contains(&(role, x, y))
     }
 
-    /// Whether the element is in the class expression (OWL 2 Direct Semantics, section 2.2.3). The element is below the size.
-    #[cycle(truth)]
-    pub fn holds(&self, concept: &Concept, x: u32) -> bool
+    /// The number behind that of an element.
+    pub(crate) fn behind(&self, x: u32) -> u32
         requires { x < self.now.size }
-        ensures { result ≡ holds (meaning self.now) concept.now x }
+        ensures { result ≡ x + 1 }
     {
-        match &concept.node {
-            Node::Top => true,
-            Node::Bottom => false,
-            Node::Name(class) => self.in_class(*class, x),
-            Node::Not(inner) => !self.holds(inner, x),
-            Node::And(parts) => self.all_hold(parts, x),
-            Node::Or(parts) => self.any_holds(parts, x),
-            Node::SomeOf(role, filler) => self.successors(*role, filler, x) >= 1,
-            Node::AllOf(role, filler) => self.each_successor(*role, filler, x),
-            Node::Min(count, role, filler) => self.successors(*role, filler, x) >= *count,
-            Node::Max(count, role, filler) => self.successors(*role, filler, x) <= *count,
-            Node::Exact(count, role, filler) => self.successors(*role, filler, x) == *count,
-        }
+        prove!(x < self.size);
+        x + 1
     }
 
-    #[cycle(truth)]
-    fn all_hold(&self, parts: &[Concept], x: u32) -> bool
-        requires { x < self.now.size }
-        ensures { result ≡ hold_all (meaning self.now) (parts_of parts.now) x }
+    /// The element of that number, if there are so many.
+    pub(crate) fn next_element(&self, from: u32) -> Option<u32>
+        ensures { result ≡ within self.now.size from }
     {
-        for part in parts {
-            if !self.holds(part, x) {
-                return false;
-            }
-        }
-        true
+        if from < self.size { Some(from) } else { None }
     }
 
-    #[cycle(truth)]
-    fn any_holds(&self, parts: &[Concept], x: u32) -> bool
-        requires { x < self.now.size }
-        ensures { result ≡ hold_any (meaning self.now) (parts_of parts.now) x }
+    // The least member between the bounds.
+    fn first_member(&self, low: (u32, u32), high: (u32, u32)) -> Option<(u32, u32)>
+        requires { is_gt (member_cmp low high) ≡ false }
+        ensures first { result ≡ slice_get (filter (range_contains member_cmp (Included low) (Included high)) self.now.members) 0 }
+        ensures ordered { IsStrictlySortedBy member_cmp self.now.members }
+        ensures small { self.now.size < 2 ^ 32 }
     {
-        for part in parts {
-            if self.holds(part, x) {
-                return true;
-            }
-        }
-        false
+        prove!(self.size >= 1);
+        let mut members = self.members.range(low..=high);
+        members.next().copied()
     }
 
-    /// How many successors in the role are in the filler.
-    #[cycle(truth)]
-    fn successors(&self, role: u32, filler: &Concept, x: u32) -> u32
-        requires { x < self.now.size }
-        ensures { result ≡ successors (meaning self.now) role (holds (meaning self.now) filler.now) x }
+    // The least pair between the bounds, with its role.
+    fn first_link(&self, low: (u32, u32, u32), high: (u32, u32, u32)) -> Option<(u32, u32, u32)>
+        requires { is_gt (tuple_cmp low high) ≡ false }
+        ensures first { result ≡ slice_get (filter (range_contains tuple_cmp (Included low) (Included high)) self.now.links) 0 }
+        ensures ordered { IsStrictlySortedBy tuple_cmp self.now.links }
+        ensures small { self.now.size < 2 ^ 32 }
     {
-        let mut count = 0;
-        for y in 0..self.size {
-            if self.in_role(role, x, y) && self.holds(filler, y) {
-                count += 1;
-            }
-        }
-        count
+        prove!(self.size >= 1);
+        let mut links = self.links.range(low..=high);
+        links.next().copied()
     }
 
-    /// Whether each successor in the role is in the filler.
-    #[cycle(truth)]
-    fn each_successor(&self, role: u32, filler: &Concept, x: u32) -> bool
-        requires { x < self.now.size }
-        ensures { result ≡ each_successor (meaning self.now) role (holds (meaning self.now) filler.now) x }
+    /// The next element of the class.
+    pub(crate) fn next_member(&self, class: u32, from: u32) -> Option<u32>
+        ensures { IsNext self.now.size from ((meaning self.now).in_class class) result }
     {
-        for y in 0..self.size {
-            if self.in_role(role, x, y) && !self.holds(filler, y) {
-                return false;
-            }
-        }
-        true
+        let member = self.first_member((class, from), (class, u32::MAX))?;
+        self.next_element(member.1)
     }
 
-    /// The least element in the left side of the query and outside its right side. `None` exactly where there is none.
-    pub fn refutes(&self, query: &Query) -> Option<u32>
-        ensures { IsFirstBelow self.now.size (refutes_at (meaning self.now) query.now) result }
+    /// The next successor of the element in the role.
+    pub(crate) fn next_successor(&self, role: u32, x: u32, from: u32) -> Option<u32>
+        ensures next { IsNext self.now.size from ((meaning self.now).in_role role x) result }
+        ensures successor { IfSome result (λ y. (meaning self.now).in_role role x y ≡ true) }
     {
-        for x in 0..self.size {
-            if self.holds(&query.sub, x) && !self.holds(&query.sup, x) {
-                return Some(x);
-            }
-        }
-        None
+        let link = self.first_link((role, x, from), (role, x, u32::MAX))?;
+        self.next_element(link.2)
     }
 
-    fn includes(&self, sub: &Concept, sup: &Concept) -> bool
-        ensures { result ≡ all_below self.now.size (λ x. implies (holds (meaning self.now) sub.now x) (holds (meaning self.now) sup.now x)) }
+    /// The next element with which a pair of the role begins.
+    pub(crate) fn next_beginning(&self, role: u32, from: u32) -> Option<u32>
+        ensures { IsNext self.now.size from (begins self.now role) result }
     {
-        for x in 0..self.size {
-            if self.holds(sub, x) && !self.holds(sup, x) {
-                return false;
-            }
-        }
-        true
-    }
-
-    /// Whether the interpretation meets the axiom (OWL 2 Direct Semantics, section 2.3).
-    pub fn meets(&self, axiom: &Axiom) -> bool
-        ensures { result ≡ meets (meaning self.now) «axiom».now }
-    {
-        match axiom {
-            Axiom::SubClassOf(sub, sup) => self.includes(sub, sup),
-            Axiom::EquivalentClasses(parts) => self.all_same(parts.items()),
-            Axiom::DisjointClasses(parts) => self.disjoint(parts.items()),
-            Axiom::DisjointUnion(whole, parts) => self.is_union(whole, parts.items()),
-            Axiom::SubRole(role, other) => self.included(*role, *other),
-            Axiom::EquivalentRoles(roles) => self.roles_equal(roles.items()),
-            Axiom::Domain(role, class) => self.has_domain(*role, class),
-            Axiom::Range(role, class) => self.has_range(*role, class),
-            Axiom::Functional(role) => self.is_functional(*role),
-            Axiom::Transitive(role) => self.is_transitive(*role),
-        }
-    }
-
-    fn all_same(&self, parts: &[Concept]) -> bool
-        ensures { result ≡ all_below self.now.size (λ x. all_same (meaning self.now) parts.now x) }
-    {
-        let mut met = true;
-        for x in 0..self.size {
-            let same = !self.any_holds(parts, x) || self.all_hold(parts, x);
-            met = met && same;
-        }
-        met
-    }
-
-    fn none_twice(&self, parts: &[Concept], x: u32) -> bool
-        requires { x < self.now.size }
-        ensures { result ≡ none_twice (meaning self.now) parts.now x }
-    {
-        parts.iter().filter(|part| self.holds(part, x)).count() <= 1
-    }
-
-    fn disjoint(&self, parts: &[Concept]) -> bool
-        ensures { result ≡ all_below self.now.size (λ x. none_twice (meaning self.now) parts.now x) }
-    {
-        let mut met = true;
-        for x in 0..self.size {
-            let apart = self.none_twice(parts, x);
-            met = met && apart;
-        }
-        met
-    }
-
-    fn is_union(&self, whole: &Concept, parts: &[Concept]) -> bool
-        ensures { result ≡ all_below self.now.size (λ x. same (holds (meaning self.now) whole.now x) (hold_any (meaning self.now) (parts_of parts.now) x) && none_twice (meaning self.now) parts.now x) }
-    {
-        let mut met = true;
-        for x in 0..self.size {
-            let joined = self.holds(whole, x) == self.any_holds(parts, x)
-                && self.none_twice(parts, x);
-            met = met && joined;
-        }
-        met
+        let link = self.first_link((role, from, 0), (role, u32::MAX, u32::MAX))?;
+        self.next_element(link.1)
     }
 
     // Whether the element is outside the domain, or the pair is in the role.
@@ -282,7 +193,7 @@ impl Interp {
         y >= self.size || self.in_role(role, x, y)
     }
 
-    fn row_included(&self, role: u32, other: u32, x: u32) -> bool
+    pub(crate) fn row_included(&self, role: u32, other: u32, x: u32) -> bool
         requires { x < self.now.size }
         ensures { result ≡ all_below self.now.size (λ y. implies ((meaning self.now).in_role role x y) ((meaning self.now).in_role other x y)) }
     {
@@ -290,71 +201,6 @@ impl Interp {
         self.links
             .range((role, x, 0)..(role, x + 1, 0))
             .all(|link| self.is_pair_unless_outside(other, x, link.2))
-    }
-
-    fn included(&self, role: u32, other: u32) -> bool
-        ensures { result ≡ included (meaning self.now) role other }
-    {
-        let mut met = true;
-        for x in 0..self.size {
-            let row = self.row_included(role, other, x);
-            met = met && row;
-        }
-        met
-    }
-
-    fn roles_equal(&self, roles: &[u32]) -> bool
-        ensures { result ≡ roles_equal (meaning self.now) roles.now }
-    {
-        let Some(first) = roles.first() else {
-            return true;
-        };
-        roles.iter().all(|other| self.included(*first, *other) && self.included(*other, *first))
-    }
-
-    fn has_domain(&self, role: u32, class: &Concept) -> bool
-        ensures { result ≡ meets (meaning self.now) (Axiom.Domain role class.now) }
-    {
-        let mut met = true;
-        for x in 0..self.size {
-            let kept = self.out_degree(role, x) < 1 || self.holds(class, x);
-            met = met && kept;
-        }
-        met
-    }
-
-    fn has_range(&self, role: u32, class: &Concept) -> bool
-        ensures { result ≡ meets (meaning self.now) (Axiom.Range role class.now) }
-    {
-        let mut met = true;
-        for x in 0..self.size {
-            let row = self.each_successor(role, class, x);
-            met = met && row;
-        }
-        met
-    }
-
-    fn out_degree(&self, role: u32, x: u32) -> u32
-        ensures { result ≡ count_below self.now.size (λ y. (meaning self.now).in_role role x y) }
-    {
-        let mut count = 0;
-        for y in 0..self.size {
-            if self.in_role(role, x, y) {
-                count += 1;
-            }
-        }
-        count
-    }
-
-    fn is_functional(&self, role: u32) -> bool
-        ensures { result ≡ meets (meaning self.now) (Axiom.Functional role) }
-    {
-        let mut met = true;
-        for x in 0..self.size {
-            let single = self.out_degree(role, x) <= 1;
-            met = met && single;
-        }
-        met
     }
 
     fn passes_on(&self, role: u32, x: u32, y: u32) -> bool
@@ -374,7 +220,7 @@ impl Interp {
         y >= self.size || self.passes_on(role, x, y)
     }
 
-    fn row_is_transitive(&self, role: u32, x: u32) -> bool
+    pub(crate) fn row_is_transitive(&self, role: u32, x: u32) -> bool
         requires { x < self.now.size }
         ensures { result ≡ all_below self.now.size (λ y. implies ((meaning self.now).in_role role x y) (all_below self.now.size (λ z. implies ((meaning self.now).in_role role y z) ((meaning self.now).in_role role x z)))) }
     {
@@ -382,16 +228,5 @@ impl Interp {
         self.links
             .range((role, x, 0)..(role, x + 1, 0))
             .all(|link| self.passes_on_unless_outside(role, x, link.2))
-    }
-
-    fn is_transitive(&self, role: u32) -> bool
-        ensures { result ≡ meets (meaning self.now) (Axiom.Transitive role) }
-    {
-        let mut met = true;
-        for x in 0..self.size {
-            let row = self.row_is_transitive(role, x);
-            met = met && row;
-        }
-        met
     }
 }

@@ -1,13 +1,15 @@
 // Finite interpretations, and what they meet and refute.
 #![tactic(auto)]
 
+mod axioms;
 mod interp;
 mod laws;
 mod reading;
+mod truth;
 mod writing;
 
 pub use interp::Interp;
-pub use laws::{a_text_has_no_malformed_line, malformed_line_is_the_first};
+pub use laws::{a_text_has_no_malformed_line, malformed_line_is_the_first, models_are_read_back};
 pub use reading::{ModelFault, read_text};
 pub use shq_base::NoMemory;
 

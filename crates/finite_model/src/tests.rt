@@ -176,3 +176,16 @@ fn writes_a_model(rt: HostRuntime) -> Result<(), Fail> {
     assert!(rt; text.as_slice() == wanted);
     Ok(())
 }
+
+#[test]
+fn a_great_size_costs_nothing(rt: HostRuntime) -> Result<(), Fail> {
+    let two = two_of_the_same(rt.alloc())?;
+    let mut model = Interp::new(rt.alloc(), 4_294_967_295);
+    put(&mut model, 0, 4_294_967_294)?;
+    for (end, single) in [(4_294_967_294, true), (7, false)] {
+        join(&mut model, 4_294_967_294, end)?;
+        assert_eq!(rt; model.meets(&Axiom::Functional(0)), single);
+        assert!(rt; !model.meets(&two));
+    }
+    Ok(())
+}

@@ -1,4 +1,3 @@
-use Rattle.std.proofs.Common.{subst}
 use Rattle.certificate_lines.proofs.Digits.{numeral_is_text, small_value_err}
 use Rattle.certificate_lines.proofs.small_value.Goals as goal
 

@@ -1,0 +1,163 @@
+-- The text of a model is read back whole.
+use Rattle.std.proofs.Common.{◌≡◌, ℕ, ◌+◌, ◌^◌, ◌<◌, ◌≤◌, Bool, true, false, ◌&&◌, cond, List, [], ◌∷◌, ◌++◌, length, map, refl, ap, sym, subst, ◌∙◌, Some, None, arith, append_assoc}
+use Rattle.std.specs.Prelude.{nat_eq, nat_lt, codes, decimal, slice_get, option_and_then, if◌then◌else◌}
+use Rattle.std.specs.List.{filter, list_all, list_any}
+use Rattle.std.specs.List.Sorted.{IsStrictlySortedBy}
+use Rattle.std.specs.declared.cmp.Ordering.TheVariants.{Less, Greater}
+use Rattle.std.proofs.lemmas.Bool.{and_parts}
+use Rattle.std.proofs.lemmas.Bool.Decides.{nat_tests}
+use Rattle.certificate_lines.specs.Lines.{lines, words}
+use Rattle.certificate_lines.specs.Written.{is_line}
+use Rattle.certificate_lines.proofs.ReadBack.{words_read, lines_read, number_read}
+use Rattle.shq_terms.specs.Listed.{Listed}
+use Rattle.finite_model.specs.Kept.{Kept, member_cmp, link_cmp}
+use Rattle.finite_model.specs.ModelText.{with_elements, with_pairs, body_from, size_line, empty_body, model_of}
+use Rattle.finite_model.specs.Written.{elements_of, pairs_of, model_text}
+use Rattle.finite_model.specs.ReadBack.{is_plain, AreNames, IsKept}
+use Rattle.finite_model.specs.declared.reading.Pair.{Pair}
+use Rattle.finite_model.proofs.Groups.{insert_each, insert_each-append, inserted_each, groups, all_groups}
+use Rattle.finite_model.proofs.Numerals.{pair_word, pair_of, Ascend, PairsAscend, elements_ascend, at_least_none, pairs_ascend, pair_at_least_none}
+use Rattle.finite_model.proofs.TextLines.{class_row, role_row, rows_of_class, rows_of_role, class_rows, role_rows, size_row, model_rows, model_text_same, words_of_plain, line_of_plain, plain_decimal, lines_both}
+use Rattle.finite_model.proofs.TextRead.{both, plain_decimals, plain_pairs, row_is_line, StandAt, with_classes, with_roles, classes_read, roles_read}
+
+-- ---- what is put in is what is kept
+
+with_elements_is : (a : ℕ) (xs : List ℕ) (k : Kept) → with_elements a xs k ≡ record k { members = insert_each member_cmp k.members (map (λ x. (a, x)) xs) }
+with_elements_is a [] k = refl
+with_elements_is a (x ∷ xs) k = with_elements_is a xs (record k { members = insert_each member_cmp k.members ((a, x) ∷ []) })
+
+with_pairs_is : (r : ℕ) (ps : List Pair) (k : Kept) → with_pairs r ps k ≡ record k { links = insert_each link_cmp k.links (map (λ p. (r, p.from, p.to)) ps) }
+with_pairs_is r [] k = refl
+with_pairs_is r (p ∷ ps) k = with_pairs_is r ps (record k { links = insert_each link_cmp k.links ((r, p.from, p.to) ∷ []) })
+
+same_number : (m a : ℕ) → nat_eq m a ≡ true → m ≡ a
+same_number m a h = grind (arith, nat_tests)
+
+elements_again : (a : ℕ) (ms : List (ℕ × ℕ)) → map (λ x. (a, x)) (elements_of a ms) ≡ filter (λ m. nat_eq m.0 a) ms
+elements_again a [] = refl
+elements_again a (m ∷ ms) = by (nat_eq m.0 a) refl (elements_again a ms)
+  where
+    by : (b : Bool) → nat_eq m.0 a ≡ b → map (λ x. (a, x)) (map (λ n. n.1) (filter (λ n. nat_eq n.0 a) ms)) ≡ filter (λ n. nat_eq n.0 a) ms → map (λ x. (a, x)) (map (λ n. n.1) (cond b (m ∷ filter (λ n. nat_eq n.0 a) ms) (filter (λ n. nat_eq n.0 a) ms))) ≡ cond b (m ∷ filter (λ n. nat_eq n.0 a) ms) (filter (λ n. nat_eq n.0 a) ms)
+    by true h rest = let same = same_number m.0 a h in λ i. (sym same i, m.1) ∷ rest i
+    by false h rest = rest
+
+pairs_again : (r : ℕ) (ls : List (ℕ × ℕ × ℕ)) → map (λ p. (r, p.from, p.to)) (map pair_of (pairs_of r ls)) ≡ filter (λ l. nat_eq l.0 r) ls
+pairs_again r [] = refl
+pairs_again r (l ∷ ls) = by (nat_eq l.0 r) refl (pairs_again r ls)
+  where
+    by : (b : Bool) → nat_eq l.0 r ≡ b → map (λ p. (r, p.from, p.to)) (map pair_of (filter (λ n. nat_eq n.0 r) ls)) ≡ filter (λ n. nat_eq n.0 r) ls → map (λ p. (r, p.from, p.to)) (map pair_of (cond b (l ∷ filter (λ n. nat_eq n.0 r) ls) (filter (λ n. nat_eq n.0 r) ls))) ≡ cond b (l ∷ filter (λ n. nat_eq n.0 r) ls) (filter (λ n. nat_eq n.0 r) ls)
+    by true h rest = let same = same_number l.0 r h in λ i. (sym same i, l.1, l.2) ∷ rest i
+    by false h rest = rest
+
+with_classes_is : (ns : List (List ℕ)) (a : ℕ) (ms : List (ℕ × ℕ)) (k : Kept) → with_classes a ns ms k ≡ record k { members = insert_each member_cmp k.members (groups (λ m. m.0) a ns ms) }
+with_classes_is [] a ms k = refl
+with_classes_is (n ∷ ns) a ms k =
+    ap (with_classes (a + 1) ns ms) (with_elements_is a (elements_of a ms) k ∙ ap (λ us. record k { members = insert_each member_cmp k.members us }) (elements_again a ms))
+    ∙ with_classes_is ns (a + 1) ms (record k { members = insert_each member_cmp k.members (filter (λ m. nat_eq m.0 a) ms) })
+    ∙ ap (λ us. record k { members = us }) (sym (insert_each-append member_cmp (filter (λ m. nat_eq m.0 a) ms) (groups (λ m. m.0) (a + 1) ns ms) k.members))
+
+with_roles_is : (ns : List (List ℕ)) (r : ℕ) (ls : List (ℕ × ℕ × ℕ)) (k : Kept) → with_roles r ns ls k ≡ record k { links = insert_each link_cmp k.links (groups (λ l. l.0) r ns ls) }
+with_roles_is [] r ls k = refl
+with_roles_is (n ∷ ns) r ls k =
+    ap (with_roles (r + 1) ns ls) (with_pairs_is r (map pair_of (pairs_of r ls)) k ∙ ap (λ us. record k { links = insert_each link_cmp k.links us }) (pairs_again r ls))
+    ∙ with_roles_is ns (r + 1) ls (record k { links = insert_each link_cmp k.links (filter (λ l. nat_eq l.0 r) ls) })
+    ∙ ap (λ us. record k { links = us }) (sym (insert_each-append link_cmp (filter (λ l. nat_eq l.0 r) ls) (groups (λ l. l.0) (r + 1) ns ls) k.links))
+
+member_turned : (m n : ℕ × ℕ) → member_cmp m n ≡ Less → member_cmp n m ≡ Greater
+member_turned m n h = grind (arith, nat_tests)
+
+member_rises : (m n : ℕ × ℕ) → member_cmp m n ≡ Less → m.0 ≤ n.0
+member_rises m n h = grind (arith, nat_tests)
+
+link_turned : (l m : ℕ × ℕ × ℕ) → link_cmp l m ≡ Less → link_cmp m l ≡ Greater
+link_turned l m h = grind (arith, nat_tests)
+
+link_rises : (l m : ℕ × ℕ × ℕ) → link_cmp l m ≡ Less → l.0 ≤ m.0
+link_rises l m h = grind (arith, nat_tests)
+
+-- ---- each line is a line
+
+class_rows_lines : (size : ℕ) → size < 2 ^ 32 → (ms : List (ℕ × ℕ)) → IsStrictlySortedBy member_cmp ms → list_all (λ m. nat_lt m.1 size) ms ≡ true → (ns : List (List ℕ)) (a : ℕ) → list_all (list_all is_plain) ns ≡ true → list_all is_line (class_rows a ns ms) ≡ true
+class_rows_lines size small ms sorted below [] a plain = refl
+class_rows_lines size small ms sorted below (n ∷ ns) a plain =
+    let parts = and_parts (list_all is_plain n) (list_all (list_all is_plain) ns) plain in
+    lines_both (rows_of_class n (elements_of a ms)) (class_rows (a + 1) ns ms) (by parts.0 (elements_of a ms) (elements_ascend a 0 size ms sorted (at_least_none a ms) below)) (class_rows_lines size small ms sorted below ns (a + 1) parts.1)
+  where
+    by : list_all is_plain n ≡ true → (xs : List ℕ) → Ascend 0 size xs → list_all is_line (rows_of_class n xs) ≡ true
+    by name [] up = refl
+    by name (x ∷ xs) up = both (is_line (class_row n (x ∷ xs))) true (row_is_line (codes "class") n (map decimal (x ∷ xs)) refl name (plain_decimals 0 size (x ∷ xs) small up)) refl
+
+role_rows_lines : (size : ℕ) → size < 2 ^ 32 → (ls : List (ℕ × ℕ × ℕ)) → IsStrictlySortedBy link_cmp ls → list_all (λ l. nat_lt l.1 size && nat_lt l.2 size) ls ≡ true → (ns : List (List ℕ)) (r : ℕ) → list_all (list_all is_plain) ns ≡ true → list_all is_line (role_rows r ns ls) ≡ true
+role_rows_lines size small ls sorted below [] r plain = refl
+role_rows_lines size small ls sorted below (n ∷ ns) r plain =
+    let parts = and_parts (list_all is_plain n) (list_all (list_all is_plain) ns) plain in
+    lines_both (rows_of_role n (pairs_of r ls)) (role_rows (r + 1) ns ls) (by parts.0 (pairs_of r ls) (pairs_ascend r (record { from = 0; to = 0 }) size ls sorted (pair_at_least_none r ls) below)) (role_rows_lines size small ls sorted below ns (r + 1) parts.1)
+  where
+    by : list_all is_plain n ≡ true → (ps : List (ℕ × ℕ × ℕ)) → PairsAscend (record { from = 0; to = 0 }) size ps → list_all is_line (rows_of_role n ps) ≡ true
+    by name [] up = refl
+    by name (p ∷ ps) up = both (is_line (role_row n (p ∷ ps))) true (row_is_line (codes "role") n (map pair_word (p ∷ ps)) refl name (plain_pairs (record { from = 0; to = 0 }) size (p ∷ ps) small up)) refl
+
+size_plain : (n : ℕ) → n < 2 ^ 32 → list_all (list_all is_plain) (codes "model" ∷ decimal n ∷ []) ≡ true
+size_plain n small = both (list_all is_plain (codes "model")) (list_all (list_all is_plain) (decimal n ∷ [])) refl (both (list_all is_plain (decimal n)) true (plain_decimal n small) refl)
+
+module _ (o : Listed) (k : Kept) (classes : AreNames o.classes) (roles : AreNames o.roles) (kept : IsKept o k) where
+  all_lines : list_all is_line (model_rows o k) ≡ true
+  all_lines =
+      let first = line_of_plain (codes "model") (decimal k.size ∷ []) (size_plain k.size kept.small) in
+      let cs = class_rows_lines k.size kept.small k.members kept.members_ascend kept.members_below o.classes 0 classes.plain in
+      let rs = role_rows_lines k.size kept.small k.links kept.links_ascend kept.links_below o.roles 0 roles.plain in
+      lines_both ((size_row k.size ∷ class_rows 0 o.classes k.members) ++ role_rows 0 o.roles k.links) (codes "end" ∷ [])
+      (lines_both (size_row k.size ∷ class_rows 0 o.classes k.members) (role_rows 0 o.roles k.links) (both (is_line (size_row k.size)) (list_all is_line (class_rows 0 o.classes k.members)) first cs) rs) refl
+
+  text_lines : lines (model_text o k) ≡ model_rows o k ++ [] ∷ []
+  text_lines = ap lines (model_text_same o k) ∙ lines_read (model_rows o k) all_lines
+
+  size_read : size_line (words (size_row k.size)) ≡ Some k.size
+  size_read =
+      let some = kept.some in
+      let more : nat_eq k.size 0 ≡ false = grind (arith, nat_tests) in
+      ap size_line (words_read (codes "model") (decimal k.size ∷ []) (words_of_plain (codes "model" ∷ decimal k.size ∷ []) (size_plain k.size kept.small)))
+      ∙ ap (option_and_then (λ x. if nat_eq x 0 then None else Some x)) (number_read k.size kept.small)
+      ∙ ap (λ b. if b then None else Some k.size) more
+
+  listed_members : list_all (λ m. nat_lt m.0 (length o.classes)) k.members ≡ true
+  listed_members = (and_parts (list_all (λ m. nat_lt m.0 (length o.classes)) k.members) (list_all (λ l. nat_lt l.0 (length o.roles)) k.links) kept.listed).0
+
+  listed_links : list_all (λ l. nat_lt l.0 (length o.roles)) k.links ≡ true
+  listed_links = (and_parts (list_all (λ m. nat_lt m.0 (length o.classes)) k.members) (list_all (λ l. nat_lt l.0 (length o.roles)) k.links) kept.listed).1
+
+  stand : (all : List (List ℕ)) → StandAt all 0 all
+  stand all j name at = let same : j ≡ 0 + j = omega arith in subst (λ i. slice_get all i ≡ Some name) same at
+
+  members_in : with_classes 0 o.classes k.members (record { size = k.size; members = []; links = [] }) ≡ record { size = k.size; members = k.members; links = [] }
+  members_in =
+      with_classes_is o.classes 0 k.members (record { size = k.size; members = []; links = [] })
+      ∙ ap (λ (ms : List (ℕ × ℕ)). record { size = k.size; members = insert_each member_cmp [] ms; links = [] }) (all_groups (λ m. m.0) member_cmp member_rises o.classes k.members kept.members_ascend listed_members)
+      ∙ ap (λ (ms : List (ℕ × ℕ)). record { size = k.size; members = ms; links = [] }) (inserted_each member_cmp member_turned k.members [] kept.members_ascend)
+
+  links_in : with_roles 0 o.roles k.links (record { size = k.size; members = k.members; links = [] }) ≡ k
+  links_in =
+      with_roles_is o.roles 0 k.links (record { size = k.size; members = k.members; links = [] })
+      ∙ ap (λ (ls : List (ℕ × ℕ × ℕ)). record { size = k.size; members = k.members; links = insert_each link_cmp [] ls }) (all_groups (λ l. l.0) link_cmp link_rises o.roles k.links kept.links_ascend listed_links)
+      ∙ ap (λ (ls : List (ℕ × ℕ × ℕ)). record { size = k.size; members = k.members; links = ls }) (inserted_each link_cmp link_turned k.links [] kept.links_ascend)
+
+  pub model_read_back : model_of o (lines (model_text o k)) ≡ Some k
+  model_read_back =
+      let cs = class_rows 0 o.classes k.members in
+      let rs = role_rows 0 o.roles k.links in
+      let last = codes "end" ∷ [] ∷ [] in
+      let empty = empty_body k.size in
+      let first = classes_read o k.size kept.small k.members kept.members_ascend kept.members_below classes.distinct o.classes 0 (stand o.classes) classes.plain empty refl (λ c le. refl) (rs ++ last) in
+      let after = first.next in
+      let model : after.model ≡ record { size = k.size; members = k.members; links = [] } = first.becomes ∙ members_in in
+      let size : after.model.size ≡ k.size = ap (λ m. m.size) model in
+      let none : (c : ℕ) → 0 ≤ c → list_any (nat_eq c) after.roles ≡ false = λ c le. ap (list_any (nat_eq c)) first.same_roles in
+      let second = roles_read o k.size kept.small k.links kept.links_ascend kept.links_below roles.distinct o.roles 0 (stand o.roles) roles.plain after size none last in
+      let whole : second.0.model ≡ k = second.2 ∙ ap (with_roles 0 o.roles k.links) model ∙ links_in in
+      let together : cs ++ rs ++ codes "end" ∷ [] ++ [] ∷ [] ≡ cs ++ (rs ++ last) = append_assoc (cs ++ rs) (codes "end" ∷ []) ([] ∷ []) ∙ append_assoc cs rs last in
+      ap (model_of o) text_lines
+      ∙ ap (option_and_then (λ n. body_from o (empty_body n) (cs ++ rs ++ codes "end" ∷ [] ++ [] ∷ []))) size_read
+      ∙ ap (body_from o empty) together
+      ∙ first.reads
+      ∙ second.1
+      ∙ ap Some whole

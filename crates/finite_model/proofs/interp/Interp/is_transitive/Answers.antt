@@ -1,0 +1,33 @@
+use Rattle.std.proofs.Common.{ℕ, Bool, sym, ◌∙◌, arith}
+use Rattle.shq_meaning.specs.Below.{all_below}
+use Rattle.shq_meaning.specs.Truth.{implies}
+use Rattle.finite_model.specs.Kept.{meaning, begins}
+use Rattle.finite_model.proofs.Skipped.{all_passed, all_failed, all_ended}
+use Rattle.finite_model.proofs.Empty.{row_of_none}
+use Rattle.finite_model.proofs.interp.Interp.is_transitive.Goals as goal
+
+pub returns-then-not-row_is_transitive : goal.returns-then-not-row_is_transitive
+returns-then-not-row_is_transitive c =
+    let k = c.args.self.now in
+    let i = meaning k in
+    let q : ℕ → Bool = λ x. all_below k.size (λ y. implies (i.in_role c.args.role x y) (all_below k.size (λ z. implies (i.in_role c.args.role y z) (i.in_role c.args.role x z)))) in
+    all_failed q k.size c.in-Some.x c.in-Some.ensures.below (sym c.row_is_transitive.ensures ∙ c.if-not-row_is_transitive.true)
+
+pub loop-x-preserved : goal.loop-x-preserved
+loop-x-preserved c =
+    let k = c.args.self.now in
+    let i = meaning k in
+    let p : ℕ → Bool = begins k c.args.role in
+    let q : ℕ → Bool = λ x. all_below k.size (λ y. implies (i.in_role c.args.role x y) (all_below k.size (λ z. implies (i.in_role c.args.role y z) (i.in_role c.args.role x z)))) in
+    record {
+      so_far = all_passed p q (λ x none. row_of_none k c.args.role x none (λ y. all_below k.size (λ z. implies (i.in_role c.args.role y z) (i.in_role c.args.role x z)))) k.size c.loop-x.from c.in-Some.x c.behind-from.result c.loop-x.invariant.so_far c.in-Some.ensures (sym c.row_is_transitive.ensures ∙ c.if-not-row_is_transitive.false) c.behind-from.ensures;
+      within = omega (arith, c.in-Some.ensures.below, c.behind-from.ensures);
+    }
+
+pub returns : goal.returns
+returns c =
+    let k = c.args.self.now in
+    let i = meaning k in
+    let p : ℕ → Bool = begins k c.args.role in
+    let q : ℕ → Bool = λ x. all_below k.size (λ y. implies (i.in_role c.args.role x y) (all_below k.size (λ z. implies (i.in_role c.args.role y z) (i.in_role c.args.role x z)))) in
+    sym (all_ended p q (λ x none. row_of_none k c.args.role x none (λ y. all_below k.size (λ z. implies (i.in_role c.args.role y z) (i.in_role c.args.role x z)))) k.size c.loop-x.from c.loop-x.invariant.within c.in_default.ensures ∙ c.loop-x.invariant.so_far)
