@@ -1,0 +1,10 @@
+pub mod Same
+pub mod Grown
+pub mod Inserted
+pub mod Numbers
+pub mod Opened
+pub mod Bounded
+pub mod Stable
+pub mod Truth
+pub mod Pairs
+pub mod Meeting

@@ -1,0 +1,45 @@
+-- Normal forms of a class expression and its complement by one word, and what those of cardinalities use.
+use Rattle.std.specs.Prelude.{ℕ, zero, suc, Bool, true, false, List, [], ◌∷◌}
+use Rattle.shq_base.specs.Concept.{Concept, some_of, all_of}
+use Rattle.shape_specs.specs.Normal.{and_of, or_of, least_form, fewer_form, most_form, more_form, normal_form, negated_form}
+use Rattle.shq_nnf.specs.declared.counts.Bound.{Bound}
+use Rattle.shq_nnf.specs.declared.counts.Bound.TheVariants.{AtLeast, AtMost, Exactly}
+
+-- the normal form of the expression, or that of its complement
+abbrev pub signed_form : Bool → Concept → Concept
+signed_form false c = normal_form c
+signed_form true c = negated_form c
+
+abbrev pub joined_form : Bool → List Concept → Concept
+joined_form false cs = and_of cs
+joined_form true cs = or_of cs
+
+abbrev pub quantified_form : Bool → ℕ → Concept → Concept
+quantified_form false r c = some_of r c
+quantified_form true r c = all_of r c
+
+-- a cardinality or its complement, over the normal forms of the filler and of the filler's complement
+abbrev pub bound_form : Bound → Bool → ℕ → ℕ → Concept → Concept → Concept
+bound_form AtLeast false n r c not_c = least_form n r c
+bound_form AtLeast true n r c not_c = fewer_form n r c not_c
+bound_form AtMost false n r c not_c = most_form n r c not_c
+bound_form AtMost true n r c not_c = more_form n r c
+bound_form Exactly false n r c not_c = and_of (least_form n r c ∷ most_form n r c not_c ∷ [])
+bound_form Exactly true n r c not_c = or_of (fewer_form n r c not_c ∷ more_form n r c ∷ [])
+
+-- whether the normal form of the filler matters there
+abbrev pub uses_plain : Bound → Bool → ℕ → Bool
+uses_plain AtLeast false zero = false
+uses_plain AtLeast true zero = false
+uses_plain AtLeast true (suc zero) = false
+uses_plain AtMost false zero = false
+uses_plain Exactly false zero = false
+uses_plain _ _ _ = true
+
+-- whether that of its complement does
+abbrev pub uses_negated : Bound → Bool → ℕ → Bool
+uses_negated AtLeast true (suc zero) = true
+uses_negated AtMost false zero = true
+uses_negated Exactly false zero = true
+uses_negated Exactly true (suc zero) = true
+uses_negated _ _ _ = false

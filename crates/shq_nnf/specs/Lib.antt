@@ -1,0 +1,8 @@
+pub mod Kept
+pub mod Numbers
+pub mod Counts
+pub mod Opened
+pub mod Bounds
+pub mod Meeting
+pub mod Laws
+pub mod Parts

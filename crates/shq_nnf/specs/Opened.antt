@@ -1,0 +1,50 @@
+-- The members of an intersection or a union of numbers, as numbers.
+use Rattle.std.specs.Prelude.{ℕ, Bool, true, false, List, [], ◌∷◌, if◌then◌else◌}
+use Rattle.std.specs.List.{flat_map, list_any}
+use Rattle.shq_base.specs.Concept.{Concept, top as top_concept, bottom as bottom_concept}
+use Rattle.shape_specs.specs.Normal.{is_top, is_bottom, intersected, united}
+use Rattle.shape_specs.specs.Shape.{Shape, shape_of, top, bottom, intersection, union}
+
+abbrev pub is_top_shape : Shape → Bool
+is_top_shape top = true
+is_top_shape _ = false
+
+abbrev pub is_bottom_shape : Shape → Bool
+is_bottom_shape bottom = true
+is_bottom_shape _ = false
+
+-- what a number with this shape gives to an intersection
+abbrev pub conjunct_numbers_of : ℕ → Shape → List ℕ
+conjunct_numbers_of c top = []
+conjunct_numbers_of c (intersection cs) = cs
+conjunct_numbers_of c _ = c ∷ []
+
+-- and to a union
+abbrev pub disjunct_numbers_of : ℕ → Shape → List ℕ
+disjunct_numbers_of c bottom = []
+disjunct_numbers_of c (union cs) = cs
+disjunct_numbers_of c _ = c ∷ []
+
+abbrev pub conjunct_numbers : List Shape → List ℕ → List ℕ
+conjunct_numbers table cs = flat_map (λ c. conjunct_numbers_of c (shape_of table c)) cs
+
+abbrev pub disjunct_numbers : List Shape → List ℕ → List ℕ
+disjunct_numbers table cs = flat_map (λ c. disjunct_numbers_of c (shape_of table c)) cs
+
+-- a member that may be left once inner intersections are opened and tops left out
+abbrev pub is_open_conjunct : Shape → Bool
+is_open_conjunct top = false
+is_open_conjunct (intersection cs) = false
+is_open_conjunct _ = true
+
+abbrev pub is_open_disjunct : Shape → Bool
+is_open_disjunct bottom = false
+is_open_disjunct (union cs) = false
+is_open_disjunct _ = true
+
+-- the intersection of such members
+abbrev pub open_intersection : List Concept → Concept
+open_intersection cs = if list_any is_bottom cs then bottom_concept else intersected cs
+
+abbrev pub open_union : List Concept → Concept
+open_union cs = if list_any is_top cs then top_concept else united cs

@@ -1,0 +1,70 @@
+-- The parts of an axiom, in order.
+use Rattle.std.specs.Prelude.{◌≡◌, ℕ, Bool, true, ◌&&◌, List, [], ◌∷◌, ◌++◌, map, slice_index_or}
+use Rattle.shq_base.specs.Concept.{Concept, top, complement, union, some_of, at_most, parts_of}
+use Rattle.shq_terms.specs.declared.axioms.Axiom.{Axiom}
+use Rattle.shq_terms.specs.declared.axioms.Axiom.TheVariants.{SubClassOf, EquivalentClasses, DisjointClasses, DisjointUnion, SubRole, EquivalentRoles, Domain, Range, Functional, Transitive}
+use Rattle.shape_specs.specs.Shape.{Shape}
+use Rattle.shape_specs.specs.Rows.{Part, inclusion, range, inclusion_of, range_of}
+use Rattle.shq_nnf.specs.declared.parts.Part.{Part as Kept}
+use Rattle.shq_nnf.specs.declared.parts.Part.TheVariants as K
+use Rattle.shq_nnf.specs.Counts.{has_counts_within, have_counts_within}
+use Rattle.shq_nnf.specs.Numbers.{IsNumber, AreNumbers}
+
+-- what is in c is not in d
+abbrev pub apart : Concept → Concept → Part
+apart c d = inclusion_of c (complement d)
+
+-- each before each that stands after it
+abbrev pub disjoint_parts : List Concept → List Part
+disjoint_parts [] = []
+disjoint_parts (c ∷ cs) = map (apart c) cs ++ disjoint_parts cs
+
+-- each in the next, and the last in the first
+abbrev pub chain_parts : Concept → List Concept → List Part
+chain_parts first [] = []
+chain_parts first (c ∷ []) = inclusion_of c first ∷ []
+chain_parts first (c ∷ d ∷ ds) = inclusion_of c d ∷ chain_parts first (d ∷ ds)
+
+abbrev pub equivalent_parts : List Concept → List Part
+equivalent_parts [] = []
+equivalent_parts (c ∷ cs) = chain_parts c (c ∷ cs)
+
+-- the class is in their union, each of them is in the class, and no two have a common element
+abbrev pub union_parts : Concept → List Concept → List Part
+union_parts a cs = inclusion_of a (union (parts_of cs)) ∷ (map (λ c. inclusion_of c a) cs ++ disjoint_parts cs)
+
+-- a role axiom has none
+abbrev pub axiom_parts : Axiom → List Part
+axiom_parts (SubClassOf c d) = inclusion_of c d ∷ []
+axiom_parts (EquivalentClasses cs) = equivalent_parts cs
+axiom_parts (DisjointClasses cs) = disjoint_parts cs
+axiom_parts (DisjointUnion a cs) = union_parts a cs
+axiom_parts (SubRole r s) = []
+axiom_parts (EquivalentRoles rs) = []
+axiom_parts (Domain r c) = inclusion_of (some_of r top) c ∷ []
+axiom_parts (Range r c) = range_of r c ∷ []
+axiom_parts (Functional r) = inclusion_of top (at_most 1 r top) ∷ []
+axiom_parts (Transitive r) = []
+
+-- the part at a place from 0; one that is not there reads as 'nothing is asked'
+abbrev pub part_in : List Part → ℕ → Part
+part_in parts place = slice_index_or parts place (inclusion [] top)
+
+-- the numbers of the table stand for the part
+abbrev pub IsPart : List Shape → Kept → Part → Type 0
+IsPart table (K.Inclusion ns n) (inclusion cs d) = AreNumbers table ns cs × IsNumber table n d
+IsPart table (K.Range r n) (range s d) = (r ≡ s) × IsNumber table n d
+IsPart table _ _ = ⊥
+
+-- the cardinalities of an axiom's class expressions are within a limit
+abbrev pub axiom_has_counts_within : ℕ → Axiom → Bool
+axiom_has_counts_within limit (SubClassOf c d) = has_counts_within limit c && has_counts_within limit d
+axiom_has_counts_within limit (EquivalentClasses cs) = have_counts_within limit (parts_of cs)
+axiom_has_counts_within limit (DisjointClasses cs) = have_counts_within limit (parts_of cs)
+axiom_has_counts_within limit (DisjointUnion a cs) = has_counts_within limit a && have_counts_within limit (parts_of cs)
+axiom_has_counts_within limit (SubRole r s) = true
+axiom_has_counts_within limit (EquivalentRoles rs) = true
+axiom_has_counts_within limit (Domain r c) = has_counts_within limit c
+axiom_has_counts_within limit (Range r c) = has_counts_within limit c
+axiom_has_counts_within limit (Functional r) = true
+axiom_has_counts_within limit (Transitive r) = true

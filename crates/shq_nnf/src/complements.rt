@@ -1,0 +1,83 @@
+// The complements of numbers.
+ghost use Rattle.std.specs.Prelude.{◌≡◌, ◌<◌, ◌≤◌, nat_lt, IsTrue, IfOk, length, map};
+ghost use Rattle.std.specs.List.{list_all};
+ghost use Rattle.shape_specs.specs.Normal.{negated_form};
+ghost use Rattle.shape_specs.specs.Shape.{shape_of, IsTable};
+ghost use Rattle.shape_specs.specs.Tree.{tree_of};
+ghost use Rattle.shq_nnf.specs.Bounds.{joined_form, quantified_form};
+ghost use Rattle.shq_nnf.specs.Kept.{form_of_kept};
+ghost use Rattle.shq_nnf.specs.Numbers.{Extends, IsNumber, AreNumbers};
+
+use crate::shapes::{Kept, owned};
+use crate::{Concepts, NoMemory};
+
+impl Concepts {
+    // The number of the normal form of a number's complement.
+    #[cycle(complements)]
+    pub(crate) fn complement_of(&mut self, concept: u32) -> Result<u32, NoMemory>
+        requires { concept < length self.old }
+        ensures number { IfOk result (λ n. IsNumber self.new n (negated_form (tree_of self.old concept))) }
+        ensures kept { Extends self.old self.new }
+    {
+        let shape = self.copied(concept)?;
+        match &shape {
+            Kept::Top => self.constant(true),
+            Kept::Bottom => self.constant(false),
+            Kept::Name(class) => self.literal(*class, true),
+            Kept::NotName(class) => self.literal(*class, false),
+            Kept::And(parts) => self.joined_complement(true, parts, concept),
+            Kept::Or(parts) => self.joined_complement(false, parts, concept),
+            Kept::SomeOf(role, filler) => self.quantified_complement(true, *role, *filler),
+            Kept::AllOf(role, filler) => self.quantified_complement(false, *role, *filler),
+            Kept::Min(count, role, filler) => self.at_most(*count - 1, *role, *filler),
+            Kept::Max(count, role, filler) => self.at_least(*count + 1, *role, *filler),
+        }
+    }
+
+    fn copied(&self, concept: u32) -> Result<Kept, NoMemory>
+        requires { concept < length self.now }
+        ensures shape { IfOk result (λ kept. form_of_kept kept ≡ shape_of self.now concept) }
+        ensures table { IsTable self.now }
+    {
+        owned(self.alloc, self.shape(concept))
+    }
+
+    // Of parts that are all below a number of the table.
+    #[cycle(complements)]
+    fn joined_complement(&mut self, union: bool, parts: &[u32], above: u32) -> Result<u32, NoMemory>
+        requires listed { above ≤ length self.old }
+        requires below { IsTrue (list_all (λ c. nat_lt c above) parts.now) }
+        ensures number { IfOk result (λ n. IsNumber self.new n (joined_form union (map (λ c. negated_form (tree_of self.old c)) parts.now))) }
+        ensures kept { Extends self.old self.new }
+    {
+        let numbers = self.complements(parts, above)?;
+        let number = self.joined(union, &numbers)?;
+        Ok(number)
+    }
+
+    #[cycle(complements)]
+    fn complements(&mut self, parts: &[u32], above: u32) -> Result<Vec<u32>, NoMemory>
+        requires listed { above ≤ length self.old }
+        requires below { IsTrue (list_all (λ c. nat_lt c above) parts.now) }
+        ensures numbers { IfOk result (λ ns. AreNumbers self.new ns.items (map (λ c. negated_form (tree_of self.old c)) parts.now)) }
+        ensures kept { Extends self.old self.new }
+    {
+        let mut numbers = Vec::new(self.alloc);
+        for part in parts {
+            let number = self.complement_of(*part)?;
+            numbers.push(number)?;
+        }
+        Ok(numbers)
+    }
+
+    #[cycle(complements)]
+    fn quantified_complement(&mut self, all: bool, role: u32, filler: u32) -> Result<u32, NoMemory>
+        requires { filler < length self.old }
+        ensures number { IfOk result (λ n. IsNumber self.new n (quantified_form all role (negated_form (tree_of self.old filler)))) }
+        ensures kept { Extends self.old self.new }
+    {
+        let inner = self.complement_of(filler)?;
+        let number = self.quantified(all, role, inner)?;
+        Ok(number)
+    }
+}

@@ -1,0 +1,20 @@
+//! Concepts in normal form, kept by number: a complement stands on names alone, and equal concepts have equal numbers.
+#![tactic(auto)]
+
+mod complements;
+mod connectives;
+mod counts;
+mod forms;
+mod laws;
+mod parts;
+mod shapes;
+mod table;
+
+pub use laws::{axioms_are_their_parts, normal_forms_keep_truth, numbers_are_normal};
+pub use parts::{Part, part_count};
+pub use shapes::Shape;
+pub use shq_base::NoMemory;
+pub use table::Concepts;
+
+#[cfg(test)]
+mod tests;
