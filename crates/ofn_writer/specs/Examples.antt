@@ -1,0 +1,51 @@
+-- Small expressions, axioms and ontologies.
+use Rattle.std.specs.Prelude.{[], ◌∷◌, codes}
+use Rattle.shq_base.specs.Concept.{Concept, top, bottom, name, complement, intersection, union, some_of, all_of, at_least, at_most, exactly, parts_of}
+use Rattle.shq_terms.specs.Listed.{Listed}
+use Rattle.shq_terms.specs.declared.axioms.Axiom.{Axiom}
+use Rattle.shq_terms.specs.declared.axioms.Axiom.TheVariants.{SubClassOf, EquivalentClasses, DisjointClasses, DisjointUnion, SubRole, EquivalentRoles, Domain, Range, Functional, Transitive}
+
+-- classes A and B, roles R and S
+abbrev pub names : Listed
+names = record { axioms = []; classes = codes "A" ∷ codes "B" ∷ []; roles = codes "R" ∷ codes "S" ∷ [] }
+
+abbrev pub exactly_twenty : Concept
+exactly_twenty = exactly 20 1 (intersection (parts_of (name 0 ∷ complement (name 1) ∷ [])))
+
+abbrev pub all_but : Concept
+all_but = all_of 0 (union (parts_of (bottom ∷ at_most 0 0 top ∷ [])))
+
+abbrev pub wide : Axiom
+wide = SubClassOf (name 1) (at_least 0 1 (name 0))
+
+abbrev pub nothing : Axiom
+nothing = EquivalentClasses (bottom ∷ name 1 ∷ [])
+
+abbrev pub apart : Axiom
+apart = DisjointClasses (name 0 ∷ name 1 ∷ name 1 ∷ [])
+
+abbrev pub split : Axiom
+split = DisjointUnion (name 0) (name 1 ∷ some_of 0 (name 0) ∷ [])
+
+abbrev pub lower : Axiom
+lower = SubRole 1 0
+
+abbrev pub equal : Axiom
+equal = EquivalentRoles (0 ∷ 1 ∷ 0 ∷ [])
+
+abbrev pub left : Axiom
+left = Domain 0 (name 1)
+
+abbrev pub right : Axiom
+right = Range 1 top
+
+abbrev pub single : Axiom
+single = Functional 1
+
+-- two axioms over classes A and B and a role R
+abbrev pub small : Listed
+small = record {
+  axioms = record { «axiom» = SubClassOf (name 1) (name 0); line = 3 } ∷ record { «axiom» = Transitive 0; line = 7 } ∷ [];
+  classes = codes "A" ∷ codes "B" ∷ [];
+  roles = codes "R" ∷ [];
+}

@@ -1,0 +1,177 @@
+// The text of axioms (OWL 2 Structural Specification, sections 9.1 and 9.2).
+ghost use Rattle.std.specs.Prelude.{◌≡◌, ◌<◌, ◌++◌, ◌∷◌, [], OnOk, OnErr, IsTrue, length, nat_lt};
+ghost use Rattle.std.specs.List.{list_all};
+ghost use Rattle.shq_base.specs.Concept.{parts_of};
+ghost use Rattle.shq_terms.specs.Uses.{uses_listed, parts_use_listed, axiom_uses_listed};
+ghost use Rattle.ofn_writer.specs.Canonical.{role_text, role_texts, spaced, items_text, group_text, concept_text, part_texts, axiom_text};
+
+use crate::NoMemory;
+use crate::concepts::{put_concept, put_parts, put_restriction, put_spaced};
+use crate::pieces::{put, put_role, put_whole};
+use shq_terms::{Axiom, Concept, Ontology};
+
+/// Puts the text of an axiom last.
+pub(crate) fn put_axiom(
+    out: &mut Vec<u8>,
+    axiom: &Axiom,
+    ontology: &Ontology,
+) -> Result<(), NoMemory>
+    requires { IsTrue (axiom_uses_listed (length ontology.now.classes) (length ontology.now.roles) «axiom».now) }
+    ensures { OnOk result (out.new.items ≡ out.old.items ++ axiom_text ontology.now «axiom».now) }
+{
+    match axiom {
+        Axiom::SubClassOf(sub, sup) => put_class_pair(out, b"SubClassOf", sub, sup, ontology),
+        Axiom::EquivalentClasses(parts) => {
+            put_parts(out, b"EquivalentClasses", parts.items(), ontology)
+        }
+        Axiom::DisjointClasses(parts) => {
+            put_parts(out, b"DisjointClasses", parts.items(), ontology)
+        }
+        Axiom::DisjointUnion(whole, parts) => {
+            put_class_and_parts(out, b"DisjointUnion", whole, parts.items(), ontology)
+        }
+        Axiom::SubRole(role, other) => {
+            put_role_pair(out, b"SubObjectPropertyOf", *role, *other, ontology)
+        }
+        Axiom::EquivalentRoles(roles) => {
+            put_role_list(out, b"EquivalentObjectProperties", roles.items(), ontology)
+        }
+        Axiom::Domain(role, class) => {
+            put_restriction(out, b"ObjectPropertyDomain", *role, class, ontology)
+        }
+        Axiom::Range(role, class) => {
+            put_restriction(out, b"ObjectPropertyRange", *role, class, ontology)
+        }
+        Axiom::Functional(role) => {
+            put_role_group(out, b"FunctionalObjectProperty", *role, ontology)
+        }
+        Axiom::Transitive(role) => {
+            put_role_group(out, b"TransitiveObjectProperty", *role, ontology)
+        }
+    }
+}
+
+fn put_class_pair(
+    out: &mut Vec<u8>,
+    keyword: &[u8],
+    sub: &Concept,
+    sup: &Concept,
+    ontology: &Ontology,
+) -> Result<(), NoMemory>
+    requires sub { IsTrue (uses_listed (length ontology.now.classes) (length ontology.now.roles) sub.now) }
+    requires sup { IsTrue (uses_listed (length ontology.now.classes) (length ontology.now.roles) sup.now) }
+    ensures { OnOk result (out.new.items ≡ out.old.items ++ group_text keyword.now (concept_text ontology.now sub.now ∷ concept_text ontology.now sup.now ∷ [])) }
+{
+    put(out, keyword)?;
+    put(out, b"(")?;
+    put_concept(out, sub, ontology)?;
+    put(out, b" ")?;
+    put_concept(out, sup, ontology)?;
+    put(out, b")")
+}
+
+fn put_class_and_parts(
+    out: &mut Vec<u8>,
+    keyword: &[u8],
+    whole: &Concept,
+    parts: &[Concept],
+    ontology: &Ontology,
+) -> Result<(), NoMemory>
+    requires whole { IsTrue (uses_listed (length ontology.now.classes) (length ontology.now.roles) whole.now) }
+    requires parts { IsTrue (parts_use_listed (length ontology.now.classes) (length ontology.now.roles) (parts_of parts.now)) }
+    ensures { OnOk result (out.new.items ≡ out.old.items ++ group_text keyword.now (concept_text ontology.now whole.now ∷ part_texts ontology.now (parts_of parts.now))) }
+{
+    put(out, keyword)?;
+    put(out, b"(")?;
+    put_concept(out, whole, ontology)?;
+    put_spaced(out, parts, ontology)?;
+    put(out, b")")
+}
+
+fn put_role_pair(
+    out: &mut Vec<u8>,
+    keyword: &[u8],
+    role: u32,
+    other: u32,
+    ontology: &Ontology,
+) -> Result<(), NoMemory>
+    requires role { role < length ontology.now.roles }
+    requires other { other < length ontology.now.roles }
+    ensures { OnOk result (out.new.items ≡ out.old.items ++ group_text keyword.now (role_text ontology.now role ∷ role_text ontology.now other ∷ [])) }
+{
+    put(out, keyword)?;
+    put(out, b"(")?;
+    put_role(out, role, ontology)?;
+    put(out, b" ")?;
+    put_role(out, other, ontology)?;
+    put(out, b")")
+}
+
+fn put_role_group(
+    out: &mut Vec<u8>,
+    keyword: &[u8],
+    role: u32,
+    ontology: &Ontology,
+) -> Result<(), NoMemory>
+    requires { role < length ontology.now.roles }
+    ensures { OnOk result (out.new.items ≡ out.old.items ++ group_text keyword.now (role_text ontology.now role ∷ [])) }
+{
+    put(out, keyword)?;
+    put(out, b"(")?;
+    put_role(out, role, ontology)?;
+    put(out, b")")
+}
+
+fn put_role_list(
+    out: &mut Vec<u8>,
+    keyword: &[u8],
+    roles: &[u32],
+    ontology: &Ontology,
+) -> Result<(), NoMemory>
+    requires { IsTrue (list_all (λ r. nat_lt r (length ontology.now.roles)) roles.now) }
+    ensures { OnOk result (out.new.items ≡ out.old.items ++ group_text keyword.now (role_texts ontology.now roles.now)) }
+{
+    put(out, keyword)?;
+    put(out, b"(")?;
+    put_role_items(out, roles, ontology)?;
+    put(out, b")")
+}
+
+fn put_role_items(out: &mut Vec<u8>, roles: &[u32], ontology: &Ontology) -> Result<(), NoMemory>
+    requires { IsTrue (list_all (λ r. nat_lt r (length ontology.now.roles)) roles.now) }
+    ensures { OnOk result (out.new.items ≡ out.old.items ++ items_text (role_texts ontology.now roles.now)) }
+{
+    match roles {
+        [] => Ok(()),
+        [first, rest @ ..] => {
+            put_role(out, *first, ontology)?;
+            put_spaced_roles(out, rest, ontology)
+        }
+    }
+}
+
+// Puts roles last, each behind one blank.
+fn put_spaced_roles(out: &mut Vec<u8>, roles: &[u32], ontology: &Ontology) -> Result<(), NoMemory>
+    requires { IsTrue (list_all (λ r. nat_lt r (length ontology.now.roles)) roles.now) }
+    ensures { OnOk result (out.new.items ≡ out.old.items ++ spaced (role_texts ontology.now roles.now)) }
+{
+    for role in roles {
+        put(out, b" ")?;
+        put_role(out, *role, ontology)?;
+    }
+    Ok(())
+}
+
+/// Appends the text of an axiom, or nothing. The classes and roles of the axiom are listed.
+///
+/// The forms of its class expressions are those of [`concept_text`](crate::concept_text).
+pub fn axiom_text(out: &mut Vec<u8>, axiom: &Axiom, ontology: &Ontology) -> Result<(), NoMemory>
+    requires { IsTrue (axiom_uses_listed (length ontology.now.classes) (length ontology.now.roles) «axiom».now) }
+    ensures text { OnOk result (out.new.items ≡ out.old.items ++ axiom_text ontology.now «axiom».now) }
+    ensures unchanged { OnErr result (out.new.items ≡ out.old.items) }
+{
+    let alloc = *out.allocator();
+    let mut text = Vec::new(alloc);
+    put_axiom(&mut text, axiom, ontology)?;
+    put_whole(out, &text)
+}
