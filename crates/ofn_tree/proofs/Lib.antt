@@ -1,6 +1,9 @@
-pub mod Ascii
+pub mod Boundaries
+pub mod Strings
 pub mod Reading
 pub mod Trees
 pub mod Unique
 pub mod Slices
 pub mod Ends
+pub mod Lines
+pub mod Feeds

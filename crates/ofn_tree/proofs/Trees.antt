@@ -1,13 +1,14 @@
 -- Items one after another, groups, and the faults on the way.
 use Rattle.std.proofs.Common.{◌≡◌, ℕ, zero, suc, ◌+◌, ◌-◌, ◌<◌, ◌≤◌, max, Bool, true, false, cond, List, [], ◌∷◌, ◌++◌, map, drop, length, get_or, Option, Some, None, Ok, Err, refl, ap, sym, ◌∙◌, subst, append_assoc, append-nil, arith, nat_lt, nat_eq, ◌&&◌}
 use Rattle.std.proofs.lemmas.Grind.{common_steps}
+use Rattle.std.proofs.lemmas.List.{drop-drop}
 use Rattle.ofn_tree.specs.declared.token.Token.{Token}
 use Rattle.ofn_tree.specs.declared.token.Kind.{Kind}
 use Rattle.ofn_tree.specs.declared.token.Kind.TheVariants.{OpenBracket, CloseBracket, Equals, Iri, String, Tag, Carets, Name}
 use Rattle.ofn_tree.specs.declared.fault.TextFault.{TextFault}
 use Rattle.ofn_tree.specs.declared.fault.TextFault.TheVariants.{Unbalanced, TooDeep}
-use Rattle.ofn_tree.specs.Token.{PlainToken, plain_token, is_open, is_close, is_name}
-use Rattle.ofn_tree.specs.Items.{Item, group_item, items_of, Mark, opening, closing, mark_of, mark_at, is_head, begins_with_open, marks_from, marks, written, written_all, nesting, nesting_all}
+use Rattle.ofn_tree.specs.Token.{PlainToken, plain_token, is_open, is_close, is_name, is_string, is_tag, is_carets, is_datatype}
+use Rattle.ofn_tree.specs.Items.{Item, group_item, items_of, Mark, opening, closing, mark_of, mark_at, is_head, begins_with_open, begins_with_datatype, begins_with_type, literal_rest, rest_behind, marks_from, marks, written, written_all, nesting, nesting_all}
 use Rattle.ofn_tree.specs.Parsed.{begins_with_close, begins_with_head, IsItems, IsGroup}
 use Rattle.ofn_tree.specs.Faults.{IsFaultOf, fault_or, bracket_fault}
 
@@ -100,13 +101,76 @@ close_mark Tag w l h = cc
 close_mark Carets w l h = cc
 close_mark Name w l h = cc
 
+open_no_string : (k : Kind) → is_open k ≡ true → is_string k ≡ false
+open_no_string OpenBracket h = refl
+open_no_string CloseBracket h = cc
+open_no_string Equals h = cc
+open_no_string Iri h = cc
+open_no_string String h = cc
+open_no_string Tag h = cc
+open_no_string Carets h = cc
+open_no_string Name h = cc
+
+close_no_string : (k : Kind) → is_close k ≡ true → is_string k ≡ false
+close_no_string CloseBracket h = refl
+close_no_string OpenBracket h = cc
+close_no_string Equals h = cc
+close_no_string Iri h = cc
+close_no_string String h = cc
+close_no_string Tag h = cc
+close_no_string Carets h = cc
+close_no_string Name h = cc
+
+tag_no_bracket : (k : Kind) → is_tag k ≡ true → (is_open k ≡ false) × (is_close k ≡ false)
+tag_no_bracket Tag h = (refl, refl)
+tag_no_bracket OpenBracket h = cc
+tag_no_bracket CloseBracket h = cc
+tag_no_bracket Equals h = cc
+tag_no_bracket Iri h = cc
+tag_no_bracket String h = cc
+tag_no_bracket Carets h = cc
+tag_no_bracket Name h = cc
+
+carets_no_bracket : (k : Kind) → is_carets k ≡ true → (is_open k ≡ false) × (is_close k ≡ false)
+carets_no_bracket Carets h = (refl, refl)
+carets_no_bracket OpenBracket h = cc
+carets_no_bracket CloseBracket h = cc
+carets_no_bracket Equals h = cc
+carets_no_bracket Iri h = cc
+carets_no_bracket String h = cc
+carets_no_bracket Tag h = cc
+carets_no_bracket Name h = cc
+
+datatype_no_bracket : (k : Kind) → is_datatype k ≡ true → (is_open k ≡ false) × (is_close k ≡ false)
+datatype_no_bracket Name h = (refl, refl)
+datatype_no_bracket Iri h = (refl, refl)
+datatype_no_bracket OpenBracket h = cc
+datatype_no_bracket CloseBracket h = cc
+datatype_no_bracket Equals h = cc
+datatype_no_bracket String h = cc
+datatype_no_bracket Tag h = cc
+datatype_no_bracket Carets h = cc
+
+and_both : (a b : Bool) → (a && b) ≡ true → (a ≡ true) × (b ≡ true)
+and_both true b h = (refl, h)
+and_both false b h = cc
+
 -- ---- marks
 
-marks-unheaded : (t : PlainToken) (ts : List PlainToken) → is_head t ts ≡ false → marks (t ∷ ts) ≡ mark_of t.kind t.text t.line ∷ marks ts
-marks-unheaded t ts e = ap (λ v. mark_at v t ∷ marks_from v ts) e
+marks-skip : (k : ℕ) (ts : List PlainToken) → marks_from k ts ≡ marks (drop k ts)
+marks-skip zero ts = refl
+marks-skip (suc k) [] = refl
+marks-skip (suc k) (t ∷ ts) = marks-skip k ts
+
+marks-unheaded : (t : PlainToken) (ts : List PlainToken) → is_head t ts ≡ false → marks (t ∷ ts) ≡ mark_of t.kind t.text t.line ∷ marks (drop (rest_behind (t ∷ ts)) ts)
+marks-unheaded t ts e =
+    ap (λ v. mark_at v t ∷ marks_from (cond v 1 (rest_behind (t ∷ ts))) ts) e ∙ ap (λ l. mark_of t.kind t.text t.line ∷ l) (marks-skip (rest_behind (t ∷ ts)) ts)
+
+marks-bracket : (t : PlainToken) (ts : List PlainToken) → is_head t ts ≡ false → is_string t.kind ≡ false → marks (t ∷ ts) ≡ mark_of t.kind t.text t.line ∷ marks ts
+marks-bracket t ts e no_string = marks-unheaded t ts e ∙ ap (λ v. mark_of t.kind t.text t.line ∷ marks (drop (cond v (literal_rest ts) 0) ts)) no_string
 
 marks-headed : (t u : PlainToken) (ts : List PlainToken) → is_head t (u ∷ ts) ≡ true → marks (t ∷ u ∷ ts) ≡ opening (Some t.text) t.line ∷ marks ts
-marks-headed t u ts e = ap (λ v. mark_at v t ∷ marks_from v (u ∷ ts)) e
+marks-headed t u ts e = ap (λ v. mark_at v t ∷ marks_from (cond v 1 (rest_behind (t ∷ u ∷ ts))) (u ∷ ts)) e
 
 no_head : (t : PlainToken) (ts : List PlainToken) → is_name t.kind ≡ false → is_head t ts ≡ false
 no_head t ts e = ap (λ v. v && begins_with_open ts) e
@@ -139,7 +203,7 @@ pub IsItems-unnamed : (end depth : ℕ) (t : PlainToken) (us rest : List PlainTo
 IsItems-unnamed end depth t us rest i is g =
     let mark = open_mark t.kind t.text t.line is in
     record {
-      made = ap (λ (l : List Mark). l ++ marks rest) (append-nil (written i)) ∙ g.made ∙ ap (λ m. m ∷ marks us) (sym mark.1) ∙ sym (marks-unheaded t us (no_head t us mark.0));
+      made = ap (λ (l : List Mark). l ++ marks rest) (append-nil (written i)) ∙ g.made ∙ ap (λ m. m ∷ marks us) (sym mark.1) ∙ sym (marks-bracket t us (no_head t us mark.0) (open_no_string t.kind is));
       nested = omega (arith, g.nested);
       same_fault = g.same_fault;
     }
@@ -155,12 +219,34 @@ IsItems-named end depth t (u ∷ us) rest i is opens g =
       same_fault = fault-other end depth t (u ∷ us) others.0 others.1 ∙ g.same_fault;
     }
 
+typed-fault : (end depth : ℕ) (t : PlainToken) (ts : List PlainToken) → is_carets t.kind ≡ true → begins_with_datatype ts ≡ true → bracket_fault end depth (t ∷ ts) ≡ bracket_fault end depth (drop 1 ts)
+typed-fault end depth t [] carets datatype = cc
+typed-fault end depth t (u ∷ us) carets datatype =
+    let first = carets_no_bracket t.kind carets in
+    let second = datatype_no_bracket u.kind datatype in
+    fault-other end depth t (u ∷ us) first.0 first.1 ∙ fault-other end depth u us second.0 second.1
+
+literal-fault-at : (end depth : ℕ) (t : PlainToken) (ts : List PlainToken) (v w : Bool) → is_tag t.kind ≡ v → begins_with_type (t ∷ ts) ≡ w → bracket_fault end depth (t ∷ ts) ≡ bracket_fault end depth (drop (cond v 1 (cond w 2 0)) (t ∷ ts))
+literal-fault-at end depth t ts true w tag type = let no_bracket = tag_no_bracket t.kind tag in fault-other end depth t ts no_bracket.0 no_bracket.1
+literal-fault-at end depth t ts false true tag type =
+    let both = and_both (is_carets t.kind) (begins_with_datatype ts) type in
+    typed-fault end depth t ts both.0 both.1
+literal-fault-at end depth t ts false false tag type = refl
+
+literal-fault : (end depth : ℕ) (ts : List PlainToken) → bracket_fault end depth ts ≡ bracket_fault end depth (drop (literal_rest ts) ts)
+literal-fault end depth [] = refl
+literal-fault end depth (t ∷ ts) = literal-fault-at end depth t ts (is_tag t.kind) (begins_with_type (t ∷ ts)) refl refl
+
+rest-fault : (end depth : ℕ) (ts : List PlainToken) (v : Bool) → bracket_fault end depth ts ≡ bracket_fault end depth (drop (cond v (literal_rest ts) 0) ts)
+rest-fault end depth ts true = literal-fault end depth ts
+rest-fault end depth ts false = refl
+
 pub IsItems-single : (end depth : ℕ) (t : PlainToken) (us : List PlainToken) (i : Item) → is_open t.kind ≡ false → is_close t.kind ≡ false → is_head t us ≡ false
-    → written i ≡ mark_of t.kind t.text t.line ∷ [] → nesting i ≡ 0 → depth ≤ 64 → IsItems end depth (t ∷ us) us (i ∷ [])
+    → written i ≡ mark_of t.kind t.text t.line ∷ [] → nesting i ≡ 0 → depth ≤ 64 → IsItems end depth (t ∷ us) (drop (rest_behind (t ∷ us)) us) (i ∷ [])
 IsItems-single end depth t us i no_open no_close unheaded made flat within = record {
-  made = ap (λ (l : List Mark). l ++ marks us) (append-nil (written i) ∙ made) ∙ sym (marks-unheaded t us unheaded);
+  made = ap (λ (l : List Mark). l ++ marks (drop (rest_behind (t ∷ us)) us)) (append-nil (written i) ∙ made) ∙ sym (marks-unheaded t us unheaded);
   nested = omega (arith, flat, within);
-  same_fault = fault-other end depth t us no_open no_close;
+  same_fault = fault-other end depth t us no_open no_close ∙ rest-fault end depth us (is_string t.kind);
 }
 
 -- ---- the same at a place
@@ -173,10 +259,6 @@ closes-at tokens place d v inside h = ap begins_with_close (sym (tokens-at token
 
 heads-at : (tokens : List Token) (place : ℕ) (d : Token) (v : Bool) → place < length tokens → begins_with_head (from tokens place) ≡ v → is_head (plain_token (get_or tokens place d)) (from tokens (place + 1)) ≡ v
 heads-at tokens place d v inside h = ap begins_with_head (sym (tokens-at tokens place d inside)) ∙ h
-
-and_both : (a b : Bool) → (a && b) ≡ true → (a ≡ true) × (b ≡ true)
-and_both true b h = (refl, h)
-and_both false b h = cc
 
 pub unnamed-at : (end depth : ℕ) (tokens : List Token) (place : ℕ) (d : Token) (rest : List PlainToken) (i : Item) → place < length tokens → begins_with_open (from tokens place) ≡ true
     → IsGroup end depth None (get_or tokens place d).line (from tokens place) rest i → IsItems end depth (from tokens place) rest (i ∷ [])
@@ -206,14 +288,35 @@ pub head-opens : (tokens : List Token) (place : ℕ) (d : Token) → place < len
 head-opens tokens place d inside heads =
     (and_both (is_name (get_or tokens place d).kind) (begins_with_open (from tokens (place + 1))) (heads-at tokens place d true inside heads)).1
 
-pub single-at : (end depth : ℕ) (tokens : List Token) (place : ℕ) (d : Token) (i : Item) → place < length tokens
+pub single-at : (end depth : ℕ) (tokens : List Token) (place rest : ℕ) (d : Token) (i : Item) → place < length tokens → rest ≡ rest_behind (from tokens place)
     → begins_with_open (from tokens place) ≡ false → begins_with_close (from tokens place) ≡ false → begins_with_head (from tokens place) ≡ false
     → written i ≡ mark_of (get_or tokens place d).kind (get_or tokens place d).text.now (get_or tokens place d).line ∷ [] → nesting i ≡ 0 → depth ≤ 64
-    → IsItems end depth (from tokens place) (from tokens (place + 1)) (i ∷ [])
-single-at end depth tokens place d i inside no_open no_close no_name made flat within =
+    → IsItems end depth (from tokens place) (from tokens (place + 1 + rest)) (i ∷ [])
+single-at end depth tokens place rest d i inside is no_open no_close no_name made flat within =
     let t : PlainToken = plain_token (get_or tokens place d) in
-    subst (λ l. IsItems end depth l (from tokens (place + 1)) (i ∷ [])) (sym (tokens-at tokens place d inside))
-    (IsItems-single end depth t (from tokens (place + 1)) i (opens-at tokens place d false inside no_open) (closes-at tokens place d false inside no_close) (heads-at tokens place d false inside no_name) made flat within)
+    let here = tokens-at tokens place d inside in
+    let behind : drop (rest_behind (t ∷ from tokens (place + 1))) (from tokens (place + 1)) ≡ from tokens (place + 1 + rest) =
+    ap (λ n. drop n (from tokens (place + 1))) (sym (is ∙ ap rest_behind here)) ∙ drop-drop rest (place + 1) (map plain_token tokens) in
+    subst (λ l. IsItems end depth l (from tokens (place + 1 + rest)) (i ∷ [])) (sym here)
+    (subst (λ l. IsItems end depth (t ∷ from tokens (place + 1)) l (i ∷ [])) behind
+    (IsItems-single end depth t (from tokens (place + 1)) i (opens-at tokens place d false inside no_open) (closes-at tokens place d false inside no_close) (heads-at tokens place d false inside no_name) made flat within))
+
+-- ---- literals at a place
+
+pub datatype-at : (tokens : List Token) (place : ℕ) (d : Token) → place < length tokens → begins_with_datatype (from tokens place) ≡ is_datatype (get_or tokens place d).kind
+datatype-at tokens place d inside = ap begins_with_datatype (tokens-at tokens place d inside)
+
+pub type-at : (tokens : List Token) (place : ℕ) (d : Token) (v : Bool) → place < length tokens → is_carets (get_or tokens place d).kind ≡ v → begins_with_type (from tokens place) ≡ (v && begins_with_datatype (from tokens (place + 1)))
+type-at tokens place d v inside carets = ap begins_with_type (tokens-at tokens place d inside) ∙ ap (λ w. w && begins_with_datatype (from tokens (place + 1))) carets
+
+pub literal-at : (tokens : List Token) (place : ℕ) (d : Token) (v w : Bool) → place < length tokens → is_tag (get_or tokens place d).kind ≡ v → begins_with_type (from tokens place) ≡ w → literal_rest (from tokens place) ≡ cond v 1 (cond w 2 0)
+literal-at tokens place d v w inside tag type =
+    let here = tokens-at tokens place d inside in
+    let same : begins_with_type (plain_token (get_or tokens place d) ∷ from tokens (place + 1)) ≡ w = ap begins_with_type (sym here) ∙ type in
+    ap literal_rest here ∙ (λ k. cond (tag k) 1 (cond (same k) 2 0))
+
+pub rest-at : (tokens : List Token) (place : ℕ) (d : Token) (v : Bool) → place < length tokens → is_string (get_or tokens place d).kind ≡ v → rest_behind (from tokens place) ≡ cond v (literal_rest (from tokens (place + 1))) 0
+rest-at tokens place d v inside string = ap rest_behind (tokens-at tokens place d inside) ∙ ap (λ w. cond w (literal_rest (from tokens (place + 1))) 0) string
 
 -- ---- groups
 
@@ -249,7 +352,7 @@ leave end depth (t ∷ ts) closes =
     let mark = close_mark t.kind t.text t.line closes in
     let less : (depth + 1) - 1 ≡ depth = omega arith in (
       fault-close end (depth + 1) t ts false closes (not_zero depth) ∙ ap (λ e. bracket_fault end e ts) less,
-      marks-unheaded t ts (no_head t ts mark.0) ∙ ap (λ m. m ∷ marks ts) mark.1,
+      marks-bracket t ts (no_head t ts mark.0) (close_no_string t.kind closes) ∙ ap (λ m. m ∷ marks ts) mark.1,
     )
 
 pub enter-at : (end depth : ℕ) (tokens : List Token) (place : ℕ) → place < length tokens → begins_with_open (from tokens place) ≡ true → depth < 64

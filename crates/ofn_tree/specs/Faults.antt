@@ -1,9 +1,10 @@
 -- The faults of a text and of its brackets.
-use Rattle.std.specs.Prelude.{◌≡◌, ℕ, ◌+◌, ◌-◌, List, [], ◌∷◌, nat_eq, nat_lt, Option, Some, None, is_some, Result, Ok, Err, if◌then◌else◌}
+use Rattle.std.specs.Prelude.{◌≡◌, ℕ, ◌+◌, ◌-◌, List, [], ◌∷◌, nat_eq, nat_lt, Option, Some, None, Result, Ok, Err, if◌then◌else◌}
+use Rattle.std.specs.Result.{result_err}
 use Rattle.ofn_tree.specs.declared.fault.TextFault.{TextFault}
 use Rattle.ofn_tree.specs.declared.fault.TextFault.TheVariants.{BadUtf8, BadToken, Unbalanced, TooDeep, NoMemory}
 use Rattle.ofn_tree.specs.Token.{PlainToken, is_open, is_close}
-use Rattle.ofn_tree.specs.Document.{reading}
+use Rattle.ofn_tree.specs.Document.{document}
 
 -- an answer tells the fault that there is, or that memory was refused
 abbrev pub IsFaultOf : Option TextFault → TextFault → Type 0
@@ -13,9 +14,9 @@ IsFaultOf there (BadToken line) = there ≡ Some (BadToken line)
 IsFaultOf there (Unbalanced line) = there ≡ Some (Unbalanced line)
 IsFaultOf there (TooDeep line) = there ≡ Some (TooDeep line)
 
--- the first fault of a text's tokens; every line is 0 for now
+-- the first fault of a text's tokens, which there is where a text has no reading
 abbrev pub token_fault : List ℕ → Option TextFault
-token_fault text = if is_some (reading text) then None else Some (BadToken 0)
+token_fault text = result_err (document text)
 
 -- how many brackets are open behind a token, where d are open before it, or the fault of the token
 abbrev pub depth_behind : ℕ → PlainToken → Result ℕ TextFault

@@ -1,24 +1,27 @@
 -- The document's group in words of brackets: where it begins, and where it ends.
-use Rattle.std.specs.Prelude.{◌≡◌, ℕ, ◌+◌, ◌-◌, ◌≤◌, List, [], ◌∷◌, ◌++◌, codes}
-use Rattle.ofn_tree.specs.declared.token.Kind.{Kind}
-use Rattle.ofn_tree.specs.declared.token.Kind.TheVariants.{OpenBracket, CloseBracket, Name}
+use Rattle.std.specs.Prelude.{◌≡◌, ℕ, ◌≤◌, List, [], ◌∷◌, ◌++◌, codes}
+use Rattle.ofn_tree.specs.declared.token.Kind.TheVariants.{OpenBracket, CloseBracket, String, Carets, Name}
 use Rattle.ofn_tree.specs.Token.{PlainToken}
-
--- how many brackets are open behind a token of a kind, where d are open before it
-abbrev pub depth_step : Kind → ℕ → ℕ
-depth_step OpenBracket d = d + 1
-depth_step CloseBracket d = d - 1
-depth_step _ d = d
+use Rattle.ofn_tree.specs.Document.{depth_after}
 
 -- how many brackets are open behind tokens
 abbrev pub open_behind : ℕ → List PlainToken → ℕ
 open_behind d [] = d
-open_behind d (t ∷ ts) = open_behind (depth_step t.kind d) ts
+open_behind d (t ∷ ts) = open_behind (depth_after t.kind d) ts
 
 -- before the tokens, between them and behind them some bracket is open
 abbrev pub StaysOpen : ℕ → List PlainToken → Type 0
 StaysOpen d [] = 1 ≤ d
-StaysOpen d (t ∷ ts) = (1 ≤ d) × StaysOpen (depth_step t.kind d) ts
+StaysOpen d (t ∷ ts) = (1 ≤ d) × StaysOpen (depth_after t.kind d) ts
+
+-- The tokens end with a string and carets, so that a name behind them is part of their literal.
+pub record EndsWithCarets (ts : List PlainToken) : Type 0 where
+  pub front : List PlainToken
+  pub string : PlainToken
+  pub carets : PlainToken
+  pub made : ts ≡ front ++ string ∷ (carets ∷ [])
+  pub is_string : string.kind ≡ String
+  pub is_carets : carets.kind ≡ Carets
 
 -- The tokens end inside a group whose name is `Ontology` and which begins where no bracket is open: d brackets are
 -- open, that of the group among them.
@@ -29,6 +32,7 @@ pub record IsInsideDocument (d : ℕ) (ts : List PlainToken) : Type 0 where
   pub inside : List PlainToken
   pub made : ts ≡ before ++ name ∷ (bracket ∷ inside)
   pub outside : open_behind 0 before ≡ 0
+  pub apart : EndsWithCarets before → ⊥
   pub is_name : name.kind ≡ Name
   pub is_ontology : name.text ≡ codes "Ontology"
   pub opens : bracket.kind ≡ OpenBracket

@@ -1,8 +1,8 @@
 -- The items of a text as plain trees, and the marks of which they are made.
-use Rattle.std.specs.Prelude.{◌≡◌, ℕ, ◌+◌, ◌≤◌, max, List, [], ◌∷◌, ◌++◌, Bool, true, false, ◌&&◌, Option, Some, None}
+use Rattle.std.specs.Prelude.{◌≡◌, ℕ, zero, suc, ◌+◌, ◌≤◌, max, List, [], ◌∷◌, ◌++◌, Bool, true, false, ◌&&◌, if◌then◌else◌, Option, Some, None}
 use Rattle.ofn_tree.specs.declared.token.Kind.{Kind}
 use Rattle.ofn_tree.specs.declared.token.Kind.TheVariants.{OpenBracket, CloseBracket, Equals, Iri, String, Tag, Carets, Name}
-use Rattle.ofn_tree.specs.Token.{PlainToken, is_open, is_name}
+use Rattle.ofn_tree.specs.Token.{PlainToken, is_open, is_name, is_string, is_tag, is_carets, is_datatype}
 
 -- Each item has its line, which is that of its first token.
 mutual
@@ -27,7 +27,7 @@ pub data Mark : Type 0 where
   closing : Mark
   single : Item → Mark
 
--- what a token stands for that is no name of a group
+-- what a token stands for that is no name of a group; a string, for the literal that it begins
 abbrev pub mark_of : Kind → List ℕ → ℕ → Mark
 mark_of OpenBracket text line = opening None line
 mark_of CloseBracket text line = closing
@@ -42,24 +42,48 @@ abbrev pub begins_with_open : List PlainToken → Bool
 begins_with_open [] = false
 begins_with_open (t ∷ ts) = is_open t.kind
 
+abbrev pub begins_with_datatype : List PlainToken → Bool
+begins_with_datatype [] = false
+begins_with_datatype (t ∷ ts) = is_datatype t.kind
+
 -- A name directly followed by an opening bracket is the name of a group.
 abbrev pub is_head : PlainToken → List PlainToken → Bool
 is_head t ts = is_name t.kind && begins_with_open ts
+
+-- carets and a name or IRI
+abbrev pub begins_with_type : List PlainToken → Bool
+begins_with_type [] = false
+begins_with_type (t ∷ ts) = is_carets t.kind && begins_with_datatype ts
+
+-- how many of the tokens behind a string are part of its literal: a tag, or carets and a name or IRI
+abbrev pub literal_rest : List PlainToken → ℕ
+literal_rest [] = 0
+literal_rest (t ∷ ts) = if is_tag t.kind then 1 else if begins_with_type (t ∷ ts) then 2 else 0
+
+-- how many of the tokens behind the first are part of its literal, where it is a string
+abbrev pub rest_behind : List PlainToken → ℕ
+rest_behind [] = 0
+rest_behind (t ∷ ts) = if is_string t.kind then literal_rest ts else 0
+
+-- how many tokens behind a token have no mark of their own: the bracket behind the name of a group, and the rest of a
+-- literal behind its string
+abbrev pub unmarked : PlainToken → List PlainToken → ℕ
+unmarked t ts = if is_head t ts then 1 else rest_behind (t ∷ ts)
 
 -- the mark of a token, where it is the name of a group or not
 abbrev pub mark_at : Bool → PlainToken → Mark
 mark_at true t = opening (Some t.text) t.line
 mark_at false t = mark_of t.kind t.text t.line
 
--- The bracket behind the name of a group has no mark of its own: `true` skips it.
-abbrev pub marks_from : Bool → List PlainToken → List Mark
-marks_from skips [] = []
-marks_from true (t ∷ ts) = marks_from false ts
-marks_from false (t ∷ ts) = mark_at (is_head t ts) t ∷ marks_from (is_head t ts) ts
+-- the marks of tokens of which the first k have none
+abbrev pub marks_from : ℕ → List PlainToken → List Mark
+marks_from k [] = []
+marks_from (suc k) (t ∷ ts) = marks_from k ts
+marks_from zero (t ∷ ts) = mark_at (is_head t ts) t ∷ marks_from (unmarked t ts) ts
 
 -- the marks of tokens
 abbrev pub marks : List PlainToken → List Mark
-marks ts = marks_from false ts
+marks ts = marks_from 0 ts
 
 -- the marks of which items are made
 abbrev mutual

@@ -1,12 +1,15 @@
 -- Tokens as slices of a text.
 use Rattle.std.specs.Prelude.{◌≡◌, ℕ, ◌+◌, ◌≤◌, List, [], ◌∷◌, length, take, drop}
 use Rattle.ofn_tree.specs.declared.token.Kind.{Kind}
-use Rattle.ofn_tree.specs.declared.token.Kind.TheVariants.{Iri}
+use Rattle.ofn_tree.specs.declared.token.Kind.TheVariants.{Iri, String}
 use Rattle.ofn_tree.specs.Token.{PlainToken}
+use Rattle.ofn_tree.specs.Lexemes.{end_line}
 
--- how many bytes stand round a token's text that are not part of it: the `<` before an IRI, and the `>` behind it
+-- how many bytes stand before a token's text that are not part of it, and as many behind it: the `<` and `>` round an
+-- IRI, and the quotation marks round a string
 abbrev pub around : Kind → ℕ
 around Iri = 1
+around String = 1
 around _ = 0
 
 -- how many bytes of the input a token takes up
@@ -21,3 +24,8 @@ IsSlice input t = t.text ≡ take (length t.text) (drop (t.start + around t.kind
 abbrev pub AreSpans : List ℕ → ℕ → List PlainToken → ℕ → Type 0
 AreSpans input from [] to = from ≤ to
 AreSpans input from (t ∷ ts) to = (from ≤ t.start) × IsSlice input t × AreSpans input (t.start + width t) ts to
+
+-- each token has the line of its first byte
+abbrev pub HaveLines : List ℕ → List PlainToken → Type 0
+HaveLines input [] = Unit {0}
+HaveLines input (t ∷ ts) = (t.line ≡ end_line (take t.start input)) × HaveLines input ts

@@ -1,10 +1,11 @@
 -- Tokens as contracts see them.
 use Rattle.std.specs.Prelude.{ℕ, List, Bool, true, false}
 use Rattle.ofn_tree.specs.declared.token.Kind.{Kind}
-use Rattle.ofn_tree.specs.declared.token.Kind.TheVariants.{OpenBracket, CloseBracket, Name}
+use Rattle.ofn_tree.specs.declared.token.Kind.TheVariants.{OpenBracket, CloseBracket, Iri, String, Tag, Carets, Name}
 use Rattle.ofn_tree.specs.declared.token.Token.{Token}
 
--- a token with its own bytes, those of an IRI without its `<` and `>`; the place of its first byte; and its line
+-- a token with its own bytes, those of an IRI without its `<` and `>` and those of a string without its quotation marks;
+-- the place of its first byte; and its line
 pub record PlainToken : Type 0 where
   pub kind : Kind
   pub text : List ℕ
@@ -25,3 +26,21 @@ is_close _ = false
 abbrev pub is_name : Kind → Bool
 is_name Name = true
 is_name _ = false
+
+abbrev pub is_string : Kind → Bool
+is_string String = true
+is_string _ = false
+
+abbrev pub is_tag : Kind → Bool
+is_tag Tag = true
+is_tag _ = false
+
+abbrev pub is_carets : Kind → Bool
+is_carets Carets = true
+is_carets _ = false
+
+-- what may name the type of a literal
+abbrev pub is_datatype : Kind → Bool
+is_datatype Name = true
+is_datatype Iri = true
+is_datatype _ = false

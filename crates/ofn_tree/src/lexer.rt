@@ -1,37 +1,95 @@
 // A text cut into tokens.
-ghost use Rattle.std.specs.Prelude.{◌≡◌, ℕ, List, ◌<◌, ◌≤◌, ◌+◌, ◌-◌, ◌^◌, ◌∷◌, ◌++◌, ◌⊎◌, [], true, Some, None, Err, IfOk, IfErr, IfSome, length, slice_index, drop, option_map, IsAscii};
-ghost use Rattle.std.specs.List.{prefix_len};
+ghost use Rattle.std.specs.Prelude.{◌≡◌, ℕ, List, ◌<◌, ◌≤◌, ◌+◌, ◌-◌, ◌^◌, ◌∷◌, ◌++◌, ◌⊎◌, [], true, Some, None, is_some, not, IfOk, IfErr, length};
+ghost use Rattle.std.specs.Str.{IsUtf8, IsCharBoundary};
 ghost use Rattle.ofn_tree.specs.Token.{PlainToken, plain_token};
-ghost use Rattle.ofn_tree.specs.Lexemes.{is_space, is_iri_byte, is_name_byte, iri_at, name_at, lexeme_at};
-ghost use Rattle.ofn_tree.specs.Document.{Reading, is_last, met_after, reading};
-ghost use Rattle.ofn_tree.specs.Spans.{AreSpans};
+ghost use Rattle.ofn_tree.specs.Lexemes.{utf8_front, bad_byte_line, mark_len, unended_fault};
+ghost use Rattle.ofn_tree.specs.Document.{Reading, nothing_met, is_last, met_after, behind_name, behind_carets, is_document_name, latest_after, reading};
+ghost use Rattle.ofn_tree.specs.Spans.{AreSpans, HaveLines};
 ghost use Rattle.ofn_tree.specs.Group.{EndsDocument};
 ghost use Rattle.ofn_tree.specs.Faults.{IsFaultOf, token_fault};
 ghost use Rattle.ofn_tree.specs.Lexed.{reading_of};
-ghost use Rattle.ofn_tree.specs.Scanned.{lexeme_of, met_of};
+ghost use Rattle.ofn_tree.specs.Scanned.{met_of};
 
+use crate::bytes::end_line;
+use crate::cut::{Cut, cut_at};
 use crate::{Kind, TextFault, Token};
 use std::alloc::Global;
 use std::str;
 
-// A token at the front of some bytes, and how many of them it has.
-#[derive(Clone, Copy)]
-struct Lexeme<'a> {
-    kind: Kind,
-    text: &'a str,
-    len: usize,
+// What the last tokens were, as far as it tells what a name behind them is.
+#[derive(Clone, Copy, PartialEq, Eq)]
+enum Latest {
+    // The name of the document's group, which is no part of a literal.
+    DocumentName,
+    // A string.
+    QuotedString,
+    // A string and carets: a name behind them is part of their literal.
+    TypedString,
+    Other,
 }
 
-// The brackets that are open, whether the outermost of them is that of the document's group, and whether the last
-// token is the name of that group.
+impl Latest {
+    fn is_document_name(self) -> bool
+        ensures { result ≡ is_document_name self }
+    {
+        self == Latest::DocumentName
+    }
+
+    fn behind_name(self, text: &str) -> Latest
+        ensures { result ≡ behind_name text.now self }
+    {
+        if self != Latest::TypedString && text == "Ontology" {
+            Latest::DocumentName
+        } else {
+            Latest::Other
+        }
+    }
+
+    fn behind_carets(self) -> Latest
+        ensures { result ≡ behind_carets self }
+    {
+        if self == Latest::QuotedString {
+            Latest::TypedString
+        } else {
+            Latest::Other
+        }
+    }
+
+    // What the last tokens are behind one more.
+    fn behind(self, token: &Token) -> Latest
+        ensures { result ≡ latest_after token.now.kind token.now.text.now self }
+    {
+        match token.kind {
+            Kind::Name => self.behind_name(token.text),
+            Kind::String => Latest::QuotedString,
+            Kind::Carets => self.behind_carets(),
+            _ => Latest::Other,
+        }
+    }
+}
+
+// The brackets that are open, whether the outermost of them is that of the document's group, and what the last tokens
+// were.
 #[derive(Clone, Copy)]
 struct Brackets {
     depth: usize,
     document: bool,
-    named: bool,
+    latest: Latest,
 }
 
 impl Brackets {
+    // No bracket is open, and there was no token.
+    fn none() -> Brackets
+        ensures none { met_of result ≡ nothing_met }
+        ensures depth { result.depth ≡ 0 }
+    {
+        Brackets {
+            depth: 0,
+            document: false,
+            latest: Latest::Other,
+        }
+    }
+
     // The token closes the document's group.
     fn closes_document(self, token: &Token) -> bool
         ensures { result ≡ is_last (met_of self) (plain_token token.now) }
@@ -45,79 +103,44 @@ impl Brackets {
         ensures value { met_of result ≡ met_after token.now.kind token.now.text.now (met_of self) }
         ensures within { result.depth ≤ self.depth + 1 }
     {
+        let latest = self.latest.behind(token);
         match token.kind {
             Kind::OpenBracket => Brackets {
                 depth: self.depth + 1,
                 document: if self.depth == 0 {
-                    self.named
+                    self.latest.is_document_name()
                 } else {
                     self.document
                 },
-                named: false,
+                latest,
             },
             Kind::CloseBracket => Brackets {
                 depth: self.depth.saturating_sub(1),
                 document: self.document,
-                named: false,
-            },
-            Kind::Name => Brackets {
-                depth: self.depth,
-                document: self.document,
-                named: token.text == "Ontology",
+                latest,
             },
             _ => Brackets {
                 depth: self.depth,
                 document: self.document,
-                named: false,
+                latest,
             },
         }
     }
 }
 
-fn is_space(byte: u8) -> bool
-    ensures { result ≡ is_space byte }
+// The longest front of the text that is UTF-8.
+fn utf8_front(text: &[u8]) -> &str
+    ensures front { result.now ≡ utf8_front text.now }
+    ensures within { length result.now ≤ length text.now }
 {
-    byte == b' ' || byte == b'\t' || byte == b'\n' || byte == b'\r'
+    match str::from_utf8(text) {
+        Ok(front) => front,
+        Err(error) => utf8_text(&text[..error.valid_up_to()]),
+    }
 }
 
-fn is_iri_byte(byte: u8) -> bool
-    ensures { result ≡ is_iri_byte byte }
-{
-    32 < byte && byte < 127 && byte != b'<' && byte != b'>' && byte != b'"'
-}
-
-fn is_name_byte(byte: u8) -> bool
-    ensures { result ≡ is_name_byte byte }
-{
-    32 < byte
-        && byte < 127
-        && byte != b'('
-        && byte != b')'
-        && byte != b'='
-        && byte != b'<'
-        && byte != b'>'
-        && byte != b'"'
-        && byte != b'#'
-        && byte != b'@'
-        && byte != b'^'
-}
-
-fn iri_len(text: &[u8]) -> usize
-    ensures value { result ≡ prefix_len is_iri_byte text.now }
-    ensures within { result ≤ length text.now }
-{
-    text.iter().take_while(|byte| is_iri_byte(**byte)).count()
-}
-
-fn name_len(text: &[u8]) -> usize
-    ensures value { result ≡ prefix_len is_name_byte text.now }
-    ensures within { result ≤ length text.now }
-{
-    text.iter().take_while(|byte| is_name_byte(**byte)).count()
-}
-
-fn ascii_text(bytes: &[u8]) -> &str
-    requires { IsAscii bytes.now }
+fn utf8_text(bytes: &[u8]) -> &str
+    requires { IsUtf8 bytes.now }
     ensures { result.now ≡ bytes.now }
 {
     match str::from_utf8(bytes) {
@@ -126,114 +149,99 @@ fn ascii_text(bytes: &[u8]) -> &str
     }
 }
 
-// The bracket that is the first byte.
-fn bracket_at(kind: Kind, text: &[u8]) -> Lexeme<'_>
-    requires some { 0 < length text.now }
-    requires ascii { slice_index text.now 0 < 128 }
-    ensures lexeme { lexeme_of result ≡ record { kind = kind; text = slice_index text.now 0 ∷ []; more = 0 } }
-    ensures len { result.len ≡ 1 }
+// The line of the byte behind the text's front that is UTF-8, if there is one.
+fn bad_byte_line(front: &str, text: &[u8]) -> Option<u32>
+    requires front { front.now ≡ utf8_front text.now }
+    requires short { length text.now ≤ 4_294_967_293 }
+    ensures { result ≡ bad_byte_line text.now }
 {
-    Lexeme {
-        kind,
-        text: ascii_text(&text[..1]),
-        len: 1,
+    if front.len() < text.len() {
+        Some(end_line(front.as_bytes()))
+    } else {
+        None
     }
 }
 
-// The IRI whose `<` is the first byte.
-fn iri_at(text: &[u8]) -> Option<Lexeme<'_>>
-    requires { 0 < length text.now }
-    ensures lexeme { option_map lexeme_of result ≡ iri_at (prefix_len is_iri_byte (drop 1 text.now)) (drop 1 text.now) }
-    ensures within { IfSome result (λ x. x.len ≤ length text.now) }
-    ensures some { IfSome result (λ x. 1 ≤ x.len) }
+// How long the byte order mark at the start of the text is.
+fn mark_len(text: &str) -> usize
+    ensures value { result ≡ mark_len text.now }
+    ensures within { IsCharBoundary text.now result }
 {
-    let rest = &text[1..];
-    let len = iri_len(rest);
-    if len < rest.len() && rest[len] == b'>' {
-        return Some(Lexeme {
-            kind: Kind::Iri,
-            text: ascii_text(&rest[..len]),
-            len: len + 2,
-        });
-    }
-    None
-}
-
-// The name that begins with the first byte.
-fn name_at(text: &[u8]) -> Lexeme<'_>
-    requires some { 0 < length text.now }
-    requires name { is_name_byte (slice_index text.now 0) ≡ true }
-    ensures lexeme { lexeme_of result ≡ name_at (prefix_len is_name_byte (drop 1 text.now)) (slice_index text.now 0) (drop 1 text.now) }
-    ensures within { result.len ≤ length text.now }
-    ensures some { 1 ≤ result.len }
-{
-    let len = name_len(&text[1..]) + 1;
-    Lexeme {
-        kind: Kind::Name,
-        text: ascii_text(&text[..len]),
-        len,
+    if text.as_bytes().starts_with(b"\xef\xbb\xbf") {
+        3
+    } else {
+        0
     }
 }
 
-// The token at the front of the text.
-fn lexeme_at(text: &[u8]) -> Option<Lexeme<'_>>
-    requires { 0 < length text.now }
-    ensures lexeme { option_map lexeme_of result ≡ lexeme_at (slice_index text.now 0) (drop 1 text.now) }
-    ensures within { IfSome result (λ x. x.len ≤ length text.now) }
-    ensures some { IfSome result (λ x. 1 ≤ x.len) }
+// The fault of a token on a line that goes on where the text's front that is UTF-8 ends.
+fn unended_fault(bad_line: Option<u32>, line: u32) -> TextFault
+    ensures { result ≡ unended_fault bad_line line }
 {
-    match text[0] {
-        b'(' => Some(bracket_at(Kind::OpenBracket, text)),
-        b')' => Some(bracket_at(Kind::CloseBracket, text)),
-        b'<' => iri_at(text),
-        first if is_name_byte(first) => Some(name_at(text)),
-        _ => None,
+    match bad_line {
+        Some(bad) => TextFault::BadUtf8(bad),
+        None => TextFault::BadToken(line),
     }
 }
 
 /// The tokens of the document that the text begins with, in order, and the place behind the last byte that was read:
-/// up to the bracket that closes the document's group, or to the end of the text. What follows is not looked at.
+/// up to the bracket that closes the document's group, or to the end of the text. What follows is not looked at. The
+/// document's group is the first with exactly the name `Ontology` that begins where no bracket is open.
 ///
-/// Whitespace is blank, tab, line feed and carriage return. For now tokens are brackets, IRIs and names of ASCII
-/// characters, and every line is 0.
+/// Tokens are as in the functional-style syntax of OWL 2 (section 2 of the W3C recommendation), with these choices:
+/// whitespace is blank, tab, line feed and carriage return; a comment runs from `#` to before the next line feed or
+/// carriage return; a name is the longest run of characters other than whitespace, control characters and
+/// `( ) = < > " # @ ^`; control characters stand in comments and strings alone. A byte order mark at the start of the
+/// text is skipped. The line of a token is 1 plus the number of line feeds before it.
+///
+/// The text has at most 4,294,967,293 bytes.
 ///
 /// # Errors
 ///
-/// `BadToken` where a character before that place is neither whitespace nor part of a token, and `NoMemory`.
+/// The fault before that place that is met first, from left to right. `BadUtf8` with the line of a byte that is not part
+/// of UTF-8, in comments and strings too. `BadToken` with the line of a character that begins no token, or of the first
+/// character of a token that another one breaks or the text's end cuts off. And `NoMemory`.
 pub fn tokens(alloc: Global, text: &[u8]) -> Result<(Vec<Token<'_>>, usize), TextFault>
+    requires { length text.now ≤ 4_294_967_293 }
     ensures ok { IfOk result (λ r. reading text.now ≡ Some (reading_of r.0.items r.1)) }
     ensures within { IfOk result (λ r. r.1 ≤ length text.now) }
     ensures fault { IfErr result (IsFaultOf (token_fault text.now)) }
 {
+    let front = utf8_front(text);
+    let bad_line = bad_byte_line(front, text);
     let mut tokens = Vec::new(alloc);
-    let mut brackets = Brackets {
-        depth: 0,
-        document: false,
-        named: false,
-    };
-    let mut place = 0;
-    while place < text.len() {
-        if is_space(text[place]) {
-            place += 1;
-        } else {
-            let Some(lexeme) = lexeme_at(&text[place..]) else {
-                return Err(TextFault::BadToken(0));
-            };
-            let token = Token {
-                kind: lexeme.kind,
-                text: lexeme.text,
-                start: place,
-                line: 0,
-            };
-            tokens.push(token)?;
-            place += lexeme.len;
-            if brackets.closes_document(&token) {
-                return Ok((tokens, place));
+    let mut brackets = Brackets::none();
+    let mut place = mark_len(front);
+    let mut line = 1;
+    while place < front.len() {
+        match cut_at(&front[place..]) {
+            Cut::Gap { len, line_feeds } => {
+                place += len;
+                line += line_feeds as u32;
             }
-            brackets = brackets.behind(&token);
+            Cut::Token(lexeme) => {
+                let token = Token {
+                    kind: lexeme.kind,
+                    text: lexeme.text,
+                    start: place,
+                    line,
+                };
+                tokens.push(token)?;
+                place += lexeme.len;
+                line += lexeme.line_feeds as u32;
+                if brackets.closes_document(&token) {
+                    return Ok((tokens, place));
+                }
+                brackets = brackets.behind(&token);
+            }
+            Cut::Wrong => return Err(TextFault::BadToken(line)),
+            Cut::Unended => return Err(unended_fault(bad_line, line)),
         }
     }
-    Ok((tokens, place))
+    match bad_line {
+        Some(bad) => Err(TextFault::BadUtf8(bad)),
+        None => Ok((tokens, place)),
+    }
 }
 
 /// The tokens that are read are slices of the text, in order and apart, up to the place behind the last byte that was
@@ -242,9 +250,19 @@ pub fn tokens_are_slices()
     ensures { (input : List ℕ) (r : Reading) → reading input ≡ Some r → AreSpans input 0 r.tokens r.place_behind × (r.place_behind ≤ length input) }
 {}
 
+/// The line of each token that is read is that on which the text before it ends.
+pub fn tokens_have_lines()
+    ensures { (input : List ℕ) (r : Reading) → reading input ≡ Some r → HaveLines input r.tokens }
+{}
+
 /// The tokens that are read end with the first bracket that closes a group whose name is `Ontology` and which begins
 /// where no bracket is open; without such a bracket the whole text is read.
 pub fn tokens_end_with_the_document()
     ensures ends { (input : List ℕ) (r : Reading) → reading input ≡ Some r → EndsDocument r.tokens ⊎ (r.place_behind ≡ length input) }
     ensures first { (input : List ℕ) (r : Reading) (front rest : List PlainToken) (t : PlainToken) → reading input ≡ Some r → r.tokens ≡ front ++ t ∷ rest → EndsDocument (front ++ t ∷ []) → rest ≡ [] }
+{}
+
+/// A text either has tokens, or a first fault.
+pub fn texts_are_read_or_faulty()
+    ensures { (input : List ℕ) → is_some (token_fault input) ≡ not (is_some (reading input)) }
 {}

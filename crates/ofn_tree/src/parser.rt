@@ -1,7 +1,7 @@
 // The tree of a text's brackets.
 ghost use Rattle.std.specs.Prelude.{◌≡◌, ◌<◌, ◌≤◌, ◌++◌, ◌+◌, ◌∷◌, [], true, false, List, IfOk, IfErr, OnOk, None, Some, length, drop, map};
-ghost use Rattle.ofn_tree.specs.Token.{plain_token, PlainToken, is_open, is_close, is_name};
-ghost use Rattle.ofn_tree.specs.Items.{Item, IsTree, written, nesting, mark_of, begins_with_open};
+ghost use Rattle.ofn_tree.specs.Token.{plain_token, PlainToken, is_open, is_close, is_name, is_string, is_tag, is_carets, is_datatype};
+ghost use Rattle.ofn_tree.specs.Items.{Item, IsTree, written, nesting, mark_of, begins_with_open, begins_with_datatype, begins_with_type, literal_rest, rest_behind};
 ghost use Rattle.ofn_tree.specs.Form.{head_text};
 ghost use Rattle.ofn_tree.specs.Parsed.{begins_with_close, begins_with_head, IsItems, IsGroup};
 ghost use Rattle.ofn_tree.specs.Faults.{IsFaultOf, bracket_fault};
@@ -12,7 +12,9 @@ use std::alloc::Global;
 // How many brackets may be open at once.
 const MAX_OPEN: u32 = 64;
 
-/// The items of the tokens, bracketed. A name directly followed by an opening bracket begins a group with that name.
+/// The items of the tokens, bracketed. A name directly followed by an opening bracket begins a group with that name. A
+/// string is one literal with a tag that follows it, or with carets and a name or IRI that follow it, also where a
+/// bracket opens behind that name: the group has no name then. Equals signs, and tags and carets elsewhere, are signs.
 /// `end_line` is the line of the text's end.
 ///
 /// # Errors
@@ -103,7 +105,8 @@ fn one<'a>(
             end_line,
         );
     }
-    Ok((single(&token), start + 1))
+    let rest = rest_behind(tokens, start);
+    Ok((single(&token), start + 1 + rest))
 }
 
 fn is_open(kind: Kind) -> bool
@@ -122,6 +125,31 @@ fn is_name(kind: Kind) -> bool
     ensures { result ≡ is_name kind }
 {
     kind == Kind::Name
+}
+
+fn is_string(kind: Kind) -> bool
+    ensures { result ≡ is_string kind }
+{
+    kind == Kind::String
+}
+
+fn is_tag(kind: Kind) -> bool
+    ensures { result ≡ is_tag kind }
+{
+    kind == Kind::Tag
+}
+
+fn is_carets(kind: Kind) -> bool
+    ensures { result ≡ is_carets kind }
+{
+    kind == Kind::Carets
+}
+
+// The kind may name the type of a literal.
+fn is_datatype(kind: Kind) -> bool
+    ensures { result ≡ is_datatype kind }
+{
+    kind == Kind::Name || kind == Kind::Iri
 }
 
 // A bracket opens at a place.
@@ -146,7 +174,55 @@ fn heads_group_at(tokens: &[Token], place: usize) -> bool
     is_name(tokens[place].kind) && opens_at(tokens, place + 1)
 }
 
-// The item that is one token.
+// A name or an IRI stands at a place.
+fn datatype_at(tokens: &[Token], place: usize) -> bool
+    ensures datatype { result ≡ begins_with_datatype (drop place (map plain_token tokens.now)) }
+    ensures within { result ≡ true → place < length tokens.now }
+{
+    place < tokens.len() && is_datatype(tokens[place].kind)
+}
+
+// Carets and a name or an IRI stand at a place.
+fn type_at(tokens: &[Token], place: usize) -> bool
+    requires { place < length tokens.now }
+    ensures typed { result ≡ begins_with_type (drop place (map plain_token tokens.now)) }
+    ensures within { result ≡ true → place + 2 ≤ length tokens.now }
+{
+    is_carets(tokens[place].kind) && datatype_at(tokens, place + 1)
+}
+
+// How many of the tokens at a place are part of the literal whose string stands before them.
+fn literal_rest(tokens: &[Token], place: usize) -> usize
+    requires { place ≤ length tokens.now }
+    ensures rest { result ≡ literal_rest (drop place (map plain_token tokens.now)) }
+    ensures within { place + result ≤ length tokens.now }
+{
+    if place == tokens.len() {
+        return 0;
+    }
+    if is_tag(tokens[place].kind) {
+        return 1;
+    }
+    if type_at(tokens, place) {
+        return 2;
+    }
+    0
+}
+
+// How many of the tokens behind the one at a place are part of its literal, where it is a string.
+fn rest_behind(tokens: &[Token], place: usize) -> usize
+    requires { place < length tokens.now }
+    ensures rest { result ≡ rest_behind (drop place (map plain_token tokens.now)) }
+    ensures within { place + 1 + result ≤ length tokens.now }
+{
+    if is_string(tokens[place].kind) {
+        literal_rest(tokens, place + 1)
+    } else {
+        0
+    }
+}
+
+// The item that begins with a token and is no group.
 fn single<'a>(token: &Token<'a>) -> Tree<'a>
     requires open { is_open token.now.kind ≡ false }
     requires close { is_close token.now.kind ≡ false }

@@ -25,10 +25,11 @@ pub enum Kind {
 #[derive(Clone, Copy, Debug)]
 pub struct Token<'a> {
     pub kind: Kind,
-    /// The token's bytes. Those of an IRI stand between its `<` and its `>`.
+    /// The token's bytes. Those of an IRI stand between its `<` and its `>`, those of a string between its quotation
+    /// marks, with its backslashes.
     pub text: &'a str,
     /// The place of the token's first byte in the text.
     pub start: usize,
-    /// The line of that byte. It is 0 for now.
+    /// The line of that byte: 1 plus the number of line feeds before it.
     pub line: u32,
 }

@@ -66,4 +66,4 @@ one-single-requires-clause-close t c = closes-at c.args.tokens.now c.args.start 
 
 pub one-returns-clause-read : goal.one-returns-clause-read
 one-returns-clause-read t c =
-    single-at c.args.end_line c.args.depth c.args.tokens.now c.args.start no_token c.single.result c.requires.start (sym c.opens_at.ensures ∙ c.if-opens_at.false) c.requires.begins (sym c.heads_group_at.ensures ∙ c.if-heads_group_at.false) c.single.ensures.made c.single.ensures.nested c.requires.depth
+    single-at c.args.end_line c.args.depth c.args.tokens.now c.args.start c.rest_behind-rest.result no_token c.single.result c.requires.start c.rest_behind-rest.ensures.rest (sym c.opens_at.ensures ∙ c.if-opens_at.false) c.requires.begins (sym c.heads_group_at.ensures ∙ c.if-heads_group_at.false) c.single.ensures.made c.single.ensures.nested c.requires.depth
