@@ -1,8 +1,12 @@
-pub mod Walks
-pub mod Growing
-pub mod Kept
-pub mod Lists
-pub mod Groups
+pub mod Fronts
+pub mod Meanings
 pub mod Numbering
+pub mod Declaring
+pub mod Alone
+pub mod Faultless
 pub mod Refused
 pub mod Unique
+pub mod OneReason
+pub mod Few
+pub mod Heads
+pub mod Faulty

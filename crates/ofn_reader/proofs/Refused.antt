@@ -1,47 +1,80 @@
 -- Why a text is refused.
-use Rattle.std.proofs.Common.{◌≡◌, ◌≢◌, ℕ, List, [], ◌∷◌, Bool, true, false, cond, Result, Ok, Err, refl, sym, ◌∙◌}
-use Rattle.std.specs.Prelude.{IfErr}
+use Rattle.std.proofs.Common.{◌≡◌, ◌≢◌, ℕ, List, [], ◌∷◌, Bool, true, false, cond, Result, Ok, Err, refl, ap, sym, ◌∙◌, subst}
+use Rattle.std.specs.Prelude.{IfErr, ◌^◌, ◌≤◌, length}
+use Rattle.shq_terms.specs.Listed.{Listed}
+use Rattle.ofn_tree.specs.Lexemes.{end_line}
 use Rattle.ofn_tree.specs.Items.{Item}
-use Rattle.ofn_tree.specs.declared.fault.TextFault.{TextFault}
-use Rattle.ofn_reader.specs.Counts.{Counts}
-use Rattle.ofn_reader.specs.Walk.{Test, shape, numbered, nodes, class, holds, refusal, after, walked}
-use Rattle.ofn_reader.specs.Documents.{HasItems, IsRefusedBy}
-use Rattle.ofn_reader.specs.declared.refusal.Refusal.{Refusal}
-use Rattle.ofn_reader.specs.declared.refusal.Refusal.TheVariants.{Text, BadShape, Limit, NoMemory}
-use Rattle.ofn_reader.proofs.Walks.{walked-cons}
+use Rattle.ofn_expressions.specs.Counts.{Counts}
+use Rattle.ofn_expressions.specs.Walk.{Test, shape, prefix, clash, outside, numbered, parts, nodes, class, role, number, holds, refusal, after, walked}
+use Rattle.ofn_expressions.specs.declared.refusal.Refusal.{Refusal}
+use Rattle.ofn_expressions.specs.declared.refusal.Refusal.TheVariants.{Text, BadShape, UnknownPrefix, PrefixClash, Outside, NotSimple, Limit, NoMemory}
+use Rattle.ofn_expressions.specs.Names.{Prefix}
+use Rattle.ofn_expressions.proofs.Walks.{walked-cons}
+use Rattle.ofn_reader.specs.Queries.{query_start, IsRefused, refused}
+use Rattle.ofn_reader.specs.Texts.{HasItems, IsRefusedBy}
 
-refusal_of_text : (t : Test) (f : TextFault) → refusal t ≡ Text f → ⊥
-refusal_of_text (shape line fits) f is = let clash : BadShape line ≡ Text f = is in absurd (cc clash)
-refusal_of_text (numbered line) f is = absurd (cc is)
-refusal_of_text (nodes line n) f is = absurd (cc is)
-refusal_of_text (class line name) f is = absurd (cc is)
+-- a test may be refused so
+abbrev is_of_test : Refusal → Bool
+is_of_test (Text fault) = false
+is_of_test (BadShape line) = true
+is_of_test (UnknownPrefix line) = true
+is_of_test (PrefixClash line) = true
+is_of_test (Outside line construct) = true
+is_of_test (NotSimple line) = false
+is_of_test (Limit w line) = true
+is_of_test NoMemory = false
 
--- no test is one of the text
-walked_of_text : (s : Counts) (ts : List Test) (f : TextFault) → walked s ts ≡ Err (Text f) → ⊥
-walked_of_text s [] f is = let clash : Ok s ≡ Err (Text f) = is in absurd (cc clash)
-walked_of_text s (t ∷ ts) f is = by (walked_of_text (after s t) ts f) (holds s t) (sym (walked-cons s t ts) ∙ is)
+of_test : (t : Test) → is_of_test (refusal t) ≡ true
+of_test (shape line fits) = refl
+of_test (prefix line declared) = refl
+of_test (clash line agrees) = refl
+of_test (outside line construct) = refl
+of_test (numbered line) = refl
+of_test (parts line n) = refl
+of_test (nodes line n) = refl
+of_test (class line name) = refl
+of_test (role line name) = refl
+of_test (number line n) = refl
+
+walked_of_test : (s : Counts) (ts : List Test) (e : Refusal) → walked s ts ≡ Err e → is_of_test e ≡ true
+walked_of_test s [] e is = let clashes : Ok s ≡ Err e = is in absurd (cc clashes)
+walked_of_test s (t ∷ ts) e is = by (walked_of_test (after s t) ts e) (holds s t) (sym (walked-cons s t ts) ∙ is)
   where
-    by : (walked (after s t) ts ≡ Err (Text f) → ⊥) → (b : Bool) → cond b (walked (after s t) ts) (Err (refusal t)) ≡ Err (Text f) → ⊥
+    by : (walked (after s t) ts ≡ Err e → is_of_test e ≡ true) → (b : Bool) → cond b (walked (after s t) ts) (Err (refusal t)) ≡ Err e → is_of_test e ≡ true
     by rest true here = rest here
     by rest false here =
         let failed : Result Counts Refusal = Err (refusal t) in
-        let told : failed ≡ Err (Text f) = here in
-        let same : refusal t ≡ Text f = cc told in
-        refusal_of_text t f same
+        let told : failed ≡ Err e = here in
+        let same : refusal t ≡ e = cc told in
+        sym (ap is_of_test same) ∙ of_test t
 
 -- a test that fails is why the text is refused
 fails_refused : (tests : List Item → List Test) (s : Counts) (text : List ℕ) (items : List Item) (end : ℕ) (e : Refusal) → HasItems text items end → (e ≢ NoMemory → walked s (tests items) ≡ Err e) → e ≢ NoMemory → IsRefusedBy tests s text e
-fails_refused tests s text items end (Text f) made fails known = absurd (walked_of_text s (tests items) f (fails known))
+fails_refused tests s text items end (Text fault) made fails known = let clashes : false ≡ true = walked_of_test s (tests items) (Text fault) (fails known) in absurd (cc clashes)
 fails_refused tests s text items end (BadShape line) made fails known = record { items = items; end = end; made = made; fails = fails known }
+fails_refused tests s text items end (UnknownPrefix line) made fails known = record { items = items; end = end; made = made; fails = fails known }
+fails_refused tests s text items end (PrefixClash line) made fails known = record { items = items; end = end; made = made; fails = fails known }
+fails_refused tests s text items end (Outside line construct) made fails known = record { items = items; end = end; made = made; fails = fails known }
+fails_refused tests s text items end (NotSimple line) made fails known = let clashes : false ≡ true = walked_of_test s (tests items) (NotSimple line) (fails known) in absurd (cc clashes)
 fails_refused tests s text items end (Limit w line) made fails known = record { items = items; end = end; made = made; fails = fails known }
 fails_refused tests s text items end NoMemory made fails known = absurd (known refl)
 
--- the same, of counts and items that are equal to these
-pub fails_refused_at : (tests : List Item → List Test) (s t : Counts) (text : List ℕ) (items own : List Item) (end : ℕ) (e : Refusal) → HasItems text items end → t ≡ s → own ≡ items
-    → (e ≢ NoMemory → walked t (tests own) ≡ Err e) → e ≢ NoMemory → IsRefusedBy tests s text e
-fails_refused_at tests s t text items own end e made counts same fails known =
-    fails_refused tests s text items end e made (λ k. (λ i. walked (sym counts i) (tests (sym same i))) ∙ fails k) known
+-- the same, of items and of a line of the end that are equal to those of the text
+pub fails_at : (tests : ℕ → List Item → List Test) (s : Counts) (text : List ℕ) (items own : List Item) (place line : ℕ) (e : Refusal) → HasItems text items place → own ≡ items → line ≡ end_line text
+    → (e ≢ NoMemory → walked s (tests line own) ≡ Err e) → e ≢ NoMemory → IsRefusedBy (tests (end_line text)) s text e
+fails_at tests s text items own place line e made same at fails known =
+    fails_refused (tests (end_line text)) s text items place e made (λ k. (λ i. walked s (tests (sym at i) (sym same i))) ∙ fails k) known
 
-pub if_err : {T : Type 0} {P Q : Refusal → Type 0} (r : Result T Refusal) → ((e : Refusal) → P e → Q e) → IfErr r P → IfErr r Q
-if_err (Ok x) f p = tt
-if_err (Err e) f p = f e p
+query_fails : {T : Type 0} (tests : List Prefix → ℕ → List Item → List Test) (o : Listed) (text : List ℕ) (items own : List Item) (place line n m : ℕ) (ps qs : List Prefix) (r : Result T Refusal) → length text ≤ 2 ^ 24 → HasItems text items place
+    → own ≡ items → line ≡ end_line text → qs ≡ ps → n ≡ m → IfErr r (λ e. e ≢ NoMemory → walked (query_start o n) (tests qs line own) ≡ Err e)
+    → IfErr r (λ e. e ≢ NoMemory → IsRefused (tests ps (end_line text)) (query_start o m) text e)
+query_fails tests o text items own place line n m ps qs (Ok x) short made same at same_prefixes same_nodes fails = tt
+query_fails tests o text items own place line n m ps qs (Err e) short made same at same_prefixes same_nodes fails = λ known.
+    refused e short (fails_refused (tests ps (end_line text)) (query_start o m) text items place e made (λ k. (λ i. walked (query_start o (sym same_nodes i)) (tests (sym same_prefixes i) (sym at i) (sym same i))) ∙ fails k) known)
+
+-- a query is refused for a test of its items
+pub query_refused : {T : Type 0} (tests : List Prefix → ℕ → List Item → List Test) (o : Listed) (bytes text : List ℕ) (items own : List Item) (line n m : ℕ) (ps qs : List Prefix) (r : Result T Refusal) → bytes ≡ text → length bytes ≤ 2 ^ 24
+    → (place : ℕ) × HasItems bytes items place → own ≡ items → line ≡ end_line bytes → qs ≡ ps → n ≡ m → IfErr r (λ e. e ≢ NoMemory → walked (query_start o n) (tests qs line own) ≡ Err e)
+    → IfErr r (λ e. e ≢ NoMemory → IsRefused (tests ps (end_line text)) (query_start o m) text e)
+query_refused tests o bytes text items own line n m ps qs r same_text short made same at same_prefixes same_nodes fails =
+    subst (λ t. IfErr r (λ e. e ≢ NoMemory → IsRefused (tests ps (end_line t)) (query_start o m) t e)) same_text (query_fails tests o bytes items own made.0 line n m ps qs r short made.1 same at same_prefixes same_nodes fails)

@@ -1,70 +1,172 @@
--- The tests of axioms, and what the axioms say.
-use Rattle.std.specs.Prelude.{◌≡◌, ℕ, false, List, [], ◌∷◌, ◌++◌, Option, Some, None, codes, if◌then◌else◌, nat_eq}
-use Rattle.std.specs.Str.{bytes_eq}
-use Rattle.ofn_tree.specs.Items.{Item, name_item, iri_item, literal_item, sign_item, group_item, Items, no_items, item}
-use Rattle.shq_terms.specs.declared.axioms.Axiom.TheVariants.{SubClassOf}
+-- The tests of the axioms of an ontology in the order of the walk, and what the axioms say.
+use Rattle.std.specs.Prelude.{◌≡◌, ℕ, ◌+◌, ◌-◌, ◌*◌, ◌/◌, Bool, true, false, List, [], ◌∷◌, ◌++◌, Some, None, length, nat_eq, nat_le}
+use Rattle.shq_base.specs.Concept.{part_list}
+use Rattle.shq_terms.specs.Uses.{axiom_uses_listed}
+use Rattle.shq_terms.specs.declared.axioms.Axiom.{Axiom}
+use Rattle.shq_terms.specs.declared.axioms.Axiom.TheVariants as A
 use Rattle.shq_terms.specs.declared.axioms.Numbered.{Numbered}
-use Rattle.shq_terms.specs.declared.axioms.Query.{Query}
-use Rattle.ofn_reader.specs.Counts.{Counts}
-use Rattle.ofn_reader.specs.Walk.{Test, shape, numbered}
-use Rattle.ofn_reader.specs.Classes.{item_count, each_class, joined, concept_of, Keeps, IsListed}
+use Rattle.ofn_tree.specs.Items.{Item, name_item, iri_item, literal_item, sign_item, group_item, Items, no_items, item}
+use Rattle.ofn_expressions.specs.Counts.{Counts}
+use Rattle.ofn_expressions.specs.Walk.{Test, shape, outside, numbered, parts}
+use Rattle.ofn_expressions.specs.Names.{Prefix, iri_of}
+use Rattle.ofn_expressions.specs.Classes.{item_count, each_class, joined, class_name_tests, role_tests, roles_tests, class_named, concept_of, concepts_of, role_of, roles_of, Keeps}
+use Rattle.ofn_reader.specs.Keywords.{axiom_keyword}
+use Rattle.ofn_reader.specs.Groups.{without_annotations}
+use Rattle.ofn_reader.specs.Declarations.{declaration_tests}
+use Rattle.ofn_reader.specs.declared.keywords.AxiomKind.{AxiomKind}
+use Rattle.ofn_reader.specs.declared.keywords.AxiomKind.TheVariants as K
+use Rattle.ofn_reader.specs.declared.keywords.AxiomKeyword.{AxiomKeyword}
+use Rattle.ofn_reader.specs.declared.keywords.AxiomKeyword.TheVariants as W
 
--- the items of a group with a name
-abbrev pub group_items : List ℕ → Item → Option Items
-group_items head (group_item (Some w) is line) = if bytes_eq w head then Some is else None
-group_items head _ = None
+-- how many items a kind of axiom has, besides annotations
+abbrev pub axiom_fits : AxiomKind → ℕ → Bool
+axiom_fits K.SubClassOf n = nat_eq n 2
+axiom_fits K.EquivalentClasses n = nat_le 2 n
+axiom_fits K.DisjointClasses n = nat_le 2 n
+axiom_fits K.DisjointUnion n = nat_le 3 n
+axiom_fits K.SubRole n = nat_eq n 2
+axiom_fits K.EquivalentRoles n = nat_le 2 n
+axiom_fits K.Domain n = nat_eq n 2
+axiom_fits K.Range n = nat_eq n 2
+axiom_fits K.Functional n = nat_eq n 1
+axiom_fits K.Transitive n = nat_eq n 1
 
--- two class expressions
-abbrev pub pair_tests : ℕ → Items → List Test
-pair_tests line is = shape line (nat_eq (item_count is) 2) ∷ joined (each_class is)
+-- how many pairs there are of n things
+abbrev pub pair_count : ℕ → ℕ
+pair_count n = n * (n - 1) / 2
 
-abbrev pub item_line : Item → ℕ
-item_line (name_item w line) = line
-item_line (iri_item w line) = line
-item_line (literal_item line) = line
-item_line (sign_item k line) = line
-item_line (group_item h is line) = line
+-- How many parts an axiom with n items has, each of which says that one class is in another, or where the role of an edge
+-- leads. Equivalent classes are each in the next, and the last in the first; disjoint classes are each in the complement of
+-- each later one; and a disjoint union has besides one part for each side of the equation, one for each of its classes.
+abbrev pub part_count : AxiomKind → ℕ → ℕ
+part_count K.SubClassOf n = 1
+part_count K.EquivalentClasses n = n
+part_count K.DisjointClasses n = pair_count n
+part_count K.DisjointUnion n = n + pair_count (n - 1)
+part_count K.SubRole n = 0
+part_count K.EquivalentRoles n = 0
+part_count K.Domain n = 1
+part_count K.Range n = 1
+part_count K.Functional n = 1
+part_count K.Transitive n = 0
 
-abbrev pub sub_class_items : Item → Option Items
-sub_class_items i = group_items (codes "SubClassOf") i
+-- a role, and then class expressions
+abbrev pub role_and_class_tests : List Prefix → Items → List Test
+role_and_class_tests ps no_items = []
+role_and_class_tests ps (item r is) = role_tests ps r ++ joined (each_class ps is)
 
-abbrev pub axiom_tests_of : ℕ → Option Items → List Test
-axiom_tests_of line (Some is) = numbered line ∷ pair_tests line is
-axiom_tests_of line None = shape line false ∷ []
+-- a class name, and then class expressions
+abbrev pub name_and_class_tests : List Prefix → Items → List Test
+name_and_class_tests ps no_items = []
+name_and_class_tests ps (item c is) = class_name_tests ps c ++ joined (each_class ps is)
 
--- a numbered axiom: its keyword, the count of axioms, the number of its items, and then the items
-abbrev pub axiom_tests : Item → List Test
-axiom_tests i = axiom_tests_of (item_line i) (sub_class_items i)
+-- The items of an axiom. Where they are fewer or more than its kind asks, a test before them fails.
+abbrev pub operand_tests : List Prefix → AxiomKind → Items → List Test
+operand_tests ps K.SubClassOf is = joined (each_class ps is)
+operand_tests ps K.EquivalentClasses is = joined (each_class ps is)
+operand_tests ps K.DisjointClasses is = joined (each_class ps is)
+operand_tests ps K.DisjointUnion is = name_and_class_tests ps is
+operand_tests ps K.SubRole is = roles_tests ps is
+operand_tests ps K.EquivalentRoles is = roles_tests ps is
+operand_tests ps K.Domain is = role_and_class_tests ps is
+operand_tests ps K.Range is = role_and_class_tests ps is
+operand_tests ps K.Functional is = roles_tests ps is
+operand_tests ps K.Transitive is = roles_tests ps is
 
-abbrev pub axioms_tests : Items → List Test
-axioms_tests no_items = []
-axioms_tests (item i is) = axiom_tests i ++ axioms_tests is
+-- what is tested of a numbered axiom before its items: the count of axioms, the number of its items, the count of parts
+abbrev pub head_tests : AxiomKind → ℕ → ℕ → List Test
+head_tests k line n = numbered line ∷ shape line (axiom_fits k n) ∷ parts line (part_count k n) ∷ []
 
--- a query is one group `SubClassOf`, which is not numbered
-abbrev pub query_tests_of : ℕ → Option Items → List Test
-query_tests_of line (Some is) = pair_tests line is
-query_tests_of line None = shape line false ∷ []
+abbrev pub numbered_tests : List Prefix → AxiomKind → ℕ → Items → List Test
+numbered_tests ps k line is = head_tests k line (item_count is) ++ operand_tests ps k is
 
-abbrev pub query_tests : List Item → List Test
-query_tests (i ∷ []) = query_tests_of (item_line i) (sub_class_items i)
-query_tests _ = shape 0 false ∷ []
+-- a group by its keyword, with its items behind the annotations in front of them
+abbrev pub axiom_group_tests : List Prefix → AxiomKeyword → ℕ → Items → List Test
+axiom_group_tests ps (W.Numbered k) line is = numbered_tests ps k line is
+axiom_group_tests ps W.Declaration line is = declaration_tests ps line is
+axiom_group_tests ps W.Annotation line is = []
+axiom_group_tests ps (W.Excluded c) line is = outside line c ∷ []
+axiom_group_tests ps W.Unknown line is = shape line false ∷ []
 
-abbrev pub pair_in : Counts → Option Items → List Query
-pair_in s (Some (item c (item d no_items))) = record { sub = concept_of s c; sup = concept_of s d } ∷ []
-pair_in s _ = []
+abbrev pub axiom_tests : List Prefix → Item → List Test
+axiom_tests ps (group_item (Some w) is line) = axiom_group_tests ps (axiom_keyword w) line (without_annotations is)
+axiom_tests ps (group_item None is line) = shape line false ∷ []
+axiom_tests ps (name_item w line) = shape line false ∷ []
+axiom_tests ps (iri_item w line) = shape line false ∷ []
+axiom_tests ps (literal_item line) = shape line false ∷ []
+axiom_tests ps (sign_item k line) = shape line false ∷ []
 
-abbrev pub numbered_at : ℕ → List Query → List Numbered
+abbrev pub axioms_tests : List Prefix → Items → List Test
+axioms_tests ps no_items = []
+axioms_tests ps (item i is) = axiom_tests ps i ++ axioms_tests ps is
+
+-- what the items of an axiom say, if they are as many as its kind asks
+
+abbrev pub sub_class_made : List Prefix → Counts → Items → List Axiom
+sub_class_made ps s (item c (item d is)) = A.SubClassOf (concept_of ps s c) (concept_of ps s d) ∷ []
+sub_class_made ps s _ = []
+
+abbrev pub union_made : List Prefix → Counts → Items → List Axiom
+union_made ps s (item c is) = A.DisjointUnion (class_named s (iri_of ps c)) (part_list (concepts_of ps s is)) ∷ []
+union_made ps s no_items = []
+
+abbrev pub sub_role_made : List Prefix → Counts → Items → List Axiom
+sub_role_made ps s (item p (item q is)) = A.SubRole (role_of ps s p) (role_of ps s q) ∷ []
+sub_role_made ps s _ = []
+
+abbrev pub domain_made : List Prefix → Counts → Items → List Axiom
+domain_made ps s (item r (item c is)) = A.Domain (role_of ps s r) (concept_of ps s c) ∷ []
+domain_made ps s _ = []
+
+abbrev pub range_made : List Prefix → Counts → Items → List Axiom
+range_made ps s (item r (item c is)) = A.Range (role_of ps s r) (concept_of ps s c) ∷ []
+range_made ps s _ = []
+
+abbrev pub functional_made : List Prefix → Counts → Items → List Axiom
+functional_made ps s (item r is) = A.Functional (role_of ps s r) ∷ []
+functional_made ps s no_items = []
+
+abbrev pub transitive_made : List Prefix → Counts → Items → List Axiom
+transitive_made ps s (item r is) = A.Transitive (role_of ps s r) ∷ []
+transitive_made ps s no_items = []
+
+abbrev pub axiom_made : List Prefix → Counts → AxiomKind → Items → List Axiom
+axiom_made ps s K.SubClassOf is = sub_class_made ps s is
+axiom_made ps s K.EquivalentClasses is = A.EquivalentClasses (part_list (concepts_of ps s is)) ∷ []
+axiom_made ps s K.DisjointClasses is = A.DisjointClasses (part_list (concepts_of ps s is)) ∷ []
+axiom_made ps s K.DisjointUnion is = union_made ps s is
+axiom_made ps s K.SubRole is = sub_role_made ps s is
+axiom_made ps s K.EquivalentRoles is = A.EquivalentRoles (roles_of ps s is) ∷ []
+axiom_made ps s K.Domain is = domain_made ps s is
+axiom_made ps s K.Range is = range_made ps s is
+axiom_made ps s K.Functional is = functional_made ps s is
+axiom_made ps s K.Transitive is = transitive_made ps s is
+
+abbrev pub numbered_at : ℕ → List Axiom → List Numbered
 numbered_at line [] = []
-numbered_at line (q ∷ qs) = record { «axiom» = SubClassOf q.sub q.sup; line = line } ∷ []
+numbered_at line (a ∷ more) = record { «axiom» = a; line = line } ∷ numbered_at line more
 
--- the numbered axiom of an item, if it is one
-abbrev pub axiom_in : Counts → Item → List Numbered
-axiom_in s i = numbered_at (item_line i) (pair_in s (sub_class_items i))
+-- the numbered axiom of a group, if it is one
+abbrev pub axiom_group_in : List Prefix → Counts → AxiomKeyword → ℕ → Items → List Numbered
+axiom_group_in ps s (W.Numbered k) line is = numbered_at line (axiom_made ps s k is)
+axiom_group_in ps s W.Declaration line is = []
+axiom_group_in ps s W.Annotation line is = []
+axiom_group_in ps s (W.Excluded c) line is = []
+axiom_group_in ps s W.Unknown line is = []
 
-abbrev pub axioms_in : Counts → Items → List Numbered
-axioms_in s no_items = []
-axioms_in s (item i is) = axiom_in s i ++ axioms_in s is
+abbrev pub axiom_in : List Prefix → Counts → Item → List Numbered
+axiom_in ps s (group_item (Some w) is line) = axiom_group_in ps s (axiom_keyword w) line (without_annotations is)
+axiom_in ps s (group_item None is line) = []
+axiom_in ps s (name_item w line) = []
+axiom_in ps s (iri_item w line) = []
+axiom_in ps s (literal_item line) = []
+axiom_in ps s (sign_item k line) = []
 
--- which two class expressions the items stand for, whatever names are listed later
-abbrev pub MeansPair : Counts → Items → Query → Type 0
-MeansPair s is q = (later : Counts) → Keeps s later → (pair_in later (Some is) ≡ q ∷ []) × IsListed later q.sub × IsListed later q.sup
+-- the numbered axioms of items, in order
+abbrev pub axioms_in : List Prefix → Counts → Items → List Numbered
+axioms_in ps s no_items = []
+axioms_in ps s (item i is) = axiom_in ps s i ++ axioms_in ps s is
+
+-- which axiom the items of a group say, whatever names are listed later
+abbrev pub MeansAxiom : List Prefix → Counts → AxiomKind → Items → Axiom → Type 0
+MeansAxiom ps s k is a = (later : Counts) → Keeps s later → (axiom_made ps later k is ≡ a ∷ []) × (axiom_uses_listed (length later.classes) (length later.roles) a ≡ true)

@@ -1,22 +1,43 @@
 -- A text says one thing at most, and is refused only where it says nothing.
 use Rattle.std.specs.Prelude.{◌≡◌, ℕ, List}
+use Rattle.shq_base.specs.Concept.{Concept}
 use Rattle.shq_terms.specs.Listed.{Listed}
 use Rattle.shq_terms.specs.declared.axioms.Query.{Query}
-use Rattle.ofn_reader.specs.Counts.{Counts}
-use Rattle.ofn_reader.specs.Documents.{IsDocument, IsNoDocument, IsQuery, IsNoQuery}
-use Rattle.ofn_reader.specs.declared.refusal.Refusal.{Refusal}
+use Rattle.ofn_expressions.specs.Counts.{Counts}
+use Rattle.ofn_expressions.specs.Names.{Prefix}
+use Rattle.ofn_expressions.specs.declared.refusal.Refusal.{Refusal}
+use Rattle.ofn_reader.specs.Kept.{Kept}
+use Rattle.ofn_reader.specs.Documents.{IsDocument, IsNoDocument}
+use Rattle.ofn_reader.specs.Queries.{IsQuery, IsNoQuery, IsClass, IsNoClass}
 
--- the ontology, the count of nodes and the end of a document
+-- the ontology of a document, what queries take over, and its end
 abbrev pub DocumentsAreUnique : Type 0
 DocumentsAreUnique =
-    (text : List ℕ) (o p : Listed) (m n d e : ℕ) → IsDocument text o m d → IsDocument text p n e → (o ≡ p) × (m ≡ n) × (d ≡ e)
+    (text : List ℕ) (o p : Listed) (j k : Kept) (d e : ℕ) → IsDocument text o j d → IsDocument text p k e → (o ≡ p) × (j ≡ k) × (d ≡ e)
 
 abbrev pub DocumentsAreNotRefused : Type 0
-DocumentsAreNotRefused = (text : List ℕ) (o : Listed) (n d : ℕ) (e : Refusal) → IsDocument text o n d → IsNoDocument text e → ⊥
+DocumentsAreNotRefused = (text : List ℕ) (o : Listed) (k : Kept) (d : ℕ) (e : Refusal) → IsDocument text o k d → IsNoDocument text e → ⊥
 
 -- the counts behind a query, and its two expressions
 abbrev pub QueriesAreUnique : Type 0
-QueriesAreUnique = (s : Counts) (text : List ℕ) (a b : Counts) (p q : Query) → IsQuery s text a p → IsQuery s text b q → (a ≡ b) × (p ≡ q)
+QueriesAreUnique = (ps : List Prefix) (s : Counts) (text : List ℕ) (a b : Counts) (p q : Query) → IsQuery ps s text a p → IsQuery ps s text b q → (a ≡ b) × (p ≡ q)
 
 abbrev pub QueriesAreNotRefused : Type 0
-QueriesAreNotRefused = (s : Counts) (text : List ℕ) (a : Counts) (q : Query) (e : Refusal) → IsQuery s text a q → IsNoQuery s text e → ⊥
+QueriesAreNotRefused = (ps : List Prefix) (s : Counts) (text : List ℕ) (a : Counts) (q : Query) (e : Refusal) → IsQuery ps s text a q → IsNoQuery ps s text e → ⊥
+
+-- the counts behind a class expression, and the expression
+abbrev pub ClassesAreUnique : Type 0
+ClassesAreUnique = (ps : List Prefix) (s : Counts) (text : List ℕ) (a b : Counts) (c d : Concept) → IsClass ps s text a c → IsClass ps s text b d → (a ≡ b) × (c ≡ d)
+
+abbrev pub ClassesAreNotRefused : Type 0
+ClassesAreNotRefused = (ps : List Prefix) (s : Counts) (text : List ℕ) (a : Counts) (c : Concept) (e : Refusal) → IsClass ps s text a c → IsNoClass ps s text e → ⊥
+
+-- a text is refused for one reason at most
+abbrev pub DocumentRefusalsAreUnique : Type 0
+DocumentRefusalsAreUnique = (text : List ℕ) (e f : Refusal) → IsNoDocument text e → IsNoDocument text f → e ≡ f
+
+abbrev pub QueryRefusalsAreUnique : Type 0
+QueryRefusalsAreUnique = (ps : List Prefix) (s : Counts) (text : List ℕ) (e f : Refusal) → IsNoQuery ps s text e → IsNoQuery ps s text f → e ≡ f
+
+abbrev pub ClassRefusalsAreUnique : Type 0
+ClassRefusalsAreUnique = (ps : List Prefix) (s : Counts) (text : List ℕ) (e f : Refusal) → IsNoClass ps s text e → IsNoClass ps s text f → e ≡ f

@@ -1,9 +1,11 @@
-pub mod Counts
 pub mod Keywords
-pub mod Walk
-pub mod Classes
-pub mod Parts
+pub mod Groups
 pub mod Axioms
+pub mod Declarations
+pub mod Prefixes
+pub mod Kept
+pub mod Texts
 pub mod Documents
+pub mod Queries
 pub mod Refusals
 pub mod Laws

@@ -1,8 +1,8 @@
 -- The refusal for a fault of a text.
 use Rattle.ofn_tree.specs.declared.fault.TextFault.{TextFault}
 use Rattle.ofn_tree.specs.declared.fault.TextFault.TheVariants as faults
-use Rattle.ofn_reader.specs.declared.refusal.Refusal.{Refusal}
-use Rattle.ofn_reader.specs.declared.refusal.Refusal.TheVariants.{Text, NoMemory}
+use Rattle.ofn_expressions.specs.declared.refusal.Refusal.{Refusal}
+use Rattle.ofn_expressions.specs.declared.refusal.Refusal.TheVariants.{Text, NoMemory}
 
 abbrev pub refusal_of : TextFault → Refusal
 refusal_of faults.NoMemory = NoMemory

@@ -1,98 +1,144 @@
 // Documents.
-ghost use Rattle.std.specs.Prelude.{◌≡◌, ◌≢◌, ◌≤◌, ◌++◌, ◌∷◌, [], List, IfOk, IfErr, OnOk, length, option_map};
-ghost use Rattle.ofn_tree.specs.Items.{Item, items_of};
-ghost use Rattle.ofn_reader.specs.Counts.{Counts};
-ghost use Rattle.ofn_reader.specs.Walk.{Test, Judged};
-ghost use Rattle.ofn_reader.specs.Documents.{HasItems, IsRefusedBy, ontology_items, document_tests, axioms_of, IsDocument, IsNoDocument};
-ghost use Rattle.ofn_reader.specs.declared.refusal.Refusal.TheVariants.{NoMemory};
+ghost use Rattle.std.specs.Prelude.{◌≡◌, ◌≢◌, ◌≤◌, ◌++◌, IfOk, IfErr, OnOk, length, Ok, Err};
+ghost use Rattle.std.specs.List.{prefix_len};
+ghost use Rattle.ofn_expressions.specs.Counts.{Counts};
+ghost use Rattle.ofn_expressions.specs.Walk.{Judged, walked};
+ghost use Rattle.ofn_expressions.specs.Names.{predeclared};
+ghost use Rattle.ofn_reader.specs.Documents.{start, is_prefix_group, ontology_tests, ontology_axioms, document_tests, document_axioms, document_prefixes, IsDocument, IsNoDocument};
+ghost use Rattle.ofn_expressions.specs.declared.refusal.Refusal.TheVariants.{NoMemory};
 
-use crate::Refusal;
-use crate::axioms::{group_items, read_axioms};
-use crate::reading::{MAX_NODES, Reading};
-use ofn_tree::{Tree, tokens, tree};
+use crate::axioms::read_axioms;
+use crate::groups::{axiom_items, inner_items, is_group};
+use crate::prefix_groups::read_prefixes;
+use crate::texts::read_items;
+use ofn_expressions::{MAX_NODES, Prefixes, Reading, Refusal, item_line};
+use ofn_tree::{Tree, end_line};
 use shq_terms::Ontology;
 use std::alloc::Global;
 use std::marker::Model;
 
-/// What a query takes over from its document besides the names: the count of the nodes of its class expressions.
+/// What a query takes over from its document besides the names: the prefixes, and the count of the nodes of its class
+/// expressions.
 #[derive(Drop)]
 pub struct Context {
+    prefixes: Prefixes,
     nodes: u32,
 }
 
 impl Model for Context {
-    ghost use Rattle.std.specs.Prelude.{ℕ, ◌≤◌};
+    ghost use Rattle.std.specs.Prelude.{◌≤◌};
+    ghost use Rattle.ofn_reader.specs.Kept.{Kept};
 
-    ghost Value = { ℕ };
+    ghost Value = { Kept };
 
-    ghost view = { λ c. c.nodes };
+    ghost view = { λ c. record { prefixes = c.prefixes; nodes = c.nodes } };
 
     ghost invariant = { λ c. c.nodes ≤ 262144 };
 }
 
 impl Context {
+    /// The prefixes of the document, with those that every document begins with.
+    pub fn prefixes(&self) -> &Prefixes
+        ensures { result.now ≡ self.now.prefixes }
+    {
+        &self.prefixes
+    }
+
     pub(crate) fn nodes(&self) -> u32
-        ensures nodes { result ≡ self.now }
+        ensures nodes { result ≡ self.now.nodes }
         ensures within { result ≤ MAX_NODES }
     {
         self.nodes
     }
 }
 
-/// The items of a text, and the place behind the last byte that was read.
-pub(crate) fn read_items(alloc: Global, text: &[u8]) -> Result<(Vec<Tree<'_>>, usize), Refusal>
-    ensures made { IfOk result (λ r. HasItems text.now r.0.items r.1) }
-    ensures within { IfOk result (λ r. r.1 ≤ length text.now) }
-    ensures refused { IfErr result (λ e. (tests : List Item → List Test) (s : Counts) → e ≢ NoMemory → IsRefusedBy tests s text.now e) }
+fn is_prefix_group(tree: &Tree<'_>) -> bool
+    ensures { result ≡ is_prefix_group tree.now }
 {
-    let (tokens, end) = match tokens(alloc, text) {
-        Ok(cut) => cut,
-        Err(fault) => return Err(Refusal::of_fault(fault)),
-    };
-    match tree(alloc, &tokens, 0) {
-        Ok(items) => Ok((items, end)),
-        Err(fault) => Err(Refusal::of_fault(fault)),
-    }
+    is_group(tree, "Prefix")
 }
 
-fn ontology_items<'a, 'b>(items: &'a [Tree<'b>]) -> Option<&'a [Tree<'b>]>
-    ensures { option_map (λ is. items_of is.now) result ≡ ontology_items items.now }
+fn prefix_group_count(items: &[Tree<'_>]) -> usize
+    ensures value { result ≡ prefix_len is_prefix_group items.now }
+    ensures within { result ≤ length items.now }
 {
-    if items.len() != 1 {
-        return None;
-    }
-    group_items(&items[0], "Ontology")
+    items
+        .iter()
+        .take_while(|item| is_prefix_group(item))
+        .count()
 }
 
-fn read_document(alloc: Global, items: &[Tree<'_>], state: &mut Reading) -> Result<(), Refusal>
+// Reads the group `Ontology` that stands first.
+fn read_ontology_group(
+    alloc: Global,
+    items: &[Tree<'_>],
+    end_line: u32,
+    prefixes: &Prefixes,
+    state: &mut Reading,
+) -> Result<(), Refusal>
     requires { length state.old.read ≡ state.old.counts.axioms }
-    ensures tests { Judged result state.old.counts (document_tests items.now) state.new.counts }
-    ensures value { OnOk result (state.old.read ++ axioms_of state.new.counts (ontology_items items.now) ≡ state.new.read) }
+    ensures tests { Judged result state.old.counts (ontology_tests prefixes.now end_line items.now) state.new.counts }
+    ensures value { OnOk result (state.old.read ++ ontology_axioms prefixes.now state.new.counts items.now ≡ state.new.read) }
 {
-    match ontology_items(items) {
-        Some(inner) => read_axioms(alloc, inner, state),
-        None => Err(Refusal::BadShape(0)),
+    if items.is_empty() {
+        return Err(Refusal::BadShape(end_line));
     }
+    let group = &items[0];
+    if !is_group(group, "Ontology") {
+        return Err(Refusal::BadShape(item_line(group)));
+    }
+    read_axioms(alloc, axiom_items(inner_items(group)), prefixes, state)
 }
 
-/// Reads the plain document that the text begins with: one group `Ontology` of axioms `SubClassOf` between IRIs,
-/// intersections and complements. Gives its ontology, what queries on it need besides, and the place behind it; the rest
-/// of the text is not looked at. For now every line is 0.
+// Reads declarations of prefixes, and behind them the ontology.
+fn read_document(
+    alloc: Global,
+    items: &[Tree<'_>],
+    end_line: u32,
+    prefixes: &mut Prefixes,
+    state: &mut Reading,
+) -> Result<(), Refusal>
+    requires { length state.old.read ≡ state.old.counts.axioms }
+    ensures tests { Judged result state.old.counts (document_tests prefixes.old end_line items.now) state.new.counts }
+    ensures declared { OnOk result (prefixes.new ≡ document_prefixes prefixes.old items.now) }
+    ensures value { OnOk result (state.old.read ++ document_axioms prefixes.old state.new.counts items.now ≡ state.new.read) }
+{
+    let (groups, behind) = items.split_at(prefix_group_count(items));
+    read_prefixes(groups, prefixes)?;
+    read_ontology_group(alloc, behind, end_line, prefixes, state)
+}
+
+fn read_from_items(
+    alloc: Global,
+    items: &[Tree<'_>],
+    end_line: u32,
+) -> Result<(Ontology, Context), Refusal>
+    ensures document { IfOk result (λ r. (behind : Counts) × (walked start (document_tests predeclared end_line items.now) ≡ Ok behind) × (r.0 ≡ record { axioms = document_axioms predeclared behind items.now; classes = behind.classes; roles = behind.roles }) × (r.1 ≡ record { prefixes = document_prefixes predeclared items.now; nodes = behind.nodes })) }
+    ensures refused { IfErr result (λ e. e ≢ NoMemory → walked start (document_tests predeclared end_line items.now) ≡ Err e) }
+{
+    let mut prefixes = Prefixes::predeclared(alloc)?;
+    let mut state = Reading::new(Ontology::new(alloc), 0, 0);
+    read_document(alloc, items, end_line, &mut prefixes, &mut state)?;
+    let (ontology, nodes) = state.into_parts();
+    Ok((ontology, Context { prefixes, nodes }))
+}
+
+/// Reads the document that the text begins with: declarations of prefixes, and one group `Ontology` of axioms (OWL 2
+/// Structural Specification, sections 3 and 9, in the profile of the description logic SHQ). Gives its ontology, what
+/// queries on it need besides, and the place behind it; the rest of the text is not looked at.
+///
+/// Each occurrence of a numbered axiom is an axiom of its own. Annotations and declarations have no number.
 ///
 /// # Errors
 ///
 /// The first fault of the text, else what is wrong first in the order of the text, and `NoMemory`.
 pub fn read_ontology(alloc: Global, text: &[u8]) -> Result<(Ontology, Context, usize), Refusal>
+    requires { length text.now ≤ 4294967293 }
     ensures document { IfOk result (λ r. IsDocument text.now r.0 r.1 r.2) }
     ensures within { IfOk result (λ r. r.2 ≤ length text.now) }
     ensures refused { IfErr result (λ e. e ≢ NoMemory → IsNoDocument text.now e) }
 {
-    let (items, end) = match read_items(alloc, text) {
-        Ok(read) => read,
-        Err(refusal) => return Err(refusal),
-    };
-    let mut state = Reading::new(Ontology::new(alloc), 0, 0);
-    read_document(alloc, &items, &mut state)?;
-    let (ontology, nodes) = state.into_parts();
-    Ok((ontology, Context { nodes }, end))
+    let (items, end) = read_items(alloc, text)?;
+    let (ontology, context) = read_from_items(alloc, &items, end_line(text))?;
+    Ok((ontology, context, end))
 }

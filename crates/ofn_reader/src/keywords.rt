@@ -1,20 +1,84 @@
-// The keywords of class expressions.
+// The keywords of axioms and of declared entities.
 ghost use Rattle.std.specs.Prelude.{◌≡◌};
-ghost use Rattle.ofn_reader.specs.Keywords.{class_keyword};
+ghost use Rattle.ofn_reader.specs.Keywords.{axiom_keyword, entity_keyword};
 
-/// A keyword that begins a class expression.
+use ofn_expressions::{Construct, excluded_axiom};
+
+/// A kind of numbered axiom.
 #[derive(Clone, Copy, Debug, PartialEq, Eq)]
-pub(crate) enum ClassKeyword {
-    Intersection,
-    Complement,
+pub(crate) enum AxiomKind {
+    SubClassOf,
+    EquivalentClasses,
+    DisjointClasses,
+    DisjointUnion,
+    SubRole,
+    EquivalentRoles,
+    Domain,
+    Range,
+    Functional,
+    Transitive,
 }
 
-pub(crate) fn class_keyword(text: &str) -> Option<ClassKeyword>
-    ensures { result ≡ class_keyword text.now }
+/// What the name of a group says where an axiom must stand.
+#[derive(Clone, Copy, Debug, PartialEq, Eq)]
+pub(crate) enum AxiomKeyword {
+    Numbered(AxiomKind),
+    Declaration,
+    /// An annotation, or an axiom about annotations, which is not looked at.
+    Annotation,
+    Excluded(Construct),
+    Unknown,
+}
+
+/// What the name of a group says where an entity is declared.
+#[derive(Clone, Copy, Debug, PartialEq, Eq)]
+pub(crate) enum EntityKeyword {
+    Class,
+    Role,
+    /// An entity that is not listed.
+    Unlisted,
+    Unknown,
+}
+
+#[tactic(auto, unfolding(crate::specs::Keywords::axiom_keyword))]
+pub(crate) fn axiom_keyword(text: &str) -> AxiomKeyword
+    ensures { result ≡ axiom_keyword text.now }
 {
     match text {
-        "ObjectIntersectionOf" => Some(ClassKeyword::Intersection),
-        "ObjectComplementOf" => Some(ClassKeyword::Complement),
-        _ => None,
+        "SubClassOf" => AxiomKeyword::Numbered(AxiomKind::SubClassOf),
+        "EquivalentClasses" => AxiomKeyword::Numbered(AxiomKind::EquivalentClasses),
+        "DisjointClasses" => AxiomKeyword::Numbered(AxiomKind::DisjointClasses),
+        "DisjointUnion" => AxiomKeyword::Numbered(AxiomKind::DisjointUnion),
+        "SubObjectPropertyOf" => AxiomKeyword::Numbered(AxiomKind::SubRole),
+        "EquivalentObjectProperties" => AxiomKeyword::Numbered(AxiomKind::EquivalentRoles),
+        "ObjectPropertyDomain" => AxiomKeyword::Numbered(AxiomKind::Domain),
+        "ObjectPropertyRange" => AxiomKeyword::Numbered(AxiomKind::Range),
+        "FunctionalObjectProperty" => AxiomKeyword::Numbered(AxiomKind::Functional),
+        "TransitiveObjectProperty" => AxiomKeyword::Numbered(AxiomKind::Transitive),
+        "Declaration" => AxiomKeyword::Declaration,
+        "Annotation" => AxiomKeyword::Annotation,
+        "AnnotationAssertion" => AxiomKeyword::Annotation,
+        "SubAnnotationPropertyOf" => AxiomKeyword::Annotation,
+        "AnnotationPropertyDomain" => AxiomKeyword::Annotation,
+        "AnnotationPropertyRange" => AxiomKeyword::Annotation,
+        _ => match excluded_axiom(text) {
+            Some(construct) => AxiomKeyword::Excluded(construct),
+            None => AxiomKeyword::Unknown,
+        },
+    }
+}
+
+#[tactic(auto, unfolding(crate::specs::Keywords::entity_keyword))]
+pub(crate) fn entity_keyword(text: &str) -> EntityKeyword
+    ensures { result ≡ entity_keyword text.now }
+{
+    match text {
+        "Class" => EntityKeyword::Class,
+        "ObjectProperty" => EntityKeyword::Role,
+        "DataProperty" => EntityKeyword::Unlisted,
+        "AnnotationProperty" => EntityKeyword::Unlisted,
+        "Datatype" => EntityKeyword::Unlisted,
+        "NamedIndividual" => EntityKeyword::Unlisted,
+        _ => EntityKeyword::Unknown,
     }
 }

@@ -1,7 +1,7 @@
 // A text says one thing at most, and is refused only where it says nothing.
-ghost use Rattle.ofn_reader.specs.Laws.{DocumentsAreUnique, DocumentsAreNotRefused, QueriesAreUnique, QueriesAreNotRefused};
+ghost use Rattle.ofn_reader.specs.Laws.{DocumentsAreUnique, DocumentsAreNotRefused, QueriesAreUnique, QueriesAreNotRefused, ClassesAreUnique, ClassesAreNotRefused, DocumentRefusalsAreUnique, QueryRefusalsAreUnique, ClassRefusalsAreUnique};
 
-/// A text is the document of one ontology at most, with one end.
+/// A text is the document of one ontology at most, with one list of prefixes, one count of nodes and one end.
 pub fn documents_are_unique()
     ensures { DocumentsAreUnique }
 {}
@@ -19,4 +19,29 @@ pub fn queries_are_unique()
 /// No text is a query and refused.
 pub fn queries_are_not_refused()
     ensures { QueriesAreNotRefused }
+{}
+
+/// A text is one class expression at most, with one list of names behind it.
+pub fn classes_are_unique()
+    ensures { ClassesAreUnique }
+{}
+
+/// No text is a class expression and refused.
+pub fn classes_are_not_refused()
+    ensures { ClassesAreNotRefused }
+{}
+
+/// A text is refused as a document for one reason at most.
+pub fn document_refusals_are_unique()
+    ensures { DocumentRefusalsAreUnique }
+{}
+
+/// A text is refused as a query for one reason at most.
+pub fn query_refusals_are_unique()
+    ensures { QueryRefusalsAreUnique }
+{}
+
+/// A text is refused as a class expression that is asked about for one reason at most.
+pub fn class_refusals_are_unique()
+    ensures { ClassRefusalsAreUnique }
 {}

@@ -1,43 +1,203 @@
 // Queries on a document.
-ghost use Rattle.std.specs.Prelude.{◌≡◌, ◌≢◌, ◌≤◌, ◌∷◌, [], Ok, Err, IfOk, IfErr, OnErr, length};
-ghost use Rattle.ofn_reader.specs.Counts.{Counts, Grows};
-ghost use Rattle.ofn_reader.specs.Walk.{Judged, walked};
-ghost use Rattle.ofn_reader.specs.Axioms.{query_tests};
-ghost use Rattle.ofn_reader.specs.Documents.{first_pair, query_start, IsQuery, IsNoQuery};
-ghost use Rattle.ofn_reader.specs.declared.refusal.Refusal.TheVariants.{NoMemory};
+ghost use Rattle.std.specs.Prelude.{◌≡◌, ◌≢◌, ℕ, ◌^◌, ◌≤◌, List, ◌∷◌, [], Ok, Err, IfOk, IfErr, OnOk, OnErr, length};
+ghost use Rattle.ofn_tree.specs.Items.{Item, items_of};
+ghost use Rattle.ofn_expressions.specs.Counts.{Counts, Grows};
+ghost use Rattle.ofn_expressions.specs.Walk.{Test, Judged, walked};
+ghost use Rattle.ofn_expressions.specs.Classes.{IsListed};
+ghost use Rattle.ofn_expressions.specs.declared.refusal.Refusal.TheVariants.{NoMemory};
+ghost use Rattle.ofn_reader.specs.Texts.{HasItems};
+ghost use Rattle.ofn_reader.specs.Queries.{query_group_tests, axiom_query_tests, query_tests, class_query_tests, first_query, first_class, query_start, IsQuery, IsNoQuery, IsClass, IsNoClass, IsRefused, read_alone, MeansPair, MeansQuery, AreBothListed};
 
-use crate::axioms::{group_items, item_line, read_pair};
-use crate::documents::read_items;
-use crate::reading::Reading;
-use crate::{Context, Refusal, Which};
-use ofn_tree::Tree;
-use shq_terms::{Ontology, Query};
+use crate::groups::without_annotations;
+use crate::keywords::{AxiomKeyword, AxiomKind, axiom_keyword};
+use crate::operands::read_pair;
+use crate::texts::read_items;
+use crate::{Context, Prefixes, Refusal, Which};
+use ofn_expressions::{MAX_NODES, Reading, item_line};
+use ofn_tree::{Form, Tree, end_line};
+use shq_terms::{Concept, Ontology, Query};
 use std::alloc::Global;
 use std::mem;
 
 const MAX_TEXT: usize = 1 << 24;
 
-fn read_query_items(
+#[tactic(auto, using(ofn_expressions::proofs::Lists::item_count_is, ofn_expressions::proofs::Growing::grows_same))]
+fn read_query_group(
     alloc: Global,
+    keyword: AxiomKeyword,
     items: &[Tree<'_>],
+    line: u32,
+    prefixes: &Prefixes,
     state: &mut Reading,
 ) -> Result<Query, Refusal>
-    ensures tests { Judged result state.old.counts (query_tests items.now) state.new.counts }
+    ensures tests { Judged result state.old.counts (query_group_tests prefixes.now keyword line (items_of items.now)) state.new.counts }
     ensures grown { Grows state.old state.new }
-    ensures pair { IfOk result (λ q. first_pair state.new.counts items.now ≡ q ∷ []) }
+    ensures value { IfOk result (MeansPair prefixes.now state.new.counts (items_of items.now)) }
 {
-    if items.len() != 1 {
-        return Err(Refusal::BadShape(0));
-    }
-    let line = item_line(&items[0]);
-    match group_items(&items[0], "SubClassOf") {
-        Some(inner) => read_pair(alloc, inner, line, state),
-        None => Err(Refusal::BadShape(line)),
+    match keyword {
+        AxiomKeyword::Numbered(AxiomKind::SubClassOf) => {
+            if items.len() != 2 {
+                return Err(Refusal::BadShape(line));
+            }
+            read_pair(alloc, &items[0], &items[1], prefixes, state)
+        }
+        AxiomKeyword::Excluded(construct) => Err(Refusal::Outside(line, construct)),
+        _ => Err(Refusal::BadShape(line)),
     }
 }
 
-/// Reads a plain query on a document: one group `SubClassOf` of two class expressions over IRIs. New class names are
-/// listed last, and the counts of names and nodes go on from those of the document.
+#[tactic(auto, using(ofn_expressions::proofs::Growing::grows_same))]
+fn read_axiom_query(
+    alloc: Global,
+    tree: &Tree<'_>,
+    prefixes: &Prefixes,
+    state: &mut Reading,
+) -> Result<Query, Refusal>
+    ensures tests { Judged result state.old.counts (axiom_query_tests prefixes.now tree.now) state.new.counts }
+    ensures grown { Grows state.old state.new }
+    ensures value { IfOk result (MeansQuery prefixes.now state.new.counts tree.now) }
+{
+    match &tree.form {
+        Form::Group(Some(text), items, line) => {
+            let items = without_annotations(items);
+            read_query_group(alloc, axiom_keyword(text), items, *line, prefixes, state)
+        }
+        Form::Group(None, _, line)
+        | Form::Name(_, line)
+        | Form::Iri(_, line)
+        | Form::Literal(line)
+        | Form::Sign(_, line) => Err(Refusal::BadShape(*line)),
+    }
+}
+
+// The items of the text of a query.
+fn read_query_text(alloc: Global, text: &[u8]) -> Result<Vec<Tree<'_>>, Refusal>
+    ensures short { OnOk result (length text.now ≤ 2 ^ 24) }
+    ensures made { IfOk result (λ items. (end : ℕ) × HasItems text.now items.items end) }
+    ensures refused { IfErr result (λ e. (tests : List Item → List Test) (s : Counts) → e ≢ NoMemory → IsRefused tests s text.now e) }
+{
+    if text.len() > MAX_TEXT {
+        return Err(Refusal::Limit(Which::Text, 0));
+    }
+    match read_items(alloc, text) {
+        Ok((items, _)) => Ok(items),
+        Err(refusal) => Err(refusal),
+    }
+}
+
+// What was read, unless something stands behind it.
+fn alone<T: Drop>(read: Result<T, Refusal>, behind: &[Tree<'_>]) -> Result<T, Refusal>
+    ensures { result ≡ read_alone behind.now read }
+{
+    if behind.is_empty() {
+        return read;
+    }
+    let line = item_line(&behind[0]);
+    match read {
+        Ok(value) => {
+            drop(value);
+            Err(Refusal::BadShape(line))
+        }
+        Err(refusal) => Err(refusal),
+    }
+}
+
+fn read_query_items(
+    alloc: Global,
+    items: &[Tree<'_>],
+    end_line: u32,
+    prefixes: &Prefixes,
+    state: &mut Reading,
+) -> Result<Query, Refusal>
+    ensures tests { Judged result state.old.counts (query_tests prefixes.now end_line items.now) state.new.counts }
+    ensures grown { Grows state.old state.new }
+    ensures pair { IfOk result (λ q. first_query prefixes.now state.new.counts items.now ≡ q ∷ []) }
+    ensures listed { IfOk result (AreBothListed state.new.counts) }
+{
+    if items.is_empty() {
+        return Err(Refusal::BadShape(end_line));
+    }
+    let query = read_axiom_query(alloc, &items[0], prefixes, state);
+    alone(query, items.split_at(1).1)
+}
+
+fn read_class_items(
+    alloc: Global,
+    items: &[Tree<'_>],
+    end_line: u32,
+    prefixes: &Prefixes,
+    state: &mut Reading,
+) -> Result<Concept, Refusal>
+    ensures tests { Judged result state.old.counts (class_query_tests prefixes.now end_line items.now) state.new.counts }
+    ensures grown { Grows state.old state.new }
+    ensures class { IfOk result (λ c. first_class prefixes.now state.new.counts items.now ≡ c ∷ []) }
+    ensures listed { IfOk result (IsListed state.new.counts) }
+{
+    if items.is_empty() {
+        return Err(Refusal::BadShape(end_line));
+    }
+    let class = ofn_expressions::read_class(alloc, &items[0], prefixes, state);
+    alone(class, items.split_at(1).1)
+}
+
+// Reads the query and lists its names. After a refusal the names are cut again.
+fn read_query_on(
+    alloc: Global,
+    items: &[Tree<'_>],
+    end_line: u32,
+    prefixes: &Prefixes,
+    nodes: u32,
+    ontology: &mut Ontology,
+) -> Result<Query, Refusal>
+    requires { nodes ≤ MAX_NODES }
+    ensures query { IfOk result (λ q. (behind : Counts) × (walked (query_start ontology.old nodes) (query_tests prefixes.now end_line items.now) ≡ Ok behind) × (first_query prefixes.now behind items.now ≡ q ∷ []) × AreBothListed behind q × (ontology.new ≡ record ontology.old { classes = behind.classes; roles = behind.roles })) }
+    ensures refused { IfErr result (λ e. e ≢ NoMemory → walked (query_start ontology.old nodes) (query_tests prefixes.now end_line items.now) ≡ Err e) }
+    ensures unchanged { OnErr result (ontology.new ≡ ontology.old) }
+{
+    let classes = ontology.class_count();
+    let roles = ontology.role_count();
+    let axioms = ontology.axioms().len() as u32;
+    let own = mem::replace(ontology, Ontology::new(alloc));
+    let mut state = Reading::new(own, axioms, nodes);
+    let read = read_query_items(alloc, items, end_line, prefixes, &mut state);
+    let (mut own, _) = state.into_parts();
+    if read.is_err() {
+        own.cut_names(classes, roles);
+    }
+    *ontology = own;
+    read
+}
+
+// The same for a class expression.
+fn read_class_on(
+    alloc: Global,
+    items: &[Tree<'_>],
+    end_line: u32,
+    prefixes: &Prefixes,
+    nodes: u32,
+    ontology: &mut Ontology,
+) -> Result<Concept, Refusal>
+    requires { nodes ≤ MAX_NODES }
+    ensures class { IfOk result (λ c. (behind : Counts) × (walked (query_start ontology.old nodes) (class_query_tests prefixes.now end_line items.now) ≡ Ok behind) × (first_class prefixes.now behind items.now ≡ c ∷ []) × IsListed behind c × (ontology.new ≡ record ontology.old { classes = behind.classes; roles = behind.roles })) }
+    ensures refused { IfErr result (λ e. e ≢ NoMemory → walked (query_start ontology.old nodes) (class_query_tests prefixes.now end_line items.now) ≡ Err e) }
+    ensures unchanged { OnErr result (ontology.new ≡ ontology.old) }
+{
+    let classes = ontology.class_count();
+    let roles = ontology.role_count();
+    let axioms = ontology.axioms().len() as u32;
+    let own = mem::replace(ontology, Ontology::new(alloc));
+    let mut state = Reading::new(own, axioms, nodes);
+    let class = read_class_items(alloc, items, end_line, prefixes, &mut state);
+    let (mut own, _) = state.into_parts();
+    if class.is_err() {
+        own.cut_names(classes, roles);
+    }
+    *ontology = own;
+    class
+}
+
+/// Reads a query on a document: one axiom `SubClassOf` of two class expressions, which may begin with annotations and uses
+/// the document's prefixes. New names are listed last, and the counts of names and nodes go on from those of the document.
 ///
 /// # Errors
 ///
@@ -49,41 +209,47 @@ pub fn read_query(
     ontology: &mut Ontology,
     context: &Context,
 ) -> Result<Query, Refusal>
-    ensures query { IfOk result (λ q. (behind : Counts) × IsQuery (query_start ontology.old context.now) text.now behind q × (ontology.new ≡ record ontology.old { classes = behind.classes; roles = behind.roles })) }
-    ensures refused { IfErr result (λ e. e ≢ NoMemory → IsNoQuery (query_start ontology.old context.now) text.now e) }
+    ensures query { IfOk result (λ q. (behind : Counts) × IsQuery context.now.prefixes (query_start ontology.old context.now.nodes) text.now behind q × AreBothListed behind q × (ontology.new ≡ record ontology.old { classes = behind.classes; roles = behind.roles })) }
+    ensures refused { IfErr result (λ e. e ≢ NoMemory → IsNoQuery context.now.prefixes (query_start ontology.old context.now.nodes) text.now e) }
     ensures unchanged { OnErr result (ontology.new ≡ ontology.old) }
 {
-    if text.len() > MAX_TEXT {
-        return Err(Refusal::Limit(Which::Text, 0));
-    }
-    let items = match read_items(alloc, text.as_bytes()) {
-        Ok((items, _)) => items,
-        Err(refusal) => return Err(refusal),
-    };
-    read_on(alloc, &items, ontology, context)
+    let bytes = text.as_bytes();
+    let items = read_query_text(alloc, bytes)?;
+    read_query_on(
+        alloc,
+        &items,
+        end_line(bytes),
+        context.prefixes(),
+        context.nodes(),
+        ontology,
+    )
 }
 
-// Reads the query and lists its names. After a refusal the names are cut again.
-fn read_on(
+/// Reads a class expression that is asked about on a document, with the document's prefixes. New names are listed last, and
+/// the counts of names and nodes go on from those of the document.
+///
+/// # Errors
+///
+/// `Limit` of the text where it has more than 16,777,216 bytes; the first fault of the text, else what is wrong first in
+/// the order of the text; and `NoMemory`. The ontology is then as before.
+pub fn read_class(
     alloc: Global,
-    items: &[Tree<'_>],
+    text: &str,
     ontology: &mut Ontology,
     context: &Context,
-) -> Result<Query, Refusal>
-    ensures query { IfOk result (λ q. (behind : Counts) × (walked (query_start ontology.old context.now) (query_tests items.now) ≡ Ok behind) × (first_pair behind items.now ≡ q ∷ []) × (ontology.new ≡ record ontology.old { classes = behind.classes; roles = behind.roles })) }
-    ensures refused { IfErr result (λ e. e ≢ NoMemory → walked (query_start ontology.old context.now) (query_tests items.now) ≡ Err e) }
+) -> Result<Concept, Refusal>
+    ensures class { IfOk result (λ c. (behind : Counts) × IsClass context.now.prefixes (query_start ontology.old context.now.nodes) text.now behind c × IsListed behind c × (ontology.new ≡ record ontology.old { classes = behind.classes; roles = behind.roles })) }
+    ensures refused { IfErr result (λ e. e ≢ NoMemory → IsNoClass context.now.prefixes (query_start ontology.old context.now.nodes) text.now e) }
     ensures unchanged { OnErr result (ontology.new ≡ ontology.old) }
 {
-    let classes = ontology.class_count();
-    let roles = ontology.role_count();
-    let axioms = ontology.axioms().len() as u32;
-    let own = mem::replace(ontology, Ontology::new(alloc));
-    let mut state = Reading::new(own, axioms, context.nodes());
-    let read = read_query_items(alloc, items, &mut state);
-    let (mut own, _) = state.into_parts();
-    if read.is_err() {
-        own.cut_names(classes, roles);
-    }
-    *ontology = own;
-    read
+    let bytes = text.as_bytes();
+    let items = read_query_text(alloc, bytes)?;
+    read_class_on(
+        alloc,
+        &items,
+        end_line(bytes),
+        context.prefixes(),
+        context.nodes(),
+        ontology,
+    )
 }

@@ -1,103 +1,30 @@
 -- The words and the input decide the answer.
-use Rattle.std.proofs.Common.{◌≡◌, ℕ, ◌<◌, ◌≤◌, ◌^◌, List, length, drop, true, false, Bool, Option, Some, None, refl, ap, sym, ◌∙◌, subst, arith}
+use Rattle.std.proofs.Common.{◌≡◌, ℕ, ◌<◌, ◌≤◌, ◌^◌, List, ◌⊎◌, inl, inr, length, drop, true, false, Bool, Option, Some, None, refl, ap, sym, ◌∙◌, subst, arith}
 use Rattle.std.specs.Prelude.{MatchOption, codes, not}
 use Rattle.shq_terms.specs.Listed.{Listed}
+use Rattle.shq_terms.specs.declared.axioms.Query.{Query as Asked}
 use Rattle.shq_meaning.specs.Truth.{refutes_at}
 use Rattle.shq_meaning.specs.Least.{IsFirstBelow}
 use Rattle.shq_meaning.proofs.Below.{all_below-false}
-use Rattle.finite_model.specs.Kept.{Kept, meaning}
+use Rattle.finite_model.specs.Kept.{meaning}
+use Rattle.ofn_expressions.specs.Counts.{Counts}
+use Rattle.ofn_reader.specs.Kept.{Kept}
 use Rattle.ofn_reader.specs.Documents.{IsDocument}
+use Rattle.ofn_reader.proofs.OneReason.{document_refusals, query_refusals}
 use Rattle.ofn_reader.proofs.Unique.{documents, documents_not_refused, queries, queries_not_refused}
 use Rattle.ontology_cli.specs.Words.{Job, check, job_of}
 use Rattle.ontology_cli.specs.Certificates.{Certificate, certificate, of_model, refutation, malformed}
-use Rattle.ontology_cli.specs.Checking.{with_names, IsClaim, IsInput, IsNoClaim, no_query, no_model, IsNotBuilt, no_document, no_claim, IsMalformed, IsMalformedInput, IsVerdict, IsVerdictOn}
-use Rattle.ontology_cli.specs.Answers.{line, verdict_answer, AnswersJob, Answers}
+use Rattle.ontology_cli.specs.Checking.{with_names, IsAsked, IsNotAsked, IsVerdict, Reply, judged, refused_document, refused_query, refutation_begun, malformed_line, Shows, Says, no_document, no_query, shown}
+use Rattle.ontology_cli.specs.Answers.{line, Answer, verdict_answer, reply_answer, AnswersJob, Answers}
 use Rattle.ontology_cli.specs.Laws.{IsDecided}
-use Rattle.ontology_cli.specs.declared.checking.Claim.{Claim}
 use Rattle.ontology_cli.specs.declared.checking.Input.{Input}
 use Rattle.ontology_cli.specs.declared.checking.Verdict.{Verdict}
-use Rattle.ontology_cli.specs.declared.checking.Verdict.TheVariants.{Accepted, Line, Axiom, Query}
+use Rattle.ontology_cli.specs.declared.checking.Verdict.TheVariants.{Accepted, Axiom, Query}
 use Rattle.ontology_cli.specs.declared.status.Status.{Status}
-use Rattle.ontology_cli.specs.declared.status.Status.TheVariants.{Done, Rejected, BadWords, Limit, ReadFault, WriteFault, NoMemory, NotBuilt}
+use Rattle.ontology_cli.specs.declared.status.Status.TheVariants.{Done, Rejected, BadWords, BadText, Outside, Limit, ReadFault, WriteFault, NoMemory, NotBuilt}
 
 some_same : {A : Type 0} (a b : A) → Some a ≡ Some b → a ≡ b
 some_same a b same = cc same
-
-model_same : (a b : Kept) → of_model a ≡ of_model b → a ≡ b
-model_same a b same = cc same
-
-line_same : (m n : ℕ) → malformed m ≡ malformed n → m ≡ n
-line_same m n same = cc same
-
--- what is claimed is unique
-same_claim : (o : Listed) (n : ℕ) (query rest : List ℕ) (a b : Listed) (x y : Claim) → IsClaim o n query rest a x → IsClaim o n query rest b y → (a ≡ b) × (x ≡ y)
-same_claim o n query rest a b x y p q =
-    let asked = queries _ query p.behind q.behind x.asked y.asked p.is_query q.is_query in
-    let names : a ≡ b = p.listed ∙ ap (with_names o) asked.0 ∙ sym q.listed in
-    let model : x.model ≡ y.model = model_same x.model y.model (sym p.model ∙ ap (λ l. certificate l rest) names ∙ q.model) in
-    (names, λ i. record { asked = asked.1 i; model = model i })
-
-no_claim_claimed : (o : Listed) (n : ℕ) (query rest : List ℕ) (a : Listed) (x : Claim) → IsClaim o n query rest a x → IsNoClaim o n query rest → ⊥
-no_claim_claimed o n query rest a x p (no_query e why) = queries_not_refused _ query p.behind x.asked e p.is_query why
-no_claim_claimed o n query rest a x p (no_model behind q is_query none) =
-    let same = queries _ query p.behind behind x.asked q p.is_query is_query in
-    let clash : of_model x.model ≡ refutation = sym p.model ∙ ap (λ l. certificate l rest) (p.listed ∙ ap (with_names o) same.0) ∙ none in
-    absurd (cc clash)
-
--- a first malformed line excludes a claim, and that the certificate is a refutation; and it is one line
-malformed_claimed : (o : Listed) (n : ℕ) (query rest : List ℕ) (a : Listed) (x : Claim) (k : ℕ) → IsClaim o n query rest a x → IsMalformed o n query rest k → ⊥
-malformed_claimed o n query rest a x k p m =
-    let same = queries _ query p.behind m.behind x.asked m.asked p.is_query m.is_query in
-    let clash : of_model x.model ≡ malformed k = sym p.model ∙ ap (λ l. certificate l rest) (p.listed ∙ ap (with_names o) same.0) ∙ m.line in
-    absurd (cc clash)
-
-malformed_not_built : (o : Listed) (n : ℕ) (query rest : List ℕ) (k : ℕ) → IsMalformed o n query rest k → IsNoClaim o n query rest → ⊥
-malformed_not_built o n query rest k m (no_query e why) = queries_not_refused _ query m.behind m.asked e m.is_query why
-malformed_not_built o n query rest k m (no_model behind q is_query none) =
-    let same = queries _ query m.behind behind m.asked q m.is_query is_query in
-    let clash : malformed k ≡ refutation = sym m.line ∙ ap (λ b. certificate (with_names o b) rest) same.0 ∙ none in
-    absurd (cc clash)
-
-same_malformed : (o : Listed) (n : ℕ) (query rest : List ℕ) (j k : ℕ) → IsMalformed o n query rest j → IsMalformed o n query rest k → j ≡ k
-same_malformed o n query rest j k p q =
-    let same = queries _ query p.behind q.behind p.asked q.asked p.is_query q.is_query in
-    line_same j k (sym p.line ∙ ap (λ b. certificate (with_names o b) rest) same.0 ∙ q.line)
-
--- one document stands at the front of the bytes, so what holds on one holds on the other
-on_document : (P : Listed → ℕ → List ℕ → Type 0) (bytes : List ℕ) (o o' : Listed) (n n' e e' : ℕ) → IsDocument bytes o n e → IsDocument bytes o' n' e' → P o n (drop e bytes) → P o' n' (drop e' bytes)
-on_document P bytes o o' n n' e e' p q holds =
-    let same = documents bytes o o' n n' e e' p q in
-    subst (λ d. P o' n' (drop d bytes)) same.2 (subst (λ m. P o' m (drop e bytes)) same.1 (subst (λ l. P l n (drop e bytes)) same.0 holds))
-
--- the input of a verification is unique
-same_input : (query bytes : List ℕ) (x y : Input) → IsInput query bytes x → IsInput query bytes y → x ≡ y
-same_input query bytes x y p q =
-    let moved = on_document (λ o n rest. IsClaim o n query rest x.ontology (record { asked = x.asked; model = x.model })) bytes p.document q.document p.nodes q.nodes p.end q.end p.is_document q.is_document p.is_claim in
-    let c = same_claim q.document q.nodes query (drop q.end bytes) x.ontology y.ontology _ _ moved q.is_claim in
-    λ i. record { ontology = c.0 i; asked = (c.1 i).asked; model = (c.1 i).model }
-
--- what is an input is built
-input_is_built : (query bytes : List ℕ) (x : Input) → IsInput query bytes x → IsNotBuilt query bytes → ⊥
-input_is_built query bytes x p (no_document e why) = documents_not_refused bytes p.document p.nodes p.end e p.is_document why
-input_is_built query bytes x p (no_claim o n d is_document why) =
-    no_claim_claimed p.document p.nodes query (drop p.end bytes) x.ontology (record { asked = x.asked; model = x.model }) p.is_claim
-    (on_document (λ l i rest. IsNoClaim l i query rest) bytes o p.document n p.nodes d p.end is_document p.is_document why)
-
-malformed_input : (query bytes : List ℕ) (x : Input) (k : ℕ) → IsInput query bytes x → IsMalformedInput query bytes k → ⊥
-malformed_input query bytes x k p m =
-    malformed_claimed p.document p.nodes query (drop p.end bytes) x.ontology (record { asked = x.asked; model = x.model }) k p.is_claim
-    (on_document (λ o n rest. IsMalformed o n query rest k) bytes m.document p.document m.nodes p.nodes m.end p.end m.is_document p.is_document m.is_malformed)
-
-malformed_is_built : (query bytes : List ℕ) (k : ℕ) → IsMalformedInput query bytes k → IsNotBuilt query bytes → ⊥
-malformed_is_built query bytes k m (no_document e why) = documents_not_refused bytes m.document m.nodes m.end e m.is_document why
-malformed_is_built query bytes k m (no_claim o n d is_document why) =
-    malformed_not_built m.document m.nodes query (drop m.end bytes) k m.is_malformed
-    (on_document (λ l i rest. IsNoClaim l i query rest) bytes o m.document n m.nodes d m.end is_document m.is_document why)
-
-same_line : (query bytes : List ℕ) (j k : ℕ) → IsMalformedInput query bytes j → IsMalformedInput query bytes k → j ≡ k
-same_line query bytes j k p q =
-    same_malformed q.document q.nodes query (drop q.end bytes) j k
-    (on_document (λ o n rest. IsMalformed o n query rest j) bytes p.document q.document p.nodes q.nodes p.end q.end p.is_document q.is_document p.is_malformed) q.is_malformed
 
 -- a least element that passes, and none that passes, exclude each other
 none_and_least : (x : Input) (y : ℕ) → IsFirstBelow x.model.size (refutes_at (meaning x.model) x.asked) (Some y) → IsFirstBelow x.model.size (refutes_at (meaning x.model) x.asked) None → ⊥
@@ -118,59 +45,84 @@ same_verdict x (Axiom j) Query p q = let clash : None ≡ Some j = sym q.0 ∙ p
 same_verdict x Query Accepted p q = absurd (none_and_least x q.1.0 q.1.1 p.1)
 same_verdict x Query (Axiom k) p q = let clash : None ≡ Some k = sym p.0 ∙ q in absurd (cc clash)
 same_verdict x Query Query p q = refl
-same_verdict x (Line n) w p q = absurd p
-same_verdict x Accepted (Line n) p q = absurd q
-same_verdict x (Axiom j) (Line n) p q = absurd q
-same_verdict x Query (Line n) p q = absurd q
 
--- what shows the verdict, a model or a malformed line
-data Shown (query bytes : List ℕ) (v : Verdict) : Type 0 where
-  by_model : (x : Input) → IsInput query bytes x → IsVerdict x v → Shown query bytes v
-  by_line : (n : ℕ) → v ≡ Line n → IsMalformedInput query bytes n → Shown query bytes v
+-- one certificate for one query has one answer
+same_shows : (o : Listed) (asked : Asked) (c : Certificate) (r q : Reply) → Shows o asked c r → Shows o asked c q → ◌≡◌ {A = Answer} (reply_answer r) (reply_answer q)
+same_shows o asked (of_model m) (judged v) (judged w) p q = same_verdict (record { ontology = o; asked = asked; model = m }) v w p q
+same_shows o asked refutation refutation_begun refutation_begun p q = refl
+same_shows o asked (malformed n) (malformed_line j) (malformed_line k) p q = ap (λ i. reply_answer (malformed_line i)) (sym p ∙ q)
+same_shows o asked (of_model m) (judged v) (refused_document e) p q = absurd q
+same_shows o asked (of_model m) (judged v) (refused_query e) p q = absurd q
+same_shows o asked (of_model m) (judged v) refutation_begun p q = absurd q
+same_shows o asked (of_model m) (judged v) (malformed_line k) p q = absurd q
+same_shows o asked refutation refutation_begun (judged w) p q = absurd q
+same_shows o asked refutation refutation_begun (refused_document e) p q = absurd q
+same_shows o asked refutation refutation_begun (refused_query e) p q = absurd q
+same_shows o asked refutation refutation_begun (malformed_line k) p q = absurd q
+same_shows o asked (malformed n) (malformed_line j) (judged w) p q = absurd q
+same_shows o asked (malformed n) (malformed_line j) (refused_document e) p q = absurd q
+same_shows o asked (malformed n) (malformed_line j) (refused_query e) p q = absurd q
+same_shows o asked (malformed n) (malformed_line j) refutation_begun p q = absurd q
+same_shows o asked c r q p s = absurd p
 
-shown : (query bytes : List ℕ) (v : Verdict) → IsVerdictOn query bytes v → Shown query bytes v
-shown query bytes (Line n) is = by_line n refl is
-shown query bytes Accepted is = by_model is.0 is.1 is.2
-shown query bytes (Axiom k) is = by_model is.0 is.1 is.2
-shown query bytes Query is = by_model is.0 is.1 is.2
+-- on one document a query is read or refused, and then its answer is one
+module _ (query bytes : List ℕ) (o : Listed) (kept : Kept) (end : ℕ) where
+  same_asked : (a b : Counts) (x y : Asked) (r q : Reply) → IsAsked o kept query a x → IsAsked o kept query b y → Shows (with_names o a) x (certificate (with_names o a) (drop end bytes)) r
+      → Shows (with_names o b) y (certificate (with_names o b) (drop end bytes)) q → ◌≡◌ {A = Answer} (reply_answer r) (reply_answer q)
+  same_asked a b x y r q p s shows tells =
+      let same = queries _ _ query a b x y p s in
+      same_shows (with_names o b) y (certificate (with_names o b) (drop end bytes)) r q
+      (subst (λ z. Shows (with_names o b) z (certificate (with_names o b) (drop end bytes)) r) same.1 (subst (λ d. Shows (with_names o d) x (certificate (with_names o d) (drop end bytes)) r) same.0 shows)) tells
 
-same_shown : (query bytes : List ℕ) (v w : Verdict) → Shown query bytes v → Shown query bytes w → ◌≡◌ {A = Status × List ℕ} (verdict_answer v) (verdict_answer w)
-same_shown query bytes v w (by_model x p says) (by_model y q tells) = same_verdict y v w (subst (λ z. IsVerdict z v) (same_input query bytes x y p q) says) tells
-same_shown query bytes v w (by_model x p says) (by_line n is m) = absurd (malformed_input query bytes x n p m)
-same_shown query bytes v w (by_line n is m) (by_model y q tells) = absurd (malformed_input query bytes y n q m)
-same_shown query bytes v w (by_line j is m) (by_line k is' m') = ap verdict_answer (is ∙ ap Line (same_line query bytes j k m m') ∙ sym is')
+-- what was read as one document was read as each other
+moved : (P : Listed → Kept → ℕ → Type 0) (bytes : List ℕ) (o p : Listed) (j k : Kept) (d e : ℕ) → IsDocument bytes o j d → IsDocument bytes p k e → P o j d → P p k e
+moved P bytes o p j k d e first second holds =
+    let same = documents bytes o p j k d e first second in
+    subst (λ i. P p k i) same.2 (subst (λ l. P p l d) same.1 (subst (λ l. P l j d) same.0 holds))
 
-shown_is_built : (query bytes : List ℕ) (v : Verdict) → Shown query bytes v → IsNotBuilt query bytes → ⊥
-shown_is_built query bytes v (by_model x p says) why = input_is_built query bytes x p why
-shown_is_built query bytes v (by_line n is m) why = malformed_is_built query bytes n m why
+same_said : (query bytes : List ℕ) (r q : Reply) → Says query bytes r → Says query bytes q → ◌≡◌ {A = Answer} (reply_answer r) (reply_answer q)
+same_said query bytes _ _ (no_document e why) (no_document f because) = ap (λ x. reply_answer (refused_document x)) (document_refusals bytes e f why because)
+same_said query bytes _ _ (no_document e why) (no_query o k d f is because) = absurd (documents_not_refused bytes o k d e is why)
+same_said query bytes _ _ (no_document e why) (shown o k d b x q is asked shows) = absurd (documents_not_refused bytes o k d e is why)
+same_said query bytes _ _ (no_query o k d f is because) (no_document e why) = absurd (documents_not_refused bytes o k d e is why)
+same_said query bytes _ _ (no_query o k d e is why) (no_query p j c f are because) =
+    ap (λ x. reply_answer (refused_query x)) (query_refusals _ _ query e f (moved (λ l i n. IsNotAsked l i query e) bytes o p k j d c is are why) because)
+same_said query bytes _ _ (no_query o k d e is why) (shown p j c b x q are asked shows) =
+    absurd (queries_not_refused _ _ query b x e asked (moved (λ l i n. IsNotAsked l i query e) bytes o p k j d c is are why))
+same_said query bytes _ _ (shown o k d b x r is asked shows) (no_document e why) = absurd (documents_not_refused bytes o k d e is why)
+same_said query bytes _ _ (shown o k d b x r is asked shows) (no_query p j c e are why) =
+    absurd (queries_not_refused _ _ query b x e asked (moved (λ l i n. IsNotAsked l i query e) bytes p o j k c d are is why))
+same_said query bytes _ _ (shown o k d b x r is asked shows) (shown p j c a y q are sought tells) =
+    let there = moved (λ l i n. IsAsked l i query b x × Shows (with_names l b) x (certificate (with_names l b) (drop n bytes)) r) bytes o p k j d c is are (asked, shows) in
+    same_asked query bytes p j c b a x y r q there.0 sought there.1 tells
 
--- the three answers of a verification, each with what holds then
-data Outcome (query bytes : List ℕ) (a : Status × List ℕ) : Type 0 where
-  too_long : 2 ^ 24 < length bytes → ◌≡◌ {A = Status × List ℕ} a (Limit, line (codes "limit text")) → Outcome query bytes a
-  unread : length bytes ≤ 2 ^ 24 → IsNotBuilt query bytes → ◌≡◌ {A = Status × List ℕ} a (NotBuilt, line (codes "not built")) → Outcome query bytes a
-  judged : length bytes ≤ 2 ^ 24 → (v : Verdict) → Shown query bytes v → ◌≡◌ {A = Status × List ℕ} a (verdict_answer v) → Outcome query bytes a
+-- the two answers of a verification, each with what holds then
+data Outcome (query bytes : List ℕ) (a : Answer) : Type 0 where
+  too_long : 2 ^ 24 < length bytes → ◌≡◌ {A = Answer} a (Limit, line (codes "limit text")) → Outcome query bytes a
+  replied : length bytes ≤ 2 ^ 24 → (r : Reply) → Says query bytes r → ◌≡◌ {A = Answer} a (reply_answer r) → Outcome query bytes a
 
-same_outcome : (query bytes : List ℕ) (a b : Status × List ℕ) → Outcome query bytes a → Outcome query bytes b → ◌≡◌ {A = Status × List ℕ} a b
+same_outcome : (query bytes : List ℕ) (a b : Answer) → Outcome query bytes a → Outcome query bytes b → ◌≡◌ {A = Answer} a b
 same_outcome query bytes a b (too_long long p) (too_long more q) = p ∙ sym q
-same_outcome query bytes a b (too_long long p) (unread short why q) = absurd (omega arith)
-same_outcome query bytes a b (too_long long p) (judged short w is q) = absurd (omega arith)
-same_outcome query bytes a b (unread short why p) (too_long long q) = absurd (omega arith)
-same_outcome query bytes a b (unread short why p) (unread less because q) = p ∙ sym q
-same_outcome query bytes a b (unread short why p) (judged less w is q) = absurd (shown_is_built query bytes w is why)
-same_outcome query bytes a b (judged short v is p) (too_long long q) = absurd (omega arith)
-same_outcome query bytes a b (judged short v is p) (unread less why q) = absurd (shown_is_built query bytes v is why)
-same_outcome query bytes a b (judged short v is p) (judged less w are q) = p ∙ same_shown query bytes v w is are ∙ sym q
+same_outcome query bytes a b (too_long long p) (replied short r is q) = absurd (omega arith)
+same_outcome query bytes a b (replied short r is p) (too_long long q) = absurd (omega arith)
+same_outcome query bytes a b (replied short r is p) (replied less s are q) = p ∙ same_said query bytes r s is are ∙ sym q
 
--- which of the three an answer is
+-- which of the two an answer is
+by_length : (query bytes : List ℕ) (a : Answer) → ((2 ^ 24 < length bytes) × (◌≡◌ {A = Answer} a (Limit, line (codes "limit text")))) ⊎ ((length bytes ≤ 2 ^ 24) × ((r : Reply) × Says query bytes r × (◌≡◌ {A = Answer} a (reply_answer r)))) → Outcome query bytes a
+by_length query bytes a (inl (long, is)) = too_long long is
+by_length query bytes a (inr (short, (r, says, is))) = replied short r says is
+
 outcome : (query bytes out : List ℕ) (s : Status) → IsDecided s → AnswersJob (check query) bytes out s → Outcome query bytes (s, out)
-outcome query bytes out Done known (short, (v, says, is)) = judged short v (shown query bytes v says) is
-outcome query bytes out Rejected known (short, (v, says, is)) = judged short v (shown query bytes v says) is
-outcome query bytes out BadWords known (short, (v, says, is)) = judged short v (shown query bytes v says) is
-outcome query bytes out Limit known (long, is) = too_long long (λ i. (Limit, is i))
+outcome query bytes out Done known answer = by_length query bytes (Done, out) answer
+outcome query bytes out Rejected known answer = by_length query bytes (Rejected, out) answer
+outcome query bytes out BadWords known answer = by_length query bytes (BadWords, out) answer
+outcome query bytes out BadText known answer = by_length query bytes (BadText, out) answer
+outcome query bytes out Outside known answer = by_length query bytes (Outside, out) answer
+outcome query bytes out Limit known answer = by_length query bytes (Limit, out) answer
 outcome query bytes out ReadFault known answer = absurd known
 outcome query bytes out WriteFault known answer = absurd known
 outcome query bytes out NoMemory known answer = absurd known
-outcome query bytes out NotBuilt known (short, (why, is)) = unread short why (λ i. (NotBuilt, is i))
+outcome query bytes out NotBuilt known answer = by_length query bytes (NotBuilt, out) answer
 
 pub answers : (words : List (List ℕ)) (bytes out text : List ℕ) (s t : Status) → IsDecided s → IsDecided t → Answers words bytes out s → Answers words bytes text t → (s ≡ t) × (out ≡ text)
 answers words bytes out text s t known sure = by (job_of words)

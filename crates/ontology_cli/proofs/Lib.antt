@@ -3,3 +3,4 @@ pub mod Blanks
 pub mod Replies
 pub mod Reasons
 pub mod Decided
+pub mod Complaining

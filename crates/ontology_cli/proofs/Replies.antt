@@ -1,56 +1,102 @@
 -- What an answer says of the input that was read.
-use Rattle.std.proofs.Common.{◌≡◌, ℕ, ◌+◌, ◌<◌, ◌≤◌, ◌^◌, List, [], ◌∷◌, ◌++◌, length, drop, true, false, Option, Some, None, refl, ap, sym, ◌∙◌, subst, append-nil, arith}
+use Rattle.std.proofs.Common.{◌≡◌, ℕ, ◌+◌, ◌<◌, ◌≤◌, ◌^◌, List, [], ◌∷◌, ◌++◌, inr, length, drop, true, false, Bool, Option, Some, None, refl, ap, sym, ◌∙◌, subst, append-nil, arith}
 use Rattle.std.specs.Prelude.{IfSome, nat_lt}
 use Rattle.std.specs.Io.KnownBytes.{Consumes, IsAtEnd}
 use Rattle.std.proofs.lemmas.Bool.Decides.{nat_tests}
 use Rattle.shq_io.specs.Causes.{TakesOut}
+use Rattle.ofn_tree.specs.declared.fault.TextFault.TheVariants as F
+use Rattle.ofn_expressions.specs.declared.refusal.Refusal.{Refusal}
+use Rattle.ofn_expressions.specs.declared.refusal.Refusal.TheVariants as R
 use Rattle.ontology_cli.specs.Words.{check}
-use Rattle.ontology_cli.specs.Checking.{IsVerdictOn}
-use Rattle.ontology_cli.specs.Answers.{verdict_answer, IsVerdictText, Checked, AnswersJob, left_by, LeavesFor}
+use Rattle.ontology_cli.specs.Checking.{IsInput, IsVerdict, IsUnread, Reply, judged, refused_document, refused_query, refutation_begun, malformed_line, Says}
+use Rattle.ontology_cli.specs.Complaints.{complaint}
+use Rattle.ontology_cli.specs.Answers.{Answer, complaint_answer, reply_answer, Gives, GivesUnread, Checked, AnswersJob, left_by, LeavesFor}
+use Rattle.ontology_cli.specs.declared.checking.Input.{Input}
 use Rattle.ontology_cli.specs.declared.checking.Verdict.{Verdict}
-use Rattle.ontology_cli.specs.declared.checking.Verdict.TheVariants.{Accepted, Line, Axiom, Query}
+use Rattle.ontology_cli.specs.declared.checking.Verdict.TheVariants.{Accepted, Axiom, Query}
+use Rattle.ontology_cli.specs.declared.complaint.Place.{Place}
+use Rattle.ontology_cli.specs.declared.complaint.Place.TheVariants as P
+use Rattle.ontology_cli.specs.declared.unread.Unread.{Unread}
+use Rattle.ontology_cli.specs.declared.unread.Unread.TheVariants as U
 use Rattle.ontology_cli.specs.declared.status.Status.{Status}
-use Rattle.ontology_cli.specs.declared.status.Status.TheVariants.{Done, Rejected, BadWords, Limit, ReadFault, WriteFault, NoMemory, NotBuilt}
+use Rattle.ontology_cli.specs.declared.status.Status.TheVariants.{Done, Rejected, BadWords, BadText, Outside, Limit, ReadFault, WriteFault, NoMemory, NotBuilt}
+use Rattle.ontology_cli.proofs.Reasons.{verdict_said}
 
-no_limit : (v : Verdict) (out : List ℕ) → ◌≡◌ {A = Status × List ℕ} (Limit, out) (verdict_answer v) → ⊥
-no_limit Accepted out is = let e : Limit ≡ Done = ap (λ (p : Status × List ℕ). p.0) is in absurd (cc e)
-no_limit (Line k) out is = let e : Limit ≡ Rejected = ap (λ (p : Status × List ℕ). p.0) is in absurd (cc e)
-no_limit (Axiom k) out is = let e : Limit ≡ Rejected = ap (λ (p : Status × List ℕ). p.0) is in absurd (cc e)
-no_limit Query out is = let e : Limit ≡ Rejected = ap (λ (p : Status × List ℕ). p.0) is in absurd (cc e)
+abbrev is_fault : Status → Bool
+is_fault ReadFault = true
+is_fault Done = false
+is_fault Rejected = false
+is_fault BadWords = false
+is_fault BadText = false
+is_fault Outside = false
+is_fault Limit = false
+is_fault WriteFault = false
+is_fault NoMemory = false
+is_fault NotBuilt = false
 
-no_fault : (v : Verdict) (out : List ℕ) → ◌≡◌ {A = Status × List ℕ} (ReadFault, out) (verdict_answer v) → ⊥
-no_fault Accepted out is = let e : ReadFault ≡ Done = ap (λ (p : Status × List ℕ). p.0) is in absurd (cc e)
-no_fault (Line k) out is = let e : ReadFault ≡ Rejected = ap (λ (p : Status × List ℕ). p.0) is in absurd (cc e)
-no_fault (Axiom k) out is = let e : ReadFault ≡ Rejected = ap (λ (p : Status × List ℕ). p.0) is in absurd (cc e)
-no_fault Query out is = let e : ReadFault ≡ Rejected = ap (λ (p : Status × List ℕ). p.0) is in absurd (cc e)
+-- no reply is that the source failed
+refusal_no_fault : (place : Place) (e : Refusal) → is_fault (complaint_answer place (complaint e)).0 ≡ false
+refusal_no_fault place (R.Text (F.BadUtf8 line)) = refl
+refusal_no_fault place (R.Text (F.BadToken line)) = refl
+refusal_no_fault place (R.Text (F.Unbalanced line)) = refl
+refusal_no_fault place (R.Text (F.TooDeep line)) = refl
+refusal_no_fault place (R.Text F.NoMemory) = refl
+refusal_no_fault place (R.BadShape line) = refl
+refusal_no_fault place (R.UnknownPrefix line) = refl
+refusal_no_fault place (R.PrefixClash line) = refl
+refusal_no_fault place (R.Outside line construct) = refl
+refusal_no_fault place (R.NotSimple line) = refl
+refusal_no_fault place (R.Limit w line) = refl
+refusal_no_fault place R.NoMemory = refl
 
-no_not_built : (v : Verdict) (out : List ℕ) → ◌≡◌ {A = Status × List ℕ} (NotBuilt, out) (verdict_answer v) → ⊥
-no_not_built Accepted out is = let e : NotBuilt ≡ Done = ap (λ (p : Status × List ℕ). p.0) is in absurd (cc e)
-no_not_built (Line k) out is = let e : NotBuilt ≡ Rejected = ap (λ (p : Status × List ℕ). p.0) is in absurd (cc e)
-no_not_built (Axiom k) out is = let e : NotBuilt ≡ Rejected = ap (λ (p : Status × List ℕ). p.0) is in absurd (cc e)
-no_not_built Query out is = let e : NotBuilt ≡ Rejected = ap (λ (p : Status × List ℕ). p.0) is in absurd (cc e)
+reply_no_fault : (r : Reply) → is_fault (reply_answer r).0 ≡ false
+reply_no_fault (judged Accepted) = refl
+reply_no_fault (judged (Axiom k)) = refl
+reply_no_fault (judged Query) = refl
+reply_no_fault (refused_document e) = refusal_no_fault P.Document e
+reply_no_fault (refused_query e) = refusal_no_fault P.Query e
+reply_no_fault refutation_begun = refl
+reply_no_fault (malformed_line n) = refl
 
--- the answer to a verdict is one of the verification
-pub verdict_checked : (query bytes : List ℕ) (v : Verdict) (out : List ℕ) (s : Status) → IsVerdictOn query bytes v → IsVerdictText v out s → Checked query bytes out s
-verdict_checked query bytes v out Done says is = (v, says, is)
-verdict_checked query bytes v out Rejected says is = (v, says, is)
-verdict_checked query bytes v out BadWords says is = (v, says, is)
-verdict_checked query bytes v out Limit says is = (v, says, is)
-verdict_checked query bytes v out ReadFault says is = (v, says, is)
-verdict_checked query bytes v out WriteFault says is = (v, says, is)
-verdict_checked query bytes v out NoMemory says is = is
-verdict_checked query bytes v out NotBuilt says is = absurd (no_not_built v out is)
+-- the answer of a reply is one of the verification
+reply_checked : (query bytes : List ℕ) (r : Reply) (out : List ℕ) (s : Status) → Says query bytes r → Gives (reply_answer r) out s → Checked query bytes out s
+reply_checked query bytes r out Done says is = (r, says, is)
+reply_checked query bytes r out Rejected says is = (r, says, is)
+reply_checked query bytes r out BadWords says is = (r, says, is)
+reply_checked query bytes r out BadText says is = (r, says, is)
+reply_checked query bytes r out Outside says is = (r, says, is)
+reply_checked query bytes r out Limit says is = (r, says, is)
+reply_checked query bytes r out ReadFault says is = (r, says, is)
+reply_checked query bytes r out WriteFault says is = (r, says, is)
+reply_checked query bytes r out NoMemory says is = is
+reply_checked query bytes r out NotBuilt says is = (r, says, is)
+
+pub verdict_checked : (query bytes : List ℕ) (x : Input) (v : Verdict) (out : List ℕ) (s : Status) → IsInput query bytes x → IsVerdict x v → Gives (reply_answer (judged v)) out s → Checked query bytes out s
+verdict_checked query bytes x v out s is says gives = reply_checked query bytes (judged v) out s (verdict_said query bytes x v is says) gives
+
+no_memory_checked : (query bytes out : List ℕ) (s : Status) → s ≡ NoMemory → Checked query bytes out NoMemory → Checked query bytes out s
+no_memory_checked query bytes out s is checked = subst (Checked query bytes out) (sym is) checked
+
+pub unread_checked : (query bytes : List ℕ) (u : Unread) (out : List ℕ) (s : Status) → IsUnread query bytes u → GivesUnread u out s → Checked query bytes out s
+unread_checked query bytes (U.Document e) out s why gives = reply_checked query bytes (refused_document e) out s why gives
+unread_checked query bytes (U.Query e) out s why gives = reply_checked query bytes (refused_query e) out s why gives
+unread_checked query bytes U.NotBuilt out s why gives = reply_checked query bytes refutation_begun out s why gives
+unread_checked query bytes (U.Line n) out s why gives = reply_checked query bytes (malformed_line n) out s why gives
+unread_checked query bytes U.NoMemory out s why gives = no_memory_checked query bytes out s gives.0 gives.1
 
 -- the answer of a verification is one to the job
 checked_answers : (query bytes out : List ℕ) (s : Status) → length bytes ≤ 2 ^ 24 → Checked query bytes out s → AnswersJob (check query) bytes out s
-checked_answers query bytes out Done short checked = (short, checked)
-checked_answers query bytes out Rejected short checked = (short, checked)
-checked_answers query bytes out BadWords short checked = (short, checked)
-checked_answers query bytes out Limit short (v, is_verdict, is) = absurd (no_limit v out is)
-checked_answers query bytes out ReadFault short (v, is_verdict, is) = absurd (no_fault v out is)
-checked_answers query bytes out WriteFault short checked = (short, checked)
+checked_answers query bytes out Done short checked = inr (short, checked)
+checked_answers query bytes out Rejected short checked = inr (short, checked)
+checked_answers query bytes out BadWords short checked = inr (short, checked)
+checked_answers query bytes out BadText short checked = inr (short, checked)
+checked_answers query bytes out Outside short checked = inr (short, checked)
+checked_answers query bytes out Limit short checked = inr (short, checked)
+checked_answers query bytes out ReadFault short (r, says, is) =
+    let clash : true ≡ false = ap (λ (p : Answer). is_fault p.0) is ∙ reply_no_fault r in absurd (cc clash)
+checked_answers query bytes out WriteFault short checked = inr (short, checked)
 checked_answers query bytes out NoMemory short checked = checked
-checked_answers query bytes out NotBuilt short checked = (short, checked)
+checked_answers query bytes out NotBuilt short checked = inr (short, checked)
 
 -- an answer to the bytes that were read whole is one to all that the source held
 pub read_answers : (before now : Option (List ℕ)) (query input given out : List ℕ) (s : Status) → Consumes before now input → IsAtEnd now → length input ≤ 2 ^ 24 → given ≡ input → Checked query given out s → IfSome before (λ bytes. AnswersJob (check query) bytes out s)
@@ -78,6 +124,8 @@ whole_leaves before now query input Done taken end short = none_left before now 
 whole_leaves before now query input Rejected taken end short = none_left before now query input taken end short
 whole_leaves before now query input BadWords taken end short = none_left before now query input taken end short
 whole_leaves before now query input Limit taken end short = none_left before now query input taken end short
+whole_leaves before now query input Outside taken end short = none_left before now query input taken end short
+whole_leaves before now query input BadText taken end short = none_left before now query input taken end short
 whole_leaves before now query input NotBuilt taken end short = none_left before now query input taken end short
 
 drop_taken : (n : ℕ) (taken rest : List ℕ) → length taken ≡ n → drop n (taken ++ rest) ≡ rest

@@ -1,11 +1,16 @@
 -- Which answer belongs to which words and bytes, and what a run leaves of the input.
-use Rattle.std.specs.Prelude.{◌≡◌, ℕ, ◌+◌, ◌<◌, ◌≤◌, ◌^◌, ◌∷◌, ◌++◌, [], List, length, drop, codes, decimal, nat_lt, Option, Some, None, MatchOption, string_bytes, if◌then◌else◌}
+use Rattle.std.specs.Prelude.{◌≡◌, ℕ, ◌+◌, ◌<◌, ◌≤◌, ◌^◌, ◌∷◌, ◌++◌, ◌⊎◌, [], List, length, drop, codes, decimal, nat_lt, Option, Some, None, MatchOption, string_bytes, if◌then◌else◌}
 use Rattle.std.specs.Io.KnownBytes.{Appends}
 use Rattle.shq_io.specs.Causes.{TakesFront}
 use Rattle.ontology_cli.specs.Words.{Job, check, job_of}
-use Rattle.ontology_cli.specs.Checking.{IsNotBuilt, IsVerdictOn}
+use Rattle.ontology_cli.specs.Checking.{Reply, judged, refused_document, refused_query, refutation_begun, malformed_line, Says}
+use Rattle.ontology_cli.specs.Complaints.{Complaint, sort_status, complaint, complaint_text}
+use Rattle.ontology_cli.specs.declared.complaint.Place.{Place}
+use Rattle.ontology_cli.specs.declared.complaint.Place.TheVariants as P
+use Rattle.ontology_cli.specs.declared.unread.Unread.{Unread}
+use Rattle.ontology_cli.specs.declared.unread.Unread.TheVariants as U
 use Rattle.ontology_cli.specs.declared.checking.Verdict.{Verdict}
-use Rattle.ontology_cli.specs.declared.checking.Verdict.TheVariants.{Accepted, Line, Axiom, Query}
+use Rattle.ontology_cli.specs.declared.checking.Verdict.TheVariants.{Accepted, Axiom, Query}
 use Rattle.ontology_cli.specs.declared.text.Text.{Text}
 use Rattle.ontology_cli.specs.declared.text.Text.TheVariants.{Fixed, Made}
 use Rattle.ontology_cli.specs.declared.status.Status.{Status}
@@ -22,30 +27,53 @@ text_bytes (Made s) = string_bytes s
 abbrev pub no_memory : List ℕ
 no_memory = line (codes "no memory")
 
--- the answer to a verdict
-abbrev pub verdict_answer : Verdict → Status × List ℕ
+-- the status and the text of an answer
+abbrev pub Answer : Type 0
+Answer = Status × List ℕ
+
+abbrev pub verdict_answer : Verdict → Answer
 verdict_answer Accepted = (Done, line (codes "accepted not entailed"))
-verdict_answer (Line n) = (Rejected, line (codes "rejected line " ++ decimal n))
 verdict_answer (Axiom k) = (Rejected, line (codes "rejected axiom " ++ decimal k))
 verdict_answer Query = (Rejected, line (codes "rejected query"))
 
--- the same, unless memory was refused
-abbrev pub IsVerdictText : Verdict → List ℕ → Status → Type 0
-IsVerdictText v out NoMemory = out ≡ no_memory
-IsVerdictText v out s = ◌≡◌ {A = Status × List ℕ} (s, out) (verdict_answer v)
+abbrev pub complaint_answer : Place → Option Complaint → Answer
+complaint_answer place None = (NoMemory, no_memory)
+complaint_answer place (Some c) = (sort_status c.sort, complaint_text place c)
+
+abbrev pub reply_answer : Reply → Answer
+reply_answer (judged v) = verdict_answer v
+reply_answer (refused_document e) = complaint_answer P.Document (complaint e)
+reply_answer (refused_query e) = complaint_answer P.Query (complaint e)
+reply_answer refutation_begun = (NotBuilt, line (codes "not built"))
+reply_answer (malformed_line n) = (Rejected, line (codes "rejected line " ++ decimal n))
+
+-- this answer, unless memory was refused
+abbrev pub Gives : Answer → List ℕ → Status → Type 0
+Gives answer out NoMemory = out ≡ no_memory
+Gives answer out s = ◌≡◌ {A = Answer} (s, out) answer
+
+-- the answer to an input that could not be read
+abbrev pub GivesUnread : Unread → List ℕ → Status → Type 0
+GivesUnread (U.Document e) out s = Gives (reply_answer (refused_document e)) out s
+GivesUnread (U.Query e) out s = Gives (reply_answer (refused_query e)) out s
+GivesUnread U.NotBuilt out s = Gives (reply_answer refutation_begun) out s
+GivesUnread (U.Line n) out s = Gives (reply_answer (malformed_line n)) out s
+GivesUnread U.NoMemory out s = (s ≡ NoMemory) × (out ≡ no_memory)
 
 -- the answer of a verification
 abbrev pub Checked : List ℕ → List ℕ → List ℕ → Status → Type 0
-Checked query bytes out NotBuilt = IsNotBuilt query bytes × (out ≡ line (codes "not built"))
 Checked query bytes out NoMemory = out ≡ no_memory
-Checked query bytes out s = (v : Verdict) × IsVerdictOn query bytes v × (◌≡◌ {A = Status × List ℕ} (s, out) (verdict_answer v))
+Checked query bytes out s = (r : Reply) × Says query bytes r × (◌≡◌ {A = Answer} (s, out) (reply_answer r))
+
+-- the answer to an input that is too long
+abbrev pub IsTooLong : List ℕ → List ℕ → Status → Type 0
+IsTooLong bytes out s = (2 ^ 24 < length bytes) × (◌≡◌ {A = Answer} (s, out) (Limit, line (codes "limit text")))
 
 -- the answer to an accepted list of words
 abbrev pub AnswersJob : Job → List ℕ → List ℕ → Status → Type 0
-AnswersJob job bytes out Limit = (2 ^ 24 < length bytes) × (out ≡ line (codes "limit text"))
 AnswersJob job bytes out ReadFault = out ≡ line (codes "read fault")
 AnswersJob job bytes out NoMemory = out ≡ no_memory
-AnswersJob (check query) bytes out s = (length bytes ≤ 2 ^ 24) × Checked query bytes out s
+AnswersJob (check query) bytes out s = IsTooLong bytes out s ⊎ ((length bytes ≤ 2 ^ 24) × Checked query bytes out s)
 
 -- the answer to the words and the input, with the text that is written
 abbrev pub Answers : List (List ℕ) → List ℕ → List ℕ → Status → Type 0

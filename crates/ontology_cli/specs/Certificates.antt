@@ -8,7 +8,7 @@ use Rattle.finite_model.specs.Kept.{Kept}
 use Rattle.finite_model.specs.ModelText.{model_of}
 use Rattle.finite_model.specs.Malformed.{first_malformed, told}
 use Rattle.ontology_cli.specs.declared.unread.Unread.{Unread}
-use Rattle.ontology_cli.specs.declared.unread.Unread.TheVariants.{NotBuilt, Line, NoMemory}
+use Rattle.ontology_cli.specs.declared.unread.Unread.TheVariants as U
 
 -- its lines: those of the text, but for blank ones in front
 abbrev pub certificate_lines : List ℕ → List (List ℕ)
@@ -53,6 +53,8 @@ certificate o text = certificate_in o (certificate_lines text)
 
 -- what keeps a text from being the certificate of a model, unless memory was refused
 abbrev pub IsUnreadBy : Certificate → Unread → Type 0
-IsUnreadBy c NotBuilt = c ≡ refutation
-IsUnreadBy c (Line n) = c ≡ malformed n
-IsUnreadBy c NoMemory = Unit {0}
+IsUnreadBy c U.NotBuilt = c ≡ refutation
+IsUnreadBy c (U.Line n) = c ≡ malformed n
+IsUnreadBy c (U.Document e) = ⊥
+IsUnreadBy c (U.Query e) = ⊥
+IsUnreadBy c U.NoMemory = Unit {0}

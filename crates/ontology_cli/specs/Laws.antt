@@ -7,13 +7,15 @@ use Rattle.ontology_cli.specs.declared.checking.Input.{Input}
 use Rattle.ontology_cli.specs.declared.checking.Verdict.TheVariants.{Accepted}
 use Rattle.ontology_cli.specs.Answers.{Answers}
 use Rattle.ontology_cli.specs.declared.status.Status.{Status}
-use Rattle.ontology_cli.specs.declared.status.Status.TheVariants.{Done, Rejected, BadWords, Limit, ReadFault, WriteFault, NoMemory, NotBuilt}
+use Rattle.ontology_cli.specs.declared.status.Status.TheVariants.{Done, Rejected, BadWords, BadText, Outside, Limit, ReadFault, WriteFault, NoMemory, NotBuilt}
 
 -- a status that does not depend on the source, the sink or the memory
 abbrev pub IsDecided : Status → Type 0
 IsDecided Done = Unit {0}
 IsDecided Rejected = Unit {0}
 IsDecided BadWords = Unit {0}
+IsDecided BadText = Unit {0}
+IsDecided Outside = Unit {0}
 IsDecided Limit = Unit {0}
 IsDecided ReadFault = ⊥
 IsDecided WriteFault = ⊥

@@ -2,9 +2,9 @@
 ghost use Rattle.std.specs.Prelude.{◌≡◌, ◌≤◌, IfOk, IfErr, length};
 ghost use Rattle.std.specs.Result.{result_map_both};
 ghost use Rattle.finite_model.specs.Kept.{meaning};
-ghost use Rattle.ofn_reader.specs.Counts.{Counts};
-ghost use Rattle.ofn_reader.specs.Documents.{IsDocument, IsNoDocument, IsQuery, IsNoQuery, query_start};
-ghost use Rattle.ontology_cli.specs.Checking.{IsInput, IsUnread, IsClaim, IsUnclaimed, IsUnasked, IsUndocumented, IsVerdict, first_unmet, with_names};
+ghost use Rattle.ofn_expressions.specs.Counts.{Counts};
+ghost use Rattle.ofn_reader.specs.Documents.{IsDocument};
+ghost use Rattle.ontology_cli.specs.Checking.{IsInput, IsUnread, IsClaim, IsUnclaimed, IsAsked, IsUnasked, IsUndocumented, IsVerdict, first_unmet, with_names};
 
 use crate::certificate::read_certificate;
 use crate::unread::Unread;
@@ -26,8 +26,6 @@ pub(crate) struct Input {
 pub(crate) enum Verdict {
     /// Its model meets every axiom and refutes the query.
     Accepted,
-    /// It is none, and the line of this number is the first malformed one.
-    Line(u32),
     /// Its model does not meet the axiom of this number, which is the least.
     Axiom(u32),
     /// Its model meets every axiom and does not refute the query.
@@ -61,6 +59,7 @@ pub(crate) fn judge(input: &Input) -> Verdict
 
 /// Reads the document, the query on it and the certificate that follows it.
 pub(crate) fn read_input(alloc: Global, query: &str, bytes: &[u8]) -> Result<Input, Unread>
+    requires { length bytes.now ≤ 4294967293 }
     ensures input { IfOk result (IsInput query.now bytes.now) }
     ensures unread { IfErr result (IsUnread query.now bytes.now) }
 {
@@ -121,6 +120,7 @@ fn claim_of(asked: Query, model: Result<Interp, Unread>) -> Result<Claim, Unread
 }
 
 fn document(alloc: Global, bytes: &[u8]) -> Result<(Ontology, Context, usize), Unread>
+    requires { length bytes.now ≤ 4294967293 }
     ensures document { IfOk result (λ r. IsDocument bytes.now r.0 r.1 r.2) }
     ensures within { IfOk result (λ r. r.2 ≤ length bytes.now) }
     ensures refused { IfErr result (IsUndocumented bytes.now) }
@@ -128,7 +128,7 @@ fn document(alloc: Global, bytes: &[u8]) -> Result<(Ontology, Context, usize), U
     match read_ontology(alloc, bytes) {
         Ok(read) => Ok(read),
         Err(Refusal::NoMemory) => Err(Unread::NoMemory),
-        Err(_) => Err(Unread::NotBuilt),
+        Err(refusal) => Err(Unread::Document(refusal)),
     }
 }
 
@@ -138,12 +138,12 @@ fn query_on(
     ontology: &mut Ontology,
     context: &Context,
 ) -> Result<Query, Unread>
-    ensures query { IfOk result (λ q. (behind : Counts) × IsQuery (query_start ontology.old context.now) query.now behind q × (ontology.new ≡ with_names ontology.old behind)) }
+    ensures query { IfOk result (λ q. (behind : Counts) × IsAsked ontology.old context.now query.now behind q × (ontology.new ≡ with_names ontology.old behind)) }
     ensures refused { IfErr result (IsUnasked ontology.old context.now query.now) }
 {
     match read_query(alloc, query, ontology, context) {
         Ok(asked) => Ok(asked),
         Err(Refusal::NoMemory) => Err(Unread::NoMemory),
-        Err(_) => Err(Unread::NotBuilt),
+        Err(refusal) => Err(Unread::Query(refusal)),
     }
 }

@@ -3,6 +3,7 @@
 
 mod certificate;
 mod checking;
+mod complaint;
 mod laws;
 mod run;
 mod run_log;

@@ -1,10 +1,11 @@
 // The top call.
-ghost use Rattle.std.specs.Prelude.{◌≡◌, ◌≤◌, ◌≢◌, IfSome, Some, None};
+ghost use Rattle.std.specs.Prelude.{◌≡◌, ◌≤◌, ◌≢◌, IfSome, Some, None, length};
 ghost use Rattle.shq_io.specs.Causes.{Rose};
 ghost use Rattle.ontology_cli.specs.Words.{check, job_of, command_job, texts_of};
-ghost use Rattle.ontology_cli.specs.Answers.{AnswersJob, Answers, Answered, Checked, IsVerdictText, LeavesFor, Leaves, text_bytes};
+ghost use Rattle.ontology_cli.specs.Answers.{AnswersJob, Answers, Answered, Checked, Gives, GivesUnread, verdict_answer, LeavesFor, Leaves, text_bytes};
 
 use crate::checking::{Verdict, judge, read_input};
+use crate::complaint::{Place, refusal_text};
 use crate::run_log::RunLog;
 use crate::status::Status;
 use crate::text::Text;
@@ -82,6 +83,7 @@ fn check_input<S: Source>(alloc: Global, query: &str, source: &mut S) -> (Status
 
 /// Verifies the model certificate that follows the document.
 fn verify(alloc: Global, query: &str, input: &[u8]) -> (Status, Text)
+    requires { length input.now ≤ 4294967293 }
     ensures { Checked query.now input.now (text_bytes result.1) result.0 }
 {
     match read_input(alloc, query, input) {
@@ -90,26 +92,36 @@ fn verify(alloc: Global, query: &str, input: &[u8]) -> (Status, Text)
             drop(read);
             verdict_text(alloc, verdict)
         }
-        Err(Unread::Line(number)) => verdict_text(alloc, Verdict::Line(number)),
-        Err(Unread::NotBuilt) => (Status::NotBuilt, Text::Fixed("not built\n")),
-        Err(Unread::NoMemory) => (Status::NoMemory, Text::Fixed("no memory\n")),
+        Err(unread) => unread_text(alloc, unread),
     }
 }
 
 /// The answer to a verdict.
 fn verdict_text(alloc: Global, verdict: Verdict) -> (Status, Text)
-    ensures { IsVerdictText verdict (text_bytes result.1) result.0 }
+    ensures { Gives (verdict_answer verdict) (text_bytes result.1) result.0 }
 {
     match verdict {
         Verdict::Accepted => (Status::Done, Text::Fixed("accepted not entailed\n")),
-        Verdict::Line(number) => match format!(in alloc; "rejected line {number}\n") {
-            Ok(text) => (Status::Rejected, Text::Made(text)),
-            Err(_) => (Status::NoMemory, Text::Fixed("no memory\n")),
-        },
         Verdict::Axiom(number) => match format!(in alloc; "rejected axiom {number}\n") {
             Ok(text) => (Status::Rejected, Text::Made(text)),
             Err(_) => (Status::NoMemory, Text::Fixed("no memory\n")),
         },
         Verdict::Query => (Status::Rejected, Text::Fixed("rejected query\n")),
+    }
+}
+
+/// The answer where there is nothing to verify.
+fn unread_text(alloc: Global, unread: Unread) -> (Status, Text)
+    ensures { GivesUnread unread (text_bytes result.1) result.0 }
+{
+    match unread {
+        Unread::Document(refusal) => refusal_text(alloc, Place::Document, refusal),
+        Unread::Query(refusal) => refusal_text(alloc, Place::Query, refusal),
+        Unread::NotBuilt => (Status::NotBuilt, Text::Fixed("not built\n")),
+        Unread::Line(number) => match format!(in alloc; "rejected line {number}\n") {
+            Ok(text) => (Status::Rejected, Text::Made(text)),
+            Err(_) => (Status::NoMemory, Text::Fixed("no memory\n")),
+        },
+        Unread::NoMemory => (Status::NoMemory, Text::Fixed("no memory\n")),
     }
 }

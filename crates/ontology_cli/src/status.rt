@@ -9,6 +9,10 @@ pub enum Status {
     Rejected = 1,
     /// The words ask for no job, and nothing was read.
     BadWords = 2,
+    /// The text of the document or of the query is wrong.
+    BadText = 3,
+    /// The document or the query uses a construct that is left out.
+    Outside = 4,
     /// A limit was passed.
     Limit = 5,
     /// The source failed.

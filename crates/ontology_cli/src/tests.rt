@@ -33,7 +33,7 @@ fn run_on(
 
 #[test]
 fn verifies_models(rt: HostRuntime) -> Result<(), Fail> {
-    let cases: [([&str; 2], Status, &str); 15] = [
+    let cases: [([&str; 2], Status, &str); 13] = [
         (
             [
                 DOCUMENT,
@@ -113,20 +113,158 @@ fn verifies_models(rt: HostRuntime) -> Result<(), Fail> {
             Status::NotBuilt,
             "not built\n",
         ),
-        (["", ""], Status::NotBuilt, "not built\n"),
-        (
-            [
-                "Prefix(:=<http://e.org/>)\nOntology()\n",
-                "not entailed\nmodel 1\nend\n",
-            ],
-            Status::NotBuilt,
-            "not built\n",
-        ),
     ];
     for (input, status, text) in cases {
         let (answer, sink) = run_on(rt.alloc(), &["check", QUERY], input, [0, 0])?;
         assert!(rt; sink.taken() == text.as_bytes(), "{text}");
         assert_eq!(rt; answer, status, "{text}");
+    }
+    Ok(())
+}
+
+// The axioms stand on line 3 and behind it.
+fn document(alloc: Global, axioms: &str) -> Result<String, Fail> {
+    let mut text = String::from_str(alloc, "Prefix(:=<http://e.org/>)\nOntology(\n")?;
+    text.push_str(axioms)?;
+    text.push_str("\n)\n")?;
+    Ok(text)
+}
+
+const TWO: &str = "SubClassOf(:A ObjectMinCardinality(2 :R :A))";
+
+const FORK: &str =
+    "SubClassOf(:A ObjectSomeValuesFrom(:R :B))\nSubClassOf(:A ObjectSomeValuesFrom(:R :C))\nSubClassOf(:A ObjectMaxCardinality(1 :R))";
+
+// The answer to these axioms and this certificate, where it is asked whether A is empty.
+fn told_of(alloc: Global, axioms: &str, certificate: &str) -> Result<MemSink, Fail> {
+    let document = document(alloc, axioms)?;
+    let words = ["check", "SubClassOf(:A owl:Nothing)"];
+    let (_, sink) = run_on(alloc, &words, [document.as_str(), certificate], [0, 0])?;
+    Ok(sink)
+}
+
+#[test]
+fn verifies_models_of_roles(rt: HostRuntime) -> Result<(), Fail> {
+    let cases: [(&str, &str, &str); 7] = [
+        (
+            TWO,
+            "satisfiable\nmodel 2\nclass <http://e.org/A> 0 1\nrole <http://e.org/R> 0,0 0,1 1,0 1,1\nend\n",
+            "accepted not entailed\n",
+        ),
+        (
+            TWO,
+            "satisfiable\nmodel 1\nclass <http://e.org/A> 0\nrole <http://e.org/R> 0,0\nend\n",
+            "rejected axiom 1\n",
+        ),
+        (
+            FORK,
+            "satisfiable\nmodel 2\nclass <http://e.org/A> 0\nclass <http://e.org/B> 1\nclass <http://e.org/C> 1\nrole <http://e.org/R> 0,1\nend\n",
+            "accepted not entailed\n",
+        ),
+        (
+            FORK,
+            "satisfiable\nmodel 3\nclass <http://e.org/A> 0\nclass <http://e.org/B> 1\nclass <http://e.org/C> 2\nrole <http://e.org/R> 0,1 0,2\nend\n",
+            "rejected axiom 3\n",
+        ),
+        (
+            FORK,
+            "satisfiable\nmodel 2\nclass <http://e.org/A> 0\nrole <http://e.org/R> 0,1 0,0\nend\n",
+            "rejected line 4\n",
+        ),
+        (
+            "# no axioms\nDeclaration(Class(:A))",
+            "not entailed\nmodel 1\nclass <http://e.org/A> 0\nend\n",
+            "accepted not entailed\n",
+        ),
+        (TWO, "unsatisfiable\nrefutation\n", "not built\n"),
+    ];
+    for (axioms, certificate, text) in cases {
+        let sink = told_of(rt.alloc(), axioms, certificate)?;
+        assert!(rt; sink.taken() == text.as_bytes(), "{text}");
+    }
+    Ok(())
+}
+
+#[test]
+fn refuses_documents(rt: HostRuntime) -> Result<(), Fail> {
+    let cases: [(&str, &str, Status); 10] = [
+        ("", "bad text shape line 1\n", Status::BadText),
+        (DAMAGED, "bad text balance line 5\n", Status::BadText),
+        ("Ontology(\n@ )", "bad text token line 2\n", Status::BadText),
+        (
+            "Prefix(owl:=<http://e.org/>)\nOntology()",
+            "bad text clash line 1\n",
+            Status::BadText,
+        ),
+        (
+            "Ontology(\nSubClassOf(x:A :B))",
+            "bad text prefix line 2\n",
+            Status::BadText,
+        ),
+        (
+            "Ontology(\n\nImport(<http://e.org/x>))",
+            "outside Import line 3\n",
+            Status::Outside,
+        ),
+        (
+            "Ontology(SubClassOf(<A> ObjectSomeValuesFrom(ObjectInverseOf(<R>) <B>)))",
+            "outside ObjectInverseOf line 1\n",
+            Status::Outside,
+        ),
+        (
+            "Ontology(SubClassOf(<A> ObjectSomeValuesFrom(owl:topObjectProperty <B>)))",
+            "outside owl:topObjectProperty line 1\n",
+            Status::Outside,
+        ),
+        (
+            "Ontology(SubClassOf(<A> ObjectMinCardinality(101 <R> <B>)))",
+            "limit number line 1\n",
+            Status::Limit,
+        ),
+        (
+            "Ontology(EquivalentClasses(<A>))",
+            "bad text shape line 1\n",
+            Status::BadText,
+        ),
+    ];
+    for (document, text, status) in cases {
+        let (answer, sink) = run_on(rt.alloc(), &["check", QUERY], [document, ""], [0, 0])?;
+        assert!(rt; sink.taken() == text.as_bytes(), "{text}");
+        assert_eq!(rt; answer, status, "{text}");
+    }
+    Ok(())
+}
+
+const DAMAGED: &str =
+    "Prefix(:=<http://e.org/>)\nOntology(\nSubClassOf(:A :B)\nSubClassOf(:B :C)\n";
+
+#[test]
+fn refuses_queries(rt: HostRuntime) -> Result<(), Fail> {
+    let cases: [(&str, &str); 8] = [
+        ("", "bad text shape query\n"),
+        ("SubClassOf(:A", "bad text balance query\n"),
+        ("SubClassOf(x:A :B)", "bad text prefix query\n"),
+        ("EquivalentClasses(:A :B)", "bad text shape query\n"),
+        ("SubClassOf(:A :B) :C", "bad text shape query\n"),
+        (
+            "SubClassOf(ObjectHasSelf(:R) :A)",
+            "outside ObjectHasSelf query\n",
+        ),
+        ("HasKey(:A)", "outside HasKey query\n"),
+        (
+            "SubClassOf(ObjectMinCardinality(101 :R) :A)",
+            "limit number query\n",
+        ),
+    ];
+    for (query, text) in cases {
+        let document = document(rt.alloc(), "")?;
+        let (_, sink) = run_on(
+            rt.alloc(),
+            &["check", query],
+            [document.as_str(), ""],
+            [0, 0],
+        )?;
+        assert!(rt; sink.taken() == text.as_bytes(), "{text}");
     }
     Ok(())
 }

@@ -1,11 +1,16 @@
 // What keeps an input from being verified.
 
+use ofn_reader::Refusal;
 use shq_base::NoMemory;
 
 /// Why there is nothing to verify.
 #[derive(Clone, Copy, Debug, PartialEq, Eq)]
 pub(crate) enum Unread {
-    /// The document or the query is not plain, or the certificate is a refutation.
+    /// Why the document is refused.
+    Document(Refusal),
+    /// Why the query is refused.
+    Query(Refusal),
+    /// The certificate begins like a refutation.
     NotBuilt,
     /// The rest is no certificate, and this is the number of its first malformed line.
     Line(u32),

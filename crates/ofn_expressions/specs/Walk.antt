@@ -1,0 +1,96 @@
+-- The tests of a document or a query, and what a list of them says. A test is judged by what those before it counted.
+use Rattle.std.specs.Prelude.{◌≡◌, ◌≢◌, ℕ, ◌+◌, Bool, false, cond, List, [], ◌∷◌, length, Option, Some, None, Result, Ok, Err, nat_le}
+use Rattle.shq_terms.specs.Names.{with_name}
+use Rattle.ofn_expressions.specs.Counts.{Counts}
+use Rattle.ofn_expressions.specs.declared.construct.Construct.{Construct}
+use Rattle.ofn_expressions.specs.declared.refusal.Refusal.{Refusal}
+use Rattle.ofn_expressions.specs.declared.refusal.Refusal.TheVariants.{BadShape, UnknownPrefix, PrefixClash, Outside, Limit, NoMemory}
+use Rattle.ofn_expressions.specs.declared.refusal.Which.TheVariants.{Axioms, Classes, Roles, Nodes, Number, Parts}
+
+-- Each has its line: that an item has the shape which is asked; that a prefix name is declared; that it is not declared with
+-- another IRI; that no construct outside of the profile stands there; that one more numbered axiom is within the limit; that
+-- so many more parts of axioms are; that so many more nodes are; that a class, or a role, which is listed here is; that a
+-- cardinality is.
+pub data Test : Type 0 where
+  shape : ℕ → Bool → Test
+  prefix : ℕ → Bool → Test
+  clash : ℕ → Bool → Test
+  outside : ℕ → Construct → Test
+  numbered : ℕ → Test
+  parts : ℕ → ℕ → Test
+  nodes : ℕ → ℕ → Test
+  class : ℕ → List ℕ → Test
+  role : ℕ → List ℕ → Test
+  number : ℕ → ℕ → Test
+
+-- whether a test holds, by what was counted and listed before it
+abbrev pub holds : Counts → Test → Bool
+holds s (shape line fits) = fits
+holds s (prefix line declared) = declared
+holds s (clash line agrees) = agrees
+holds s (outside line construct) = false
+holds s (numbered line) = nat_le (s.axioms + 1) 20000
+holds s (parts line n) = nat_le (s.parts + n) 500000
+holds s (nodes line n) = nat_le (s.nodes + n) 262144
+holds s (class line name) = nat_le (length (with_name s.classes name)) 20000
+holds s (role line name) = nat_le (length (with_name s.roles name)) 1000
+holds s (number line n) = nat_le n 100
+
+-- what is answered where it fails
+abbrev pub refusal : Test → Refusal
+refusal (shape line fits) = BadShape line
+refusal (prefix line declared) = UnknownPrefix line
+refusal (clash line agrees) = PrefixClash line
+refusal (outside line construct) = Outside line construct
+refusal (numbered line) = Limit Axioms line
+refusal (parts line n) = Limit Parts line
+refusal (nodes line n) = Limit Nodes line
+refusal (class line name) = Limit Classes line
+refusal (role line name) = Limit Roles line
+refusal (number line n) = Limit Number line
+
+-- what is counted and listed behind a test
+abbrev pub after : Counts → Test → Counts
+after s (shape line fits) = s
+after s (prefix line declared) = s
+after s (clash line agrees) = s
+after s (outside line construct) = s
+after s (numbered line) = record s { axioms = s.axioms + 1 }
+after s (parts line n) = record s { parts = s.parts + n }
+after s (nodes line n) = record s { nodes = s.nodes + n }
+after s (class line name) = record s { classes = with_name s.classes name }
+after s (role line name) = record s { roles = with_name s.roles name }
+after s (number line n) = s
+
+abbrev pub after_all : Counts → List Test → Counts
+after_all s [] = s
+after_all s (t ∷ ts) = after_all (after s t) ts
+
+-- whether a test holds, and what is answered where it does not
+pub record Outcome : Type 0 where
+  pub refusal : Refusal
+  pub holds : Bool
+
+abbrev pub outcomes : Counts → List Test → List Outcome
+outcomes s [] = []
+outcomes s (t ∷ ts) = record { refusal = refusal t; holds = holds s t } ∷ outcomes (after s t) ts
+
+abbrev pub first_failing : List Outcome → Option Refusal
+first_failing [] = None
+first_failing (o ∷ os) = cond o.holds (first_failing os) (Some o.refusal)
+
+abbrev pub verdict : Option Refusal → Counts → Result Counts Refusal
+verdict None s = Ok s
+verdict (Some e) s = Err e
+
+-- the counts behind all tests where all hold, or else the refusal of the first that fails
+abbrev pub walked : Counts → List Test → Result Counts Refusal
+walked s ts = verdict (first_failing (outcomes s ts)) (after_all s ts)
+
+-- what a reader gives is what the tests say, unless memory was refused
+abbrev pub Gives : {X : Type 0} → Result X Refusal → Counts → Result Counts Refusal → Type 0
+Gives (Ok x) new said = said ≡ Ok new
+Gives (Err e) new said = e ≢ NoMemory → said ≡ Err e
+
+abbrev pub Judged : {X : Type 0} → Result X Refusal → Counts → List Test → Counts → Type 0
+Judged result old ts new = Gives result new (walked old ts)

@@ -1,0 +1,360 @@
+// Class expressions.
+ghost use Rattle.std.specs.Prelude.{◌≡◌, ◌<◌, ◌≤◌, ◌∷◌, ◌++◌, [], IfOk, OnOk, OnErr, length, true};
+ghost use Rattle.shq_base.specs.Concept.{parts_of};
+ghost use Rattle.ofn_tree.specs.Items.{items_of};
+ghost use Rattle.ofn_expressions.specs.Counts.{Counts, Grows};
+ghost use Rattle.ofn_expressions.specs.Walk.{Judged};
+ghost use Rattle.ofn_expressions.specs.Names.{iri_of};
+ghost use Rattle.ofn_expressions.specs.Keywords.{class_keyword};
+ghost use Rattle.ofn_expressions.specs.declared.keywords.Keyword.TheVariants.{Class};
+ghost use Rattle.ofn_expressions.specs.Classes.{class_tests, each_class, joined, head_tests, operand_tests, group_tests, class_name_tests, declared_class_tests, listed_class, role_tests, number_tests, number_of, role_of, concept_of, concepts_of, class_named, Keeps, Means, MeanAll, MeansName, IsListed, fits, node_count, made, first, quantified, bounded};
+
+use crate::keywords::{Bound, ClassKeyword, Keyword, Quantifier, class_keyword};
+use crate::names::{item_line, read_iri};
+use crate::numbers::read_number;
+use crate::{Prefixes, Reading, Refusal, read_role};
+use ofn_tree::{Form, Tree};
+use shq_base::NoMemory;
+use shq_terms::{Concept, ConceptList, Node};
+use std::alloc::Global;
+
+/// The class expression of an item.
+///
+/// # Errors
+///
+/// What is wrong first, in the order of the tests, and `NoMemory`.
+#[cycle(classes)]
+#[tactic(auto, using(crate::proofs::Growing::grows_grows, crate::proofs::Growing::grows_same))]
+pub fn read_class(
+    alloc: Global,
+    tree: &Tree<'_>,
+    prefixes: &Prefixes,
+    state: &mut Reading,
+) -> Result<Concept, Refusal>
+    ensures tests { Judged result state.old.counts (class_tests prefixes.now tree.now) state.new.counts }
+    ensures grown { Grows state.old state.new }
+    ensures value { IfOk result (Means prefixes.now state.new.counts tree.now) }
+{
+    match &tree.form {
+        Form::Iri(_, _)
+        | Form::Name(_, _)
+        | Form::Literal(_)
+        | Form::Sign(_, _)
+        | Form::Group(None, _, _) => read_class_name(alloc, tree, prefixes, state),
+        Form::Group(Some(text), items, line) => {
+            read_group(alloc, text, items, *line, prefixes, state)
+        }
+    }
+}
+
+/// The class that an item names, as a class expression.
+///
+/// # Errors
+///
+/// What is wrong first, in the order of the tests, and `NoMemory`.
+#[tactic(auto, using(crate::proofs::Walks::walked_append, crate::proofs::Growing::grows_grows, crate::proofs::Growing::grows_same))]
+pub fn read_class_name(
+    alloc: Global,
+    tree: &Tree<'_>,
+    prefixes: &Prefixes,
+    state: &mut Reading,
+) -> Result<Concept, Refusal>
+    ensures tests { Judged result state.old.counts (class_name_tests prefixes.now tree.now) state.new.counts }
+    ensures grown { Grows state.old state.new }
+    ensures value { IfOk result (MeansName prefixes.now state.new.counts tree.now) }
+{
+    let iri = read_iri(alloc, tree, prefixes)?;
+    let line = item_line(tree);
+    state.count_nodes(line, 1)?;
+    list_class(&iri, line, state)
+}
+
+#[tactic(auto, using(crate::proofs::Kept::place_within, crate::proofs::Growing::grows_grows, crate::proofs::Growing::grows_same), unfolding(crate::specs::Classes::is_thing, crate::specs::Classes::is_nothing))]
+fn list_class(iri: &str, line: u32, state: &mut Reading) -> Result<Concept, Refusal>
+    ensures tests { Judged result state.old.counts (listed_class line iri.now) state.new.counts }
+    ensures grown { Grows state.old state.new }
+    ensures value { IfOk result (λ c. (later : Counts) → Keeps state.new.counts later → (class_named later iri.now ≡ c) × IsListed later c) }
+{
+    match iri {
+        "http://www.w3.org/2002/07/owl#Thing" => Ok(Concept { node: Node::Top }),
+        "http://www.w3.org/2002/07/owl#Nothing" => Ok(Concept { node: Node::Bottom }),
+        _ => {
+            let class = state.add_class(line, iri)?;
+            Ok(Concept {
+                node: Node::Name(class),
+            })
+        }
+    }
+}
+
+/// Lists the class that an item declares, unless it is `owl:Thing` or `owl:Nothing`.
+///
+/// # Errors
+///
+/// What is wrong first, in the order of the tests, and `NoMemory`.
+#[tactic(auto, using(crate::proofs::Walks::walked_append, crate::proofs::Growing::grows_grows, crate::proofs::Growing::grows_same))]
+pub fn declare_class(
+    alloc: Global,
+    tree: &Tree<'_>,
+    prefixes: &Prefixes,
+    state: &mut Reading,
+) -> Result<(), Refusal>
+    ensures tests { Judged result state.old.counts (declared_class_tests prefixes.now tree.now) state.new.counts }
+    ensures grown { Grows state.old state.new }
+{
+    let iri = read_iri(alloc, tree, prefixes)?;
+    let class = list_class(&iri, item_line(tree), state)?;
+    drop(class);
+    Ok(())
+}
+
+fn fits(keyword: ClassKeyword, count: usize) -> bool
+    ensures { result ≡ fits keyword count }
+{
+    match keyword {
+        ClassKeyword::Intersection | ClassKeyword::Union => count >= 2,
+        ClassKeyword::Complement => count == 1,
+        ClassKeyword::Restriction(_) => count == 2,
+        ClassKeyword::Cardinality(_) => count == 2 || count == 3,
+    }
+}
+
+fn node_count(keyword: ClassKeyword, count: usize) -> u32
+    ensures { result ≡ node_count keyword count }
+{
+    match keyword {
+        ClassKeyword::Cardinality(_) if count == 2 => 2,
+        _ => 1,
+    }
+}
+
+// The tests of a group that come before its items.
+#[tactic(auto, using(crate::proofs::Growing::grows_grows, crate::proofs::Growing::grows_same))]
+fn read_head(
+    text: &str,
+    count: usize,
+    line: u32,
+    state: &mut Reading,
+) -> Result<ClassKeyword, Refusal>
+    ensures tests { Judged result state.old.counts (head_tests (class_keyword text.now) line count) state.new.counts }
+    ensures grown { Grows state.old state.new }
+    ensures keyword { IfOk result (λ k. (class_keyword text.now ≡ Class k) × (fits k count ≡ true)) }
+{
+    let keyword = match class_keyword(text) {
+        Keyword::Class(keyword) => keyword,
+        Keyword::Excluded(construct) => return Err(Refusal::Outside(line, construct)),
+        Keyword::Unknown => return Err(Refusal::BadShape(line)),
+    };
+    state.count_nodes(line, node_count(keyword, count))?;
+    if !fits(keyword, count) {
+        return Err(Refusal::BadShape(line));
+    }
+    Ok(keyword)
+}
+
+#[cycle(classes)]
+#[tactic(auto, using(crate::proofs::Growing::grows_grows, crate::proofs::Growing::grows_same))]
+fn read_group(
+    alloc: Global,
+    text: &str,
+    items: &[Tree<'_>],
+    line: u32,
+    prefixes: &Prefixes,
+    state: &mut Reading,
+) -> Result<Concept, Refusal>
+    ensures tests { Judged result state.old.counts (group_tests prefixes.now (class_keyword text.now) line (items_of items.now) (each_class prefixes.now (items_of items.now))) state.new.counts }
+    ensures grown { Grows state.old state.new }
+    ensures value { IfOk result (λ c. (later : Counts) → Keeps state.new.counts later → (made prefixes.now later (class_keyword text.now) (items_of items.now) (concepts_of prefixes.now later (items_of items.now)) ≡ c) × IsListed later c) }
+{
+    let keyword = read_head(text, items.len(), line, state)?;
+    read_operands(alloc, keyword, items, prefixes, state)
+}
+
+#[cycle(classes)]
+#[tactic(auto, using(crate::proofs::Growing::grows_grows, crate::proofs::Growing::grows_same))]
+fn read_operands(
+    alloc: Global,
+    keyword: ClassKeyword,
+    items: &[Tree<'_>],
+    prefixes: &Prefixes,
+    state: &mut Reading,
+) -> Result<Concept, Refusal>
+    requires { fits keyword (length items.now) ≡ true }
+    ensures tests { Judged result state.old.counts (operand_tests prefixes.now keyword (items_of items.now) (each_class prefixes.now (items_of items.now))) state.new.counts }
+    ensures grown { Grows state.old state.new }
+    ensures value { IfOk result (λ c. (later : Counts) → Keeps state.new.counts later → (made prefixes.now later (Class keyword) (items_of items.now) (concepts_of prefixes.now later (items_of items.now)) ≡ c) × IsListed later c) }
+{
+    match keyword {
+        ClassKeyword::Intersection => Ok(Concept {
+            node: Node::And(read_operand_list(alloc, items, prefixes, state)?),
+        }),
+        ClassKeyword::Union => Ok(Concept {
+            node: Node::Or(read_operand_list(alloc, items, prefixes, state)?),
+        }),
+        ClassKeyword::Complement => Ok(Concept {
+            node: Node::Not(read_boxed(alloc, &items[0], prefixes, state)?),
+        }),
+        ClassKeyword::Restriction(quantifier) => {
+            read_restriction(alloc, quantifier, &items[0], &items[1], prefixes, state)
+        }
+        ClassKeyword::Cardinality(bound) => {
+            read_cardinality(
+                alloc,
+                bound,
+                &items[0],
+                &items[1],
+                items.split_at(2).1,
+                prefixes,
+                state,
+            )
+        }
+    }
+}
+
+#[cycle(classes)]
+#[tactic(auto, using(crate::proofs::Walks::walked_append, crate::proofs::Growing::grows_grows, crate::proofs::Growing::grows_same))]
+fn read_restriction(
+    alloc: Global,
+    quantifier: Quantifier,
+    role: &Tree<'_>,
+    filler: &Tree<'_>,
+    prefixes: &Prefixes,
+    state: &mut Reading,
+) -> Result<Concept, Refusal>
+    ensures tests { Judged result state.old.counts (role_tests prefixes.now role.now ++ class_tests prefixes.now filler.now) state.new.counts }
+    ensures grown { Grows state.old state.new }
+    ensures value { IfOk result (λ c. (later : Counts) → Keeps state.new.counts later → (quantified quantifier (role_of prefixes.now later role.now) (concept_of prefixes.now later filler.now) ≡ c) × IsListed later c) }
+{
+    let role = read_role(alloc, role, prefixes, state)?;
+    let filler = read_boxed(alloc, filler, prefixes, state)?;
+    Ok(restriction(quantifier, role, filler))
+}
+
+fn restriction(quantifier: Quantifier, role: u32, filler: Box<Concept>) -> Concept
+    ensures { result ≡ quantified quantifier role filler.value }
+{
+    let node = match quantifier {
+        Quantifier::Some => Node::SomeOf(role, filler),
+        Quantifier::All => Node::AllOf(role, filler),
+    };
+    Concept { node }
+}
+
+#[cycle(classes)]
+#[tactic(auto, using(crate::proofs::Walks::walked_append, crate::proofs::Growing::grows_grows, crate::proofs::Growing::grows_same))]
+fn read_cardinality(
+    alloc: Global,
+    bound: Bound,
+    number: &Tree<'_>,
+    role: &Tree<'_>,
+    filler: &[Tree<'_>],
+    prefixes: &Prefixes,
+    state: &mut Reading,
+) -> Result<Concept, Refusal>
+    requires { length filler.now ≤ 1 }
+    ensures tests { Judged result state.old.counts (number_tests number.now ++ (role_tests prefixes.now role.now ++ joined (each_class prefixes.now (items_of filler.now)))) state.new.counts }
+    ensures grown { Grows state.old state.new }
+    ensures value { IfOk result (λ c. (later : Counts) → Keeps state.new.counts later → (bounded bound (number_of number.now) (role_of prefixes.now later role.now) (first (concepts_of prefixes.now later (items_of filler.now))) ≡ c) × IsListed later c) }
+{
+    let number = read_number(number)?;
+    let role = read_role(alloc, role, prefixes, state)?;
+    let filler = read_filler(alloc, filler, prefixes, state)?;
+    Ok(cardinality(bound, number, role, filler))
+}
+
+fn cardinality(bound: Bound, number: u32, role: u32, filler: Box<Concept>) -> Concept
+    ensures { result ≡ bounded bound number role filler.value }
+{
+    let node = match bound {
+        Bound::AtLeast => Node::Min(number, role, filler),
+        Bound::AtMost => Node::Max(number, role, filler),
+        Bound::Exactly => Node::Exact(number, role, filler),
+    };
+    Concept { node }
+}
+
+// The class expression behind a number and a role, or else `owl:Thing`.
+#[cycle(classes)]
+#[tactic(auto, using(crate::proofs::Growing::grows_grows, crate::proofs::Growing::grows_same))]
+fn read_filler(
+    alloc: Global,
+    items: &[Tree<'_>],
+    prefixes: &Prefixes,
+    state: &mut Reading,
+) -> Result<Box<Concept>, Refusal>
+    requires { length items.now ≤ 1 }
+    ensures tests { Judged result state.old.counts (joined (each_class prefixes.now (items_of items.now))) state.new.counts }
+    ensures grown { Grows state.old state.new }
+    ensures value { IfOk result (λ c. (later : Counts) → Keeps state.new.counts later → (first (concepts_of prefixes.now later (items_of items.now)) ≡ c.value) × IsListed later c.value) }
+{
+    match items.first() {
+        Some(item) => read_boxed(alloc, item, prefixes, state),
+        None => Ok(Box::new(alloc, Concept { node: Node::Top })?),
+    }
+}
+
+#[cycle(classes)]
+#[tactic(auto, using(crate::proofs::Growing::grows_grows, crate::proofs::Growing::grows_same))]
+fn read_boxed(
+    alloc: Global,
+    tree: &Tree<'_>,
+    prefixes: &Prefixes,
+    state: &mut Reading,
+) -> Result<Box<Concept>, Refusal>
+    ensures tests { Judged result state.old.counts (class_tests prefixes.now tree.now) state.new.counts }
+    ensures grown { Grows state.old state.new }
+    ensures value { IfOk result (λ c. Means prefixes.now state.new.counts tree.now c.value) }
+{
+    Ok(Box::new(alloc, read_class(alloc, tree, prefixes, state)?)?)
+}
+
+#[cycle(classes)]
+#[tactic(auto, using(crate::proofs::Growing::grows_grows, crate::proofs::Growing::grows_same))]
+fn read_operand_list(
+    alloc: Global,
+    items: &[Tree<'_>],
+    prefixes: &Prefixes,
+    state: &mut Reading,
+) -> Result<Vec<Concept>, Refusal>
+    ensures tests { Judged result state.old.counts (joined (each_class prefixes.now (items_of items.now))) state.new.counts }
+    ensures grown { Grows state.old state.new }
+    ensures value { IfOk result (λ cs. MeanAll prefixes.now state.new.counts (items_of items.now) (parts_of cs.items)) }
+{
+    let mut concepts = Vec::new(alloc);
+    for item in items {
+        let concept = read_class(alloc, item, prefixes, state)?;
+        push_concept(&mut concepts, concept)?;
+    }
+    Ok(concepts)
+}
+
+fn push_concept(concepts: &mut Vec<Concept>, concept: Concept) -> Result<(), NoMemory>
+    ensures { OnOk result (concepts.new.items ≡ concepts.old.items ++ concept ∷ []) }
+{
+    concepts.push(concept)?;
+    Ok(())
+}
+
+/// The class expressions that the items are.
+///
+/// # Errors
+///
+/// What is wrong first, in the order of the tests, and `NoMemory`.
+#[tactic(auto, using(crate::proofs::Growing::grows_grows, crate::proofs::Growing::grows_same))]
+pub fn read_classes(
+    alloc: Global,
+    items: &[Tree<'_>],
+    prefixes: &Prefixes,
+    state: &mut Reading,
+) -> Result<ConceptList, Refusal>
+    ensures tests { Judged result state.old.counts (joined (each_class prefixes.now (items_of items.now))) state.new.counts }
+    ensures grown { Grows state.old state.new }
+    ensures value { IfOk result (λ cs. MeanAll prefixes.now state.new.counts (items_of items.now) (parts_of cs)) }
+{
+    let mut concepts = ConceptList::new(alloc);
+    for item in items {
+        let concept = read_class(alloc, item, prefixes, state)?;
+        concepts.push(concept)?;
+    }
+    Ok(concepts)
+}

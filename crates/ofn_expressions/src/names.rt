@@ -1,0 +1,68 @@
+// Names as they stand in a text.
+ghost use Rattle.std.specs.Prelude.{◌≡◌, ◌++◌, IfOk, string_bytes};
+ghost use Rattle.ofn_tree.specs.Items.{name_item};
+ghost use Rattle.ofn_expressions.specs.Counts.{Counts};
+ghost use Rattle.ofn_expressions.specs.Walk.{Judged};
+ghost use Rattle.ofn_expressions.specs.Names.{item_line, name_tests, iri_of, has_colon, prefix_part, local_part, full_iri, prefix_iri};
+
+use crate::{Prefixes, Refusal};
+use ofn_tree::{Form, Tree};
+use shq_base::NoMemory;
+use std::alloc::Global;
+
+/// The line of an item.
+pub fn item_line(tree: &Tree<'_>) -> u32
+    ensures { result ≡ item_line tree.now }
+{
+    match &tree.form {
+        Form::Name(_, line)
+        | Form::Iri(_, line)
+        | Form::Literal(line)
+        | Form::Sign(_, line)
+        | Form::Group(_, _, line) => *line,
+    }
+}
+
+/// The IRI that an item stands for where a name must stand.
+///
+/// # Errors
+///
+/// `BadShape` where it is no name with a colon and no IRI, `UnknownPrefix`, and `NoMemory`.
+pub(crate) fn read_iri(
+    alloc: Global,
+    tree: &Tree<'_>,
+    prefixes: &Prefixes,
+) -> Result<String, Refusal>
+    ensures tests { (s : Counts) → Judged result s (name_tests prefixes.now tree.now) s }
+    ensures value { IfOk result (λ iri. string_bytes iri ≡ iri_of prefixes.now tree.now) }
+{
+    match &tree.form {
+        Form::Iri(iri, _) => Ok(String::from_str(alloc, iri)?),
+        Form::Name(name, line) => expanded(alloc, name, *line, prefixes),
+        Form::Literal(line) | Form::Sign(_, line) | Form::Group(_, _, line) => {
+            Err(Refusal::BadShape(*line))
+        }
+    }
+}
+
+// The IRI of a name with a prefix.
+fn expanded(alloc: Global, name: &str, line: u32, prefixes: &Prefixes) -> Result<String, Refusal>
+    ensures tests { (s : Counts) → Judged result s (name_tests prefixes.now (name_item name.now line)) s }
+    ensures value { IfOk result (λ iri. string_bytes iri ≡ iri_of prefixes.now (name_item name.now line)) }
+{
+    let Some((prefix, local)) = name.split_once(':') else {
+        return Err(Refusal::BadShape(line));
+    };
+    let Some(iri) = prefixes.iri(prefix) else {
+        return Err(Refusal::UnknownPrefix(line));
+    };
+    Ok(joined(alloc, iri, local)?)
+}
+
+fn joined(alloc: Global, front: &str, behind: &str) -> Result<String, NoMemory>
+    ensures { IfOk result (λ text. string_bytes text ≡ front.now ++ behind.now) }
+{
+    let mut text = String::from_str(alloc, front)?;
+    text.push_str(behind)?;
+    Ok(text)
+}

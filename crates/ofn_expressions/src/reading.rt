@@ -1,0 +1,164 @@
+// What a reader has counted and listed so far.
+ghost use Rattle.std.specs.Prelude.{◌≡◌, ◌≤◌, ◌<◌, ◌+◌, ◌∷◌, ◌++◌, [], length, take, true, IfOk, IfErr, OnOk, OnErr, Some, position};
+ghost use Rattle.std.specs.Str.{bytes_eq};
+ghost use Rattle.shq_terms.specs.Uses.{axiom_uses_listed};
+ghost use Rattle.ofn_expressions.specs.Counts.{Grows};
+ghost use Rattle.ofn_expressions.specs.Walk.{Judged, numbered, parts, nodes, class, role};
+
+use crate::{Refusal, Which};
+use shq_terms::{AddFault, Axiom, Ontology};
+use std::marker::Model;
+
+/// The ontology so far, with the axioms that were begun, their parts, and the nodes of class expressions that were met.
+#[derive(Drop)]
+pub struct Reading {
+    ontology: Ontology,
+    axioms: u32,
+    parts: u32,
+    nodes: u32,
+}
+
+impl Model for Reading {
+    ghost use Rattle.std.specs.Prelude.{◌≤◌, ◌≡◌, length};
+    ghost use Rattle.ofn_expressions.specs.Counts.{State};
+    ghost use Rattle.std.specs.Coded.{codes};
+    ghost use Rattle.shq_base.specs.Code.{concept_code};
+
+    ghost Value = { State };
+
+    ghost coded = { Prim.hlevel (codes, concept_code) };
+
+    ghost view = { λ r. record { counts = record { axioms = r.axioms; parts = r.parts; nodes = r.nodes; classes = r.ontology.classes; roles = r.ontology.roles }; read = r.ontology.axioms } };
+
+    ghost invariant = { λ r. (r.axioms ≤ 20000) × (r.parts ≤ 500000) × (r.nodes ≤ 262144) };
+}
+
+/// The most nodes of class expressions.
+pub const MAX_NODES: u32 = 262_144;
+
+/// The most numbered axioms.
+pub const MAX_AXIOMS: u32 = 20_000;
+
+const MAX_PARTS: u32 = 500_000;
+
+impl Reading {
+    ghost use Rattle.ofn_expressions.specs.Counts.{State};
+
+    /// Goes on from an ontology for which so many axioms and nodes were counted.
+    pub fn new(ontology: Ontology, axioms: u32, nodes: u32) -> Reading
+        requires axioms { axioms ≤ MAX_AXIOMS }
+        requires nodes { nodes ≤ MAX_NODES }
+        ensures { result ≡ record { counts = record { axioms = axioms; parts = 0; nodes = nodes; classes = ontology.classes; roles = ontology.roles }; read = ontology.axioms } }
+    {
+        Reading {
+            ontology,
+            axioms,
+            parts: 0,
+            nodes,
+        }
+    }
+
+    /// Counts one more numbered axiom.
+    ///
+    /// # Errors
+    ///
+    /// The limit `Axioms`. Nothing is counted then.
+    pub fn count_axiom(&mut self, line: u32) -> Result<(), Refusal>
+        ensures tests { Judged result self.old.counts (numbered line ∷ []) self.new.counts }
+        ensures counted { OnOk result (self.new ≡ record self.old { counts = record self.old.counts { axioms = self.old.counts.axioms + 1 } }) }
+        ensures within { OnOk result (self.old.counts.axioms < 20000) }
+        ensures unchanged { OnErr result (self.new ≡ self.old) }
+    {
+        if self.axioms >= MAX_AXIOMS {
+            return Err(Refusal::Limit(Which::Axioms, line));
+        }
+        self.axioms += 1;
+        Ok(())
+    }
+
+    /// Counts so many more parts of axioms.
+    ///
+    /// # Errors
+    ///
+    /// The limit `Parts`. Nothing is counted then.
+    pub fn count_parts(&mut self, line: u32, count: u64) -> Result<(), Refusal>
+        ensures tests { Judged result self.old.counts (parts line count ∷ []) self.new.counts }
+        ensures counted { OnOk result (self.new ≡ record self.old { counts = record self.old.counts { parts = self.old.counts.parts + count } }) }
+        ensures unchanged { OnErr result (self.new ≡ self.old) }
+    {
+        if count > u64::from(MAX_PARTS - self.parts) {
+            return Err(Refusal::Limit(Which::Parts, line));
+        }
+        self.parts += count as u32;
+        Ok(())
+    }
+
+    /// Counts so many more nodes of a class expression.
+    #[tactic(auto, using(crate::proofs::Growing::grows_same))]
+    pub(crate) fn count_nodes(&mut self, line: u32, count: u32) -> Result<(), Refusal>
+        ensures tests { Judged result self.old.counts (nodes line count ∷ []) self.new.counts }
+        ensures grown { Grows self.old self.new }
+    {
+        if count > MAX_NODES - self.nodes {
+            return Err(Refusal::Limit(Which::Nodes, line));
+        }
+        self.nodes += count;
+        Ok(())
+    }
+
+    /// The number of a class, which is listed here.
+    #[tactic(auto, using(crate::proofs::Kept::place_listed, crate::proofs::Growing::grows_name, crate::proofs::Growing::grows_same))]
+    pub(crate) fn add_class(&mut self, line: u32, name: &str) -> Result<u32, Refusal>
+        ensures tests { Judged result self.old.counts (class line name.now ∷ []) self.new.counts }
+        ensures grown { Grows self.old self.new }
+        ensures number { IfOk result (λ k. position (bytes_eq name.now) self.new.counts.classes ≡ Some k) }
+    {
+        match self.ontology.add_class(name) {
+            Ok(number) => Ok(number),
+            Err(AddFault::Full) => Err(Refusal::Limit(Which::Classes, line)),
+            Err(AddFault::NoMemory) => Err(Refusal::NoMemory),
+        }
+    }
+
+    /// The number of a role, which is listed here.
+    #[tactic(auto, using(crate::proofs::Kept::place_listed, crate::proofs::Growing::grows_name, crate::proofs::Growing::grows_same))]
+    pub(crate) fn add_role(&mut self, line: u32, name: &str) -> Result<u32, Refusal>
+        ensures tests { Judged result self.old.counts (role line name.now ∷ []) self.new.counts }
+        ensures grown { Grows self.old self.new }
+        ensures number { IfOk result (λ k. position (bytes_eq name.now) self.new.counts.roles ≡ Some k) }
+    {
+        match self.ontology.add_role(name) {
+            Ok(number) => Ok(number),
+            Err(AddFault::Full) => Err(Refusal::Limit(Which::Roles, line)),
+            Err(AddFault::NoMemory) => Err(Refusal::NoMemory),
+        }
+    }
+
+    /// Puts an axiom last whose names are listed, where fewer than 20,000 are there.
+    ///
+    /// # Errors
+    ///
+    /// Want of memory. All is then as before.
+    pub fn add_axiom(&mut self, axiom: Axiom, line: u32) -> Result<(), Refusal>
+        requires room { length self.old.read < 20000 }
+        requires listed { axiom_uses_listed (length self.old.counts.classes) (length self.old.counts.roles) «axiom» ≡ true }
+        ensures added { OnOk result (self.new ≡ record self.old { read = self.old.read ++ record { «axiom» = «axiom»; line = line } ∷ [] }) }
+        ensures memory { IfErr result (λ e. e ≡ Refusal.NoMemory) }
+        ensures unchanged { OnErr result (self.new ≡ self.old) }
+    {
+        match self.ontology.add_axiom(axiom, line) {
+            Ok(_) => Ok(()),
+            Err(AddFault::Full) => unreachable!(),
+            Err(AddFault::NoMemory) => Err(Refusal::NoMemory),
+        }
+    }
+
+    /// The ontology, and the count of nodes.
+    pub fn into_parts(self) -> (Ontology, u32)
+        ensures ontology { result.0 ≡ record { axioms = self.read; classes = self.counts.classes; roles = self.counts.roles } }
+        ensures nodes { result.1 ≡ self.counts.nodes }
+        ensures within { result.1 ≤ MAX_NODES }
+    {
+        (self.ontology, self.nodes)
+    }
+}

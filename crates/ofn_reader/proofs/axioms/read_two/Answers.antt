@@ -1,6 +1,0 @@
-use Rattle.ofn_reader.proofs.Numbering.{pair_value}
-use Rattle.ofn_reader.proofs.axioms.read_two.Goals as goal
-
-pub returns-clause-value : goal.returns-clause-value
-returns-clause-value c =
-    pair_value c.args.sub.now c.args.sup.now c.read_class.new.state.counts c.read_class-sup.new.state.counts c.in_ok-sub.sub c.read_class-sup.result c.pair_of.result c.pair_of.ensures c.in_ok-sub.ensures.value c.read_class-sup.ensures.tests c.read_class-sup.ensures.value

@@ -1,0 +1,122 @@
+-- What a text says as a query on a document: an axiom, or a class expression.
+use Rattle.std.specs.Prelude.{◌≡◌, ℕ, ◌^◌, ◌≤◌, ◌<◌, false, List, [], ◌∷◌, ◌++◌, length, Some, None, Result, Ok, Err, nat_eq}
+use Rattle.shq_base.specs.Concept.{Concept}
+use Rattle.shq_terms.specs.Listed.{Listed}
+use Rattle.shq_terms.specs.declared.axioms.Query.{Query}
+use Rattle.ofn_tree.specs.Lexemes.{end_line}
+use Rattle.ofn_tree.specs.Items.{Item, name_item, iri_item, literal_item, sign_item, group_item, Items, item}
+use Rattle.ofn_expressions.specs.Counts.{Counts}
+use Rattle.ofn_expressions.specs.Walk.{Test, shape, outside, walked}
+use Rattle.ofn_expressions.specs.Names.{Prefix, item_line}
+use Rattle.ofn_expressions.specs.Classes.{item_count, each_class, joined, class_tests, concept_of, Keeps, IsListed}
+use Rattle.ofn_expressions.specs.declared.refusal.Refusal.{Refusal}
+use Rattle.ofn_expressions.specs.declared.refusal.Refusal.TheVariants.{BadShape, Limit}
+use Rattle.ofn_expressions.specs.declared.refusal.Which.TheVariants as which
+use Rattle.ofn_reader.specs.Keywords.{axiom_keyword}
+use Rattle.ofn_reader.specs.Groups.{without_annotations}
+use Rattle.ofn_reader.specs.Texts.{HasItems, IsRefusedBy}
+use Rattle.ofn_reader.specs.declared.keywords.AxiomKind.TheVariants as K
+use Rattle.ofn_reader.specs.declared.keywords.AxiomKeyword.{AxiomKeyword}
+use Rattle.ofn_reader.specs.declared.keywords.AxiomKeyword.TheVariants as W
+
+-- A query is an axiom `SubClassOf`, which is not numbered and has no parts. One that is left out is outside; each other is
+-- no query.
+abbrev pub query_group_tests : List Prefix → AxiomKeyword → ℕ → Items → List Test
+query_group_tests ps (W.Numbered K.SubClassOf) line is = shape line (nat_eq (item_count is) 2) ∷ joined (each_class ps is)
+query_group_tests ps (W.Excluded c) line is = outside line c ∷ []
+query_group_tests ps _ line is = shape line false ∷ []
+
+abbrev pub axiom_query_tests : List Prefix → Item → List Test
+axiom_query_tests ps (group_item (Some w) is line) = query_group_tests ps (axiom_keyword w) line (without_annotations is)
+axiom_query_tests ps (group_item None is line) = shape line false ∷ []
+axiom_query_tests ps (name_item w line) = shape line false ∷ []
+axiom_query_tests ps (iri_item w line) = shape line false ∷ []
+axiom_query_tests ps (literal_item line) = shape line false ∷ []
+axiom_query_tests ps (sign_item k line) = shape line false ∷ []
+
+-- nothing may stand here
+abbrev pub nothing_tests : List Item → List Test
+nothing_tests [] = []
+nothing_tests (i ∷ is) = shape (item_line i) false ∷ []
+
+-- one item alone, with its tests, in a text that ends on a line
+abbrev pub alone_tests : (Item → List Test) → ℕ → List Item → List Test
+alone_tests tests end [] = shape end false ∷ []
+alone_tests tests end (i ∷ is) = tests i ++ nothing_tests is
+
+abbrev pub query_tests : List Prefix → ℕ → List Item → List Test
+query_tests ps end is = alone_tests (axiom_query_tests ps) end is
+
+abbrev pub class_query_tests : List Prefix → ℕ → List Item → List Test
+class_query_tests ps end is = alone_tests (class_tests ps) end is
+
+-- the two class expressions of a query
+abbrev pub pair_in : List Prefix → Counts → Items → List Query
+pair_in ps s (item c (item d is)) = record { sub = concept_of ps s c; sup = concept_of ps s d } ∷ []
+pair_in ps s _ = []
+
+abbrev pub query_in : List Prefix → Counts → Item → List Query
+query_in ps s (group_item h is line) = pair_in ps s (without_annotations is)
+query_in ps s (name_item w line) = []
+query_in ps s (iri_item w line) = []
+query_in ps s (literal_item line) = []
+query_in ps s (sign_item k line) = []
+
+abbrev pub first_query : List Prefix → Counts → List Item → List Query
+first_query ps s [] = []
+first_query ps s (i ∷ is) = query_in ps s i
+
+abbrev pub first_class : List Prefix → Counts → List Item → List Concept
+first_class ps s [] = []
+first_class ps s (i ∷ is) = concept_of ps s i ∷ []
+
+-- the counts from which a query on the document goes on
+abbrev pub query_start : Listed → ℕ → Counts
+query_start o nodes = record { axioms = length o.axioms; parts = 0; nodes = nodes; classes = o.classes; roles = o.roles }
+
+-- the text is a query on a document with these prefixes and counts, no test of which fails; behind it are those
+pub record IsQuery (ps : List Prefix) (s : Counts) (text : List ℕ) (behind : Counts) (q : Query) : Type 0 where
+  pub short : length text ≤ 2 ^ 24
+  pub items : List Item
+  pub end : ℕ
+  pub made : HasItems text items end
+  pub holds : walked s (query_tests ps (end_line text) items) ≡ Ok behind
+  pub pair : first_query ps behind items ≡ q ∷ []
+
+-- the same for a class expression
+pub record IsClass (ps : List Prefix) (s : Counts) (text : List ℕ) (behind : Counts) (c : Concept) : Type 0 where
+  pub short : length text ≤ 2 ^ 24
+  pub items : List Item
+  pub end : ℕ
+  pub made : HasItems text items end
+  pub holds : walked s (class_query_tests ps (end_line text) items) ≡ Ok behind
+  pub class : first_class ps behind items ≡ c ∷ []
+
+-- why a text is refused whose items have these tests: for its length, else as above
+pub data IsRefused (tests : List Item → List Test) (s : Counts) (text : List ℕ) : Refusal → Type 0 where
+  long : 2 ^ 24 < length text → IsRefused tests s text (Limit which.Text 0)
+  refused : (e : Refusal) → length text ≤ 2 ^ 24 → IsRefusedBy tests s text e → IsRefused tests s text e
+
+-- why a text is no query, or no class expression, on a document with these prefixes and counts
+abbrev pub IsNoQuery : List Prefix → Counts → List ℕ → Refusal → Type 0
+IsNoQuery ps s text e = IsRefused (query_tests ps (end_line text)) s text e
+
+abbrev pub IsNoClass : List Prefix → Counts → List ℕ → Refusal → Type 0
+IsNoClass ps s text e = IsRefused (class_query_tests ps (end_line text)) s text e
+
+-- what was read, unless something stands behind it
+abbrev pub read_alone : {X : Type 0} → List Item → Result X Refusal → Result X Refusal
+read_alone [] r = r
+read_alone (i ∷ is) (Ok x) = Err (BadShape (item_line i))
+read_alone (i ∷ is) (Err e) = Err e
+
+-- which two class expressions the items of a query stand for, whatever names are listed later
+abbrev pub MeansPair : List Prefix → Counts → Items → Query → Type 0
+MeansPair ps s is q = (later : Counts) → Keeps s later → (pair_in ps later is ≡ q ∷ []) × IsListed later q.sub × IsListed later q.sup
+
+abbrev pub MeansQuery : List Prefix → Counts → Item → Query → Type 0
+MeansQuery ps s i q = (later : Counts) → Keeps s later → (query_in ps later i ≡ q ∷ []) × IsListed later q.sub × IsListed later q.sup
+
+-- the names of both expressions are listed
+abbrev pub AreBothListed : Counts → Query → Type 0
+AreBothListed s q = IsListed s q.sub × IsListed s q.sup

@@ -1,0 +1,252 @@
+// The items of numbered axioms.
+ghost use Rattle.std.specs.Prelude.{◌≡◌, ◌∷◌, ◌++◌, [], IfOk, length, true};
+ghost use Rattle.std.specs.Result.{result_map_both};
+ghost use Rattle.shq_terms.specs.declared.axioms.Axiom.TheVariants as axioms;
+ghost use Rattle.ofn_tree.specs.Items.{items_of, item};
+ghost use Rattle.ofn_expressions.specs.Counts.{Grows};
+ghost use Rattle.ofn_expressions.specs.Walk.{Judged};
+ghost use Rattle.ofn_expressions.specs.Classes.{class_tests, role_tests, roles_tests, class_name_tests, joined, each_class};
+ghost use Rattle.ofn_reader.specs.Axioms.{axiom_fits, operand_tests, MeansAxiom};
+ghost use Rattle.ofn_reader.specs.Queries.{MeansPair};
+ghost use Rattle.ofn_reader.specs.declared.keywords.AxiomKind.TheVariants as K;
+
+use crate::keywords::AxiomKind;
+use ofn_expressions::{
+    Prefixes, Reading, Refusal, read_class, read_class_name, read_classes, read_role, read_roles,
+};
+use ofn_tree::Tree;
+use shq_terms::{Axiom, Concept, Query};
+use std::alloc::Global;
+
+/// Two class expressions.
+///
+/// # Errors
+///
+/// What is wrong first, in the order of the tests, and `NoMemory`.
+#[tactic(auto, using(ofn_expressions::proofs::Walks::walked_append, ofn_expressions::proofs::Growing::grows_grows, ofn_expressions::proofs::Growing::grows_same))]
+pub(crate) fn read_pair(
+    alloc: Global,
+    sub: &Tree<'_>,
+    sup: &Tree<'_>,
+    prefixes: &Prefixes,
+    state: &mut Reading,
+) -> Result<Query, Refusal>
+    ensures tests { Judged result state.old.counts (class_tests prefixes.now sub.now ++ (class_tests prefixes.now sup.now ++ [])) state.new.counts }
+    ensures grown { Grows state.old state.new }
+    ensures value { IfOk result (MeansPair prefixes.now state.new.counts (items_of (sub.now ∷ sup.now ∷ []))) }
+{
+    let sub = read_class(alloc, sub, prefixes, state)?;
+    let sup = read_class(alloc, sup, prefixes, state);
+    pair_of(sub, sup)
+}
+
+fn pair_of(sub: Concept, sup: Result<Concept, Refusal>) -> Result<Query, Refusal>
+    ensures { result ≡ result_map_both (λ d. record { sub = sub; sup = d }) (λ e. e) sup }
+{
+    match sup {
+        Ok(sup) => Ok(Query { sub, sup }),
+        Err(refusal) => {
+            drop(sub);
+            Err(refusal)
+        }
+    }
+}
+
+fn sub_class(pair: Query) -> Axiom
+    ensures { result ≡ axioms.SubClassOf pair.sub pair.sup }
+{
+    Axiom::SubClassOf(pair.sub, pair.sup)
+}
+
+#[tactic(auto, using(ofn_expressions::proofs::Growing::grows_grows, ofn_expressions::proofs::Growing::grows_same))]
+fn read_sub_class(
+    alloc: Global,
+    sub: &Tree<'_>,
+    sup: &Tree<'_>,
+    prefixes: &Prefixes,
+    state: &mut Reading,
+) -> Result<Axiom, Refusal>
+    ensures tests { Judged result state.old.counts (class_tests prefixes.now sub.now ++ (class_tests prefixes.now sup.now ++ [])) state.new.counts }
+    ensures grown { Grows state.old state.new }
+    ensures value { IfOk result (MeansAxiom prefixes.now state.new.counts K.SubClassOf (items_of (sub.now ∷ sup.now ∷ []))) }
+{
+    let pair = read_pair(alloc, sub, sup, prefixes, state)?;
+    Ok(sub_class(pair))
+}
+
+#[tactic(auto, using(ofn_expressions::proofs::Growing::grows_grows, ofn_expressions::proofs::Growing::grows_same))]
+fn read_equivalent_classes(
+    alloc: Global,
+    items: &[Tree<'_>],
+    prefixes: &Prefixes,
+    state: &mut Reading,
+) -> Result<Axiom, Refusal>
+    ensures tests { Judged result state.old.counts (joined (each_class prefixes.now (items_of items.now))) state.new.counts }
+    ensures grown { Grows state.old state.new }
+    ensures value { IfOk result (MeansAxiom prefixes.now state.new.counts K.EquivalentClasses (items_of items.now)) }
+{
+    let classes = read_classes(alloc, items, prefixes, state)?;
+    Ok(Axiom::EquivalentClasses(classes))
+}
+
+#[tactic(auto, using(ofn_expressions::proofs::Growing::grows_grows, ofn_expressions::proofs::Growing::grows_same))]
+fn read_disjoint_classes(
+    alloc: Global,
+    items: &[Tree<'_>],
+    prefixes: &Prefixes,
+    state: &mut Reading,
+) -> Result<Axiom, Refusal>
+    ensures tests { Judged result state.old.counts (joined (each_class prefixes.now (items_of items.now))) state.new.counts }
+    ensures grown { Grows state.old state.new }
+    ensures value { IfOk result (MeansAxiom prefixes.now state.new.counts K.DisjointClasses (items_of items.now)) }
+{
+    let classes = read_classes(alloc, items, prefixes, state)?;
+    Ok(Axiom::DisjointClasses(classes))
+}
+
+#[tactic(auto, using(ofn_expressions::proofs::Walks::walked_append, ofn_expressions::proofs::Growing::grows_grows, ofn_expressions::proofs::Growing::grows_same))]
+fn read_disjoint_union(
+    alloc: Global,
+    name: &Tree<'_>,
+    classes: &[Tree<'_>],
+    prefixes: &Prefixes,
+    state: &mut Reading,
+) -> Result<Axiom, Refusal>
+    ensures tests { Judged result state.old.counts (class_name_tests prefixes.now name.now ++ joined (each_class prefixes.now (items_of classes.now))) state.new.counts }
+    ensures grown { Grows state.old state.new }
+    ensures value { IfOk result (MeansAxiom prefixes.now state.new.counts K.DisjointUnion (item name.now (items_of classes.now))) }
+{
+    let name = read_class_name(alloc, name, prefixes, state)?;
+    let classes = read_classes(alloc, classes, prefixes, state)?;
+    Ok(Axiom::DisjointUnion(name, classes))
+}
+
+#[tactic(auto, using(ofn_expressions::proofs::Walks::walked_append, ofn_expressions::proofs::Growing::grows_grows, ofn_expressions::proofs::Growing::grows_same))]
+fn read_sub_role(
+    alloc: Global,
+    sub: &Tree<'_>,
+    sup: &Tree<'_>,
+    prefixes: &Prefixes,
+    state: &mut Reading,
+) -> Result<Axiom, Refusal>
+    ensures tests { Judged result state.old.counts (role_tests prefixes.now sub.now ++ (role_tests prefixes.now sup.now ++ [])) state.new.counts }
+    ensures grown { Grows state.old state.new }
+    ensures value { IfOk result (MeansAxiom prefixes.now state.new.counts K.SubRole (items_of (sub.now ∷ sup.now ∷ []))) }
+{
+    let sub = read_role(alloc, sub, prefixes, state)?;
+    let sup = read_role(alloc, sup, prefixes, state)?;
+    Ok(Axiom::SubRole(sub, sup))
+}
+
+#[tactic(auto, using(ofn_expressions::proofs::Growing::grows_grows, ofn_expressions::proofs::Growing::grows_same))]
+fn read_equivalent_roles(
+    alloc: Global,
+    items: &[Tree<'_>],
+    prefixes: &Prefixes,
+    state: &mut Reading,
+) -> Result<Axiom, Refusal>
+    ensures tests { Judged result state.old.counts (roles_tests prefixes.now (items_of items.now)) state.new.counts }
+    ensures grown { Grows state.old state.new }
+    ensures value { IfOk result (MeansAxiom prefixes.now state.new.counts K.EquivalentRoles (items_of items.now)) }
+{
+    let roles = read_roles(alloc, items, prefixes, state)?;
+    Ok(Axiom::EquivalentRoles(roles))
+}
+
+#[tactic(auto, using(ofn_expressions::proofs::Walks::walked_append, ofn_expressions::proofs::Growing::grows_grows, ofn_expressions::proofs::Growing::grows_same))]
+fn read_domain(
+    alloc: Global,
+    role: &Tree<'_>,
+    class: &Tree<'_>,
+    prefixes: &Prefixes,
+    state: &mut Reading,
+) -> Result<Axiom, Refusal>
+    ensures tests { Judged result state.old.counts (role_tests prefixes.now role.now ++ (class_tests prefixes.now class.now ++ [])) state.new.counts }
+    ensures grown { Grows state.old state.new }
+    ensures value { IfOk result (MeansAxiom prefixes.now state.new.counts K.Domain (items_of (role.now ∷ class.now ∷ []))) }
+{
+    let role = read_role(alloc, role, prefixes, state)?;
+    let class = read_class(alloc, class, prefixes, state)?;
+    Ok(Axiom::Domain(role, class))
+}
+
+#[tactic(auto, using(ofn_expressions::proofs::Walks::walked_append, ofn_expressions::proofs::Growing::grows_grows, ofn_expressions::proofs::Growing::grows_same))]
+fn read_range(
+    alloc: Global,
+    role: &Tree<'_>,
+    class: &Tree<'_>,
+    prefixes: &Prefixes,
+    state: &mut Reading,
+) -> Result<Axiom, Refusal>
+    ensures tests { Judged result state.old.counts (role_tests prefixes.now role.now ++ (class_tests prefixes.now class.now ++ [])) state.new.counts }
+    ensures grown { Grows state.old state.new }
+    ensures value { IfOk result (MeansAxiom prefixes.now state.new.counts K.Range (items_of (role.now ∷ class.now ∷ []))) }
+{
+    let role = read_role(alloc, role, prefixes, state)?;
+    let class = read_class(alloc, class, prefixes, state)?;
+    Ok(Axiom::Range(role, class))
+}
+
+#[tactic(auto, using(ofn_expressions::proofs::Walks::walked_append, ofn_expressions::proofs::Growing::grows_grows, ofn_expressions::proofs::Growing::grows_same))]
+fn read_functional(
+    alloc: Global,
+    role: &Tree<'_>,
+    prefixes: &Prefixes,
+    state: &mut Reading,
+) -> Result<Axiom, Refusal>
+    ensures tests { Judged result state.old.counts (role_tests prefixes.now role.now ++ []) state.new.counts }
+    ensures grown { Grows state.old state.new }
+    ensures value { IfOk result (MeansAxiom prefixes.now state.new.counts K.Functional (items_of (role.now ∷ []))) }
+{
+    let role = read_role(alloc, role, prefixes, state)?;
+    Ok(Axiom::Functional(role))
+}
+
+#[tactic(auto, using(ofn_expressions::proofs::Walks::walked_append, ofn_expressions::proofs::Growing::grows_grows, ofn_expressions::proofs::Growing::grows_same))]
+fn read_transitive(
+    alloc: Global,
+    role: &Tree<'_>,
+    prefixes: &Prefixes,
+    state: &mut Reading,
+) -> Result<Axiom, Refusal>
+    ensures tests { Judged result state.old.counts (role_tests prefixes.now role.now ++ []) state.new.counts }
+    ensures grown { Grows state.old state.new }
+    ensures value { IfOk result (MeansAxiom prefixes.now state.new.counts K.Transitive (items_of (role.now ∷ []))) }
+{
+    let role = read_role(alloc, role, prefixes, state)?;
+    Ok(Axiom::Transitive(role))
+}
+
+/// The axiom that as many items say as its kind asks.
+///
+/// # Errors
+///
+/// What is wrong first, in the order of the tests, and `NoMemory`.
+#[tactic(auto, using(ofn_expressions::proofs::Growing::grows_grows, ofn_expressions::proofs::Growing::grows_same))]
+pub(crate) fn read_operands(
+    alloc: Global,
+    kind: AxiomKind,
+    items: &[Tree<'_>],
+    prefixes: &Prefixes,
+    state: &mut Reading,
+) -> Result<Axiom, Refusal>
+    requires { axiom_fits kind (length items.now) ≡ true }
+    ensures tests { Judged result state.old.counts (operand_tests prefixes.now kind (items_of items.now)) state.new.counts }
+    ensures grown { Grows state.old state.new }
+    ensures value { IfOk result (MeansAxiom prefixes.now state.new.counts kind (items_of items.now)) }
+{
+    match kind {
+        AxiomKind::SubClassOf => read_sub_class(alloc, &items[0], &items[1], prefixes, state),
+        AxiomKind::EquivalentClasses => read_equivalent_classes(alloc, items, prefixes, state),
+        AxiomKind::DisjointClasses => read_disjoint_classes(alloc, items, prefixes, state),
+        AxiomKind::DisjointUnion => {
+            read_disjoint_union(alloc, &items[0], items.split_at(1).1, prefixes, state)
+        }
+        AxiomKind::SubRole => read_sub_role(alloc, &items[0], &items[1], prefixes, state),
+        AxiomKind::EquivalentRoles => read_equivalent_roles(alloc, items, prefixes, state),
+        AxiomKind::Domain => read_domain(alloc, &items[0], &items[1], prefixes, state),
+        AxiomKind::Range => read_range(alloc, &items[0], &items[1], prefixes, state),
+        AxiomKind::Functional => read_functional(alloc, &items[0], prefixes, state),
+        AxiomKind::Transitive => read_transitive(alloc, &items[0], prefixes, state),
+    }
+}
