@@ -10,6 +10,7 @@ pub mod Empty
 pub mod Nexts
 pub mod Candidates
 pub mod Groups
+pub mod Inside
 pub mod Numerals
 pub mod TextLines
 pub mod TextRead

@@ -104,8 +104,8 @@ module _ (o : Listed) (k : Kept) (classes : AreNames o.classes) (roles : AreName
   all_lines : list_all is_line (model_rows o k) ≡ true
   all_lines =
       let first = line_of_plain (codes "model") (decimal k.size ∷ []) (size_plain k.size kept.small) in
-      let cs = class_rows_lines k.size kept.small k.members kept.members_ascend kept.members_below o.classes 0 classes.plain in
-      let rs = role_rows_lines k.size kept.small k.links kept.links_ascend kept.links_below o.roles 0 roles.plain in
+      let cs = class_rows_lines k.size kept.small k.members kept.members_ascend kept.members_inside o.classes 0 classes.plain in
+      let rs = role_rows_lines k.size kept.small k.links kept.links_ascend kept.links_inside o.roles 0 roles.plain in
       lines_both ((size_row k.size ∷ class_rows 0 o.classes k.members) ++ role_rows 0 o.roles k.links) (codes "end" ∷ [])
       (lines_both (size_row k.size ∷ class_rows 0 o.classes k.members) (role_rows 0 o.roles k.links) (both (is_line (size_row k.size)) (list_all is_line (class_rows 0 o.classes k.members)) first cs) rs) refl
 
@@ -147,12 +147,12 @@ module _ (o : Listed) (k : Kept) (classes : AreNames o.classes) (roles : AreName
       let rs = role_rows 0 o.roles k.links in
       let last = codes "end" ∷ [] ∷ [] in
       let empty = empty_body k.size in
-      let first = classes_read o k.size kept.small k.members kept.members_ascend kept.members_below classes.distinct o.classes 0 (stand o.classes) classes.plain empty refl (λ c le. refl) (rs ++ last) in
+      let first = classes_read o k.size kept.small k.members kept.members_ascend kept.members_inside classes.distinct o.classes 0 (stand o.classes) classes.plain empty refl (λ c le. refl) (rs ++ last) in
       let after = first.next in
       let model : after.model ≡ record { size = k.size; members = k.members; links = [] } = first.becomes ∙ members_in in
       let size : after.model.size ≡ k.size = ap (λ m. m.size) model in
       let none : (c : ℕ) → 0 ≤ c → list_any (nat_eq c) after.roles ≡ false = λ c le. ap (list_any (nat_eq c)) first.same_roles in
-      let second = roles_read o k.size kept.small k.links kept.links_ascend kept.links_below roles.distinct o.roles 0 (stand o.roles) roles.plain after size none last in
+      let second = roles_read o k.size kept.small k.links kept.links_ascend kept.links_inside roles.distinct o.roles 0 (stand o.roles) roles.plain after size none last in
       let whole : second.0.model ≡ k = second.2 ∙ ap (with_roles 0 o.roles k.links) model ∙ links_in in
       let together : cs ++ rs ++ codes "end" ∷ [] ++ [] ∷ [] ≡ cs ++ (rs ++ last) = append_assoc (cs ++ rs) (codes "end" ∷ []) ([] ∷ []) ∙ append_assoc cs rs last in
       ap (model_of o) text_lines

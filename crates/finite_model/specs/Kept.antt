@@ -1,6 +1,6 @@
 -- What an interpretation keeps, and what it stands for. Members and pairs are kept in ascending order, each once.
-use Rattle.std.specs.Prelude.{ℕ, Bool, ◌&&◌, nat_eq, List}
-use Rattle.std.specs.List.{list_any}
+use Rattle.std.specs.Prelude.{ℕ, ◌≤◌, Bool, ◌&&◌, nat_eq, nat_lt, IsTrue, List}
+use Rattle.std.specs.List.{list_any, list_all}
 use Rattle.std.specs.declared.cmp.Ordering.{Ordering}
 use Rattle.std.specs.Ordering.{nat_cmp, ordering_then}
 use Rattle.shq_meaning.specs.Truth.{Interpretation}
@@ -10,6 +10,19 @@ pub record Kept : Type 0 where
   pub size : ℕ
   pub members : List (ℕ × ℕ)
   pub links : List (ℕ × ℕ × ℕ)
+
+-- the element of each member is one of the domain, which has that many, and so are both elements of each pair
+abbrev pub members_below : ℕ → List (ℕ × ℕ) → Bool
+members_below size ms = list_all (λ m. nat_lt m.1 size) ms
+
+abbrev pub links_below : ℕ → List (ℕ × ℕ × ℕ) → Bool
+links_below size ls = list_all (λ l. nat_lt l.1 size && nat_lt l.2 size) ls
+
+-- some elements, and members and pairs of them
+pub record IsDomain (size : ℕ) (members : List (ℕ × ℕ)) (links : List (ℕ × ℕ × ℕ)) : Type 0 where
+  pub some : 1 ≤ size
+  pub members_inside : IsTrue (members_below size members)
+  pub links_inside : IsTrue (links_below size links)
 
 -- the class and the element of a member
 abbrev pub is_member : ℕ → ℕ → ℕ × ℕ → Bool

@@ -1,11 +1,11 @@
 -- The text of a model is read back.
-use Rattle.std.specs.Prelude.{◌≡◌, ℕ, ◌^◌, ◌<◌, ◌≤◌, Bool, not, ◌&&◌, nat_eq, nat_lt, IsTrue, List, Some}
+use Rattle.std.specs.Prelude.{◌≡◌, ℕ, ◌^◌, ◌<◌, ◌≤◌, Bool, not, ◌&&◌, nat_eq, IsTrue, List, Some}
 use Rattle.std.specs.List.{list_all}
 use Rattle.std.specs.List.Sorted.{IsStrictlySortedBy}
 use Rattle.certificate_lines.specs.Lines.{lines}
 use Rattle.shq_terms.specs.Listed.{Listed}
 use Rattle.shq_terms.specs.Distinct.{AreDistinct}
-use Rattle.finite_model.specs.Kept.{Kept, member_cmp, link_cmp}
+use Rattle.finite_model.specs.Kept.{Kept, members_below, links_below, member_cmp, link_cmp}
 use Rattle.finite_model.specs.ModelText.{model_of}
 use Rattle.finite_model.specs.Written.{is_listed, model_text}
 
@@ -24,9 +24,9 @@ pub record IsKept (o : Listed) (k : Kept) : Type 0 where
   pub small : k.size < 2 ^ 32
   pub listed : IsTrue (is_listed o k)
   pub members_ascend : IsStrictlySortedBy member_cmp k.members
-  pub members_below : IsTrue (list_all (λ m. nat_lt m.1 k.size) k.members)
+  pub members_inside : IsTrue (members_below k.size k.members)
   pub links_ascend : IsStrictlySortedBy link_cmp k.links
-  pub links_below : IsTrue (list_all (λ l. nat_lt l.1 k.size && nat_lt l.2 k.size) k.links)
+  pub links_inside : IsTrue (links_below k.size k.links)
 
 -- the lines of a model's text stand for this model
 abbrev pub ModelsAreReadBack : Type 0

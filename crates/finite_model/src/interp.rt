@@ -8,7 +8,7 @@ ghost use Rattle.std.specs.Ordering.{is_gt};
 ghost use Rattle.std.specs.declared.ops.Bound.TheVariants.{Included};
 ghost use Rattle.shq_meaning.specs.Below.{all_below};
 ghost use Rattle.shq_meaning.specs.Truth.{implies};
-ghost use Rattle.finite_model.specs.Kept.{meaning, begins, member_cmp, link_cmp, tuple_cmp};
+ghost use Rattle.finite_model.specs.Kept.{meaning, begins, IsDomain, member_cmp, link_cmp, tuple_cmp};
 ghost use Rattle.finite_model.specs.Next.{IsNext, within};
 ghost use Rattle.finite_model.specs.Written.{elements_of, pairs_of};
 
@@ -27,14 +27,13 @@ pub struct Interp {
 }
 
 impl Model for Interp {
-    ghost use Rattle.std.specs.Prelude.{◌≤◌};
-    ghost use Rattle.finite_model.specs.Kept.{Kept};
+    ghost use Rattle.finite_model.specs.Kept.{Kept, IsDomain};
 
     ghost Value = { Kept };
 
     ghost view = { λ i. record { size = i.size; members = i.members.keys; links = i.links.keys } };
 
-    ghost invariant = { λ i. 1 ≤ i.size };
+    ghost invariant = { λ i. IsDomain i.size i.members.keys i.links.keys };
 }
 
 impl Interp {
@@ -58,6 +57,17 @@ impl Interp {
         ensures some { 1 ≤ result }
     {
         self.size
+    }
+
+    // How many members of classes and how many pairs of roles were put, all of them elements, and in ascending order.
+    pub(crate) fn counts(&self) -> (usize, usize)
+        ensures domain { IsDomain self.now.size self.now.members self.now.links }
+        ensures small { self.now.size < 2 ^ 32 }
+        ensures members { IsStrictlySortedBy member_cmp self.now.members }
+        ensures links { IsStrictlySortedBy link_cmp self.now.links }
+    {
+        prove!(self.size >= 1);
+        (self.members.len(), self.links.len())
     }
 
     /// Puts the element into the class, where it stands once, or changes nothing. The element is below the size.

@@ -1,6 +1,7 @@
 // The text of a model, as it is written.
 ghost use Rattle.std.specs.Prelude.{◌≡◌, ◌++◌, codes, decimal, IsTrue, IfOk, OnOk, OnErr};
 ghost use Rattle.std.specs.List.{flat_map};
+ghost use Rattle.finite_model.specs.ReadBack.{IsKept};
 ghost use Rattle.finite_model.specs.Written.{element_text, pair_text, class_text, role_text, class_texts, role_texts, model_text, is_listed};
 
 use crate::{Interp, NoMemory};
@@ -12,6 +13,10 @@ impl Interp {
     /// elements, a line `role <IRI> X,Y ..` for each role that has pairs, and `end`, each with a line feed behind it.
     /// Classes and roles stand in list order, and the items of a line ascend. Each class and role of which something was
     /// put is listed. The memory is `alloc`'s.
+    ///
+    /// What is kept is as the law of reading back asks ([`models_are_read_back`]): where names are listed once and are
+    /// IRIs, the lines of the text stand for the interpretation again.
+    #[tactic(auto, using(crate::proofs::Inside::is_kept))]
     pub fn text(
         &self,
         alloc: Global,
@@ -21,7 +26,9 @@ impl Interp {
         requires { IsTrue (is_listed ontology.now self.now) }
         ensures text { OnOk result (out.new.items ≡ out.old.items ++ model_text ontology.now self.now) }
         ensures unchanged { OnErr result (out.new.items ≡ out.old.items) }
+        ensures kept { IsKept ontology.now self.now }
     {
+        let _counts = self.counts();
         let text = self.whole_text(alloc, ontology)?;
         out.extend_from_slice(&text)?;
         Ok(())
