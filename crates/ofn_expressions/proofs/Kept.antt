@@ -7,7 +7,7 @@ use Rattle.std.proofs.lemmas.Bool.Decides.{nat_tests}
 use Rattle.std.specs.List.{prefix_len}
 use Rattle.shq_terms.specs.Names.{number_at, with_at, number_of, with_name}
 use Rattle.ofn_expressions.specs.Counts.{Counts}
-use Rattle.ofn_expressions.specs.Walk.{Test, shape, prefix, clash, outside, numbered, parts, nodes, class, role, number, after, after_all, outcomes, first_failing, verdict, walked}
+use Rattle.ofn_expressions.specs.Walk.{Test, shape, prefix, clash, outside, numbered, parts, nodes, class, role, number, simple, after, after_all, outcomes, first_failing, verdict, walked}
 use Rattle.ofn_expressions.specs.Classes.{Keeps, place}
 use Rattle.ofn_expressions.specs.declared.refusal.Refusal.{Refusal}
 
@@ -96,6 +96,7 @@ keeps_after s (nodes line n) = record { classes = λ w k is. is; roles = λ w k 
 keeps_after s (class line name) = record { classes = λ w k is. keeps_name name s.classes w k is; roles = λ w k is. is }
 keeps_after s (role line name) = record { classes = λ w k is. is; roles = λ w k is. keeps_name name s.roles w k is }
 keeps_after s (number line n) = keeps_all s
+keeps_after s (simple line fits) = keeps_all s
 
 keeps_after_all : (s : Counts) (ts : List Test) → Keeps s (after_all s ts)
 keeps_after_all s [] = keeps_all s

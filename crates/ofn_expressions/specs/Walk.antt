@@ -4,13 +4,13 @@ use Rattle.shq_terms.specs.Names.{with_name}
 use Rattle.ofn_expressions.specs.Counts.{Counts}
 use Rattle.ofn_expressions.specs.declared.construct.Construct.{Construct}
 use Rattle.ofn_expressions.specs.declared.refusal.Refusal.{Refusal}
-use Rattle.ofn_expressions.specs.declared.refusal.Refusal.TheVariants.{BadShape, UnknownPrefix, PrefixClash, Outside, Limit, NoMemory}
+use Rattle.ofn_expressions.specs.declared.refusal.Refusal.TheVariants.{BadShape, UnknownPrefix, PrefixClash, Outside, NotSimple, Limit, NoMemory}
 use Rattle.ofn_expressions.specs.declared.refusal.Which.TheVariants.{Axioms, Classes, Roles, Nodes, Number, Parts}
 
 -- Each has its line: that an item has the shape which is asked; that a prefix name is declared; that it is not declared with
 -- another IRI; that no construct outside of the profile stands there; that one more numbered axiom is within the limit; that
 -- so many more parts of axioms are; that so many more nodes are; that a class, or a role, which is listed here is; that a
--- cardinality is.
+-- cardinality is; that the roles which are counted are simple.
 pub data Test : Type 0 where
   shape : ℕ → Bool → Test
   prefix : ℕ → Bool → Test
@@ -22,6 +22,7 @@ pub data Test : Type 0 where
   class : ℕ → List ℕ → Test
   role : ℕ → List ℕ → Test
   number : ℕ → ℕ → Test
+  simple : ℕ → Bool → Test
 
 -- whether a test holds, by what was counted and listed before it
 abbrev pub holds : Counts → Test → Bool
@@ -35,6 +36,7 @@ holds s (nodes line n) = nat_le (s.nodes + n) 262144
 holds s (class line name) = nat_le (length (with_name s.classes name)) 20000
 holds s (role line name) = nat_le (length (with_name s.roles name)) 1000
 holds s (number line n) = nat_le n 100
+holds s (simple line fits) = fits
 
 -- what is answered where it fails
 abbrev pub refusal : Test → Refusal
@@ -48,6 +50,7 @@ refusal (nodes line n) = Limit Nodes line
 refusal (class line name) = Limit Classes line
 refusal (role line name) = Limit Roles line
 refusal (number line n) = Limit Number line
+refusal (simple line fits) = NotSimple line
 
 -- what is counted and listed behind a test
 abbrev pub after : Counts → Test → Counts
@@ -61,6 +64,7 @@ after s (nodes line n) = record s { nodes = s.nodes + n }
 after s (class line name) = record s { classes = with_name s.classes name }
 after s (role line name) = record s { roles = with_name s.roles name }
 after s (number line n) = s
+after s (simple line fits) = s
 
 abbrev pub after_all : Counts → List Test → Counts
 after_all s [] = s

@@ -13,7 +13,7 @@ use Rattle.ofn_expressions.proofs.Walks.{goes_on, stops, goes_judged}
 use Rattle.ofn_expressions.proofs.Lists.{item_count_is}
 use Rattle.ofn_reader.specs.Axioms.{head_tests, operand_tests, numbered_tests}
 use Rattle.ofn_reader.specs.Prefixes.{prefixes_tests, prefixes_behind}
-use Rattle.ofn_reader.specs.Documents.{prefix_groups, behind_prefixes, document_prefixes, document_tests, ontology_tests}
+use Rattle.ofn_reader.specs.Documents.{prefix_groups, behind_prefixes, document_prefixes, form_tests, ontology_tests}
 use Rattle.ofn_reader.specs.Queries.{nothing_tests, alone_tests}
 use Rattle.ofn_reader.specs.declared.keywords.AxiomKind.{AxiomKind}
 
@@ -37,11 +37,11 @@ module _ (ps : List Prefix) (end : ℕ) (items groups : List Item) (front : grou
   all_front : walked s (prefixes_tests ps groups) ≡ walked s (prefixes_tests ps (prefix_groups items))
   all_front = ap (λ l. walked s (prefixes_tests ps l)) front
 
-  pub document_stops : (e : Refusal) → walked s (prefixes_tests ps groups) ≡ Err e → walked s (document_tests ps end items) ≡ Err e
+  pub document_stops : (e : Refusal) → walked s (prefixes_tests ps groups) ≡ Err e → walked s (form_tests ps end items) ≡ Err e
   document_stops e first = stops s (prefixes_tests ps (prefix_groups items)) (ontology_tests (document_prefixes ps items) end (behind_prefixes items)) e (sym all_front ∙ first)
 
   pub document_goes : {X : Type 0} (r : Result X Refusal) (behind : List Item) (qs : List Prefix) (new : Counts) → behind ≡ behind_prefixes items → qs ≡ prefixes_behind ps groups → walked s (prefixes_tests ps groups) ≡ Ok s
-      → Judged r s (ontology_tests qs end behind) new → Judged r s (document_tests ps end items) new
+      → Judged r s (ontology_tests qs end behind) new → Judged r s (form_tests ps end items) new
   document_goes r behind qs new back declared first rest =
       let tests : ontology_tests qs end behind ≡ ontology_tests (document_prefixes ps items) end (behind_prefixes items) = λ i. ontology_tests ((declared ∙ ap (prefixes_behind ps) front) i) end (back i) in
       goes_judged r s s new (prefixes_tests ps (prefix_groups items)) (ontology_tests (document_prefixes ps items) end (behind_prefixes items)) (sym all_front ∙ first)

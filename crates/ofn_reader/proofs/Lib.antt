@@ -10,3 +10,4 @@ pub mod OneReason
 pub mod Few
 pub mod Heads
 pub mod Faulty
+pub mod Simple

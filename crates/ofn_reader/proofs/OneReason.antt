@@ -1,5 +1,6 @@
 -- A text is refused for one reason at most.
 use Rattle.std.proofs.Common.{◌≡◌, ℕ, List, Some, Result, Err, refl, ap, sym, ◌∙◌, arith}
+use Rattle.shq_terms.specs.declared.axioms.Numbered.{Numbered}
 use Rattle.ofn_tree.specs.Lexemes.{end_line}
 use Rattle.ofn_tree.specs.Items.{Item}
 use Rattle.ofn_tree.specs.declared.fault.TextFault.{TextFault}
@@ -25,7 +26,7 @@ module _ (tests : List Item → List Test) (s : Counts) (text : List ℕ) where
   cause (UnknownPrefix line) why = by_test why
   cause (PrefixClash line) why = by_test why
   cause (Outside line construct) why = by_test why
-  cause (NotSimple line) why = absurd why
+  cause (NotSimple line) why = by_test why
   cause (Limit w line) why = by_test why
   cause NoMemory why = absurd why
 
@@ -50,8 +51,8 @@ module _ (tests : List Item → List Test) (s : Counts) (text : List ℕ) where
 pub document_refusals : (text : List ℕ) (e f : Refusal) → IsNoDocument text e → IsNoDocument text f → e ≡ f
 document_refusals text e f why because = refused_once (document_tests predeclared (end_line text)) start text e f why because
 
-pub query_refusals : (ps : List Prefix) (s : Counts) (text : List ℕ) (e f : Refusal) → IsNoQuery ps s text e → IsNoQuery ps s text f → e ≡ f
-query_refusals ps s text e f why because = one_reason (query_tests ps (end_line text)) s text e f why because
+pub query_refusals : (ps : List Prefix) (axioms : List Numbered) (s : Counts) (text : List ℕ) (e f : Refusal) → IsNoQuery ps axioms s text e → IsNoQuery ps axioms s text f → e ≡ f
+query_refusals ps axioms s text e f why because = one_reason (query_tests ps axioms s (end_line text)) s text e f why because
 
-pub class_refusals : (ps : List Prefix) (s : Counts) (text : List ℕ) (e f : Refusal) → IsNoClass ps s text e → IsNoClass ps s text f → e ≡ f
-class_refusals ps s text e f why because = one_reason (class_query_tests ps (end_line text)) s text e f why because
+pub class_refusals : (ps : List Prefix) (axioms : List Numbered) (s : Counts) (text : List ℕ) (e f : Refusal) → IsNoClass ps axioms s text e → IsNoClass ps axioms s text f → e ≡ f
+class_refusals ps axioms s text e f why because = one_reason (class_query_tests ps axioms s (end_line text)) s text e f why because

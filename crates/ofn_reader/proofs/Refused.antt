@@ -2,10 +2,11 @@
 use Rattle.std.proofs.Common.{◌≡◌, ◌≢◌, ℕ, List, [], ◌∷◌, Bool, true, false, cond, Result, Ok, Err, refl, ap, sym, ◌∙◌, subst}
 use Rattle.std.specs.Prelude.{IfErr, ◌^◌, ◌≤◌, length}
 use Rattle.shq_terms.specs.Listed.{Listed}
+use Rattle.shq_terms.specs.declared.axioms.Numbered.{Numbered}
 use Rattle.ofn_tree.specs.Lexemes.{end_line}
 use Rattle.ofn_tree.specs.Items.{Item}
 use Rattle.ofn_expressions.specs.Counts.{Counts}
-use Rattle.ofn_expressions.specs.Walk.{Test, shape, prefix, clash, outside, numbered, parts, nodes, class, role, number, holds, refusal, after, walked}
+use Rattle.ofn_expressions.specs.Walk.{Test, shape, prefix, clash, outside, numbered, parts, nodes, class, role, number, simple, holds, refusal, after, walked}
 use Rattle.ofn_expressions.specs.declared.refusal.Refusal.{Refusal}
 use Rattle.ofn_expressions.specs.declared.refusal.Refusal.TheVariants.{Text, BadShape, UnknownPrefix, PrefixClash, Outside, NotSimple, Limit, NoMemory}
 use Rattle.ofn_expressions.specs.Names.{Prefix}
@@ -20,7 +21,7 @@ is_of_test (BadShape line) = true
 is_of_test (UnknownPrefix line) = true
 is_of_test (PrefixClash line) = true
 is_of_test (Outside line construct) = true
-is_of_test (NotSimple line) = false
+is_of_test (NotSimple line) = true
 is_of_test (Limit w line) = true
 is_of_test NoMemory = false
 
@@ -35,6 +36,7 @@ of_test (nodes line n) = refl
 of_test (class line name) = refl
 of_test (role line name) = refl
 of_test (number line n) = refl
+of_test (simple line fits) = refl
 
 walked_of_test : (s : Counts) (ts : List Test) (e : Refusal) → walked s ts ≡ Err e → is_of_test e ≡ true
 walked_of_test s [] e is = let clashes : Ok s ≡ Err e = is in absurd (cc clashes)
@@ -55,7 +57,7 @@ fails_refused tests s text items end (BadShape line) made fails known = record {
 fails_refused tests s text items end (UnknownPrefix line) made fails known = record { items = items; end = end; made = made; fails = fails known }
 fails_refused tests s text items end (PrefixClash line) made fails known = record { items = items; end = end; made = made; fails = fails known }
 fails_refused tests s text items end (Outside line construct) made fails known = record { items = items; end = end; made = made; fails = fails known }
-fails_refused tests s text items end (NotSimple line) made fails known = let clashes : false ≡ true = walked_of_test s (tests items) (NotSimple line) (fails known) in absurd (cc clashes)
+fails_refused tests s text items end (NotSimple line) made fails known = record { items = items; end = end; made = made; fails = fails known }
 fails_refused tests s text items end (Limit w line) made fails known = record { items = items; end = end; made = made; fails = fails known }
 fails_refused tests s text items end NoMemory made fails known = absurd (known refl)
 
@@ -65,16 +67,16 @@ pub fails_at : (tests : ℕ → List Item → List Test) (s : Counts) (text : Li
 fails_at tests s text items own place line e made same at fails known =
     fails_refused (tests (end_line text)) s text items place e made (λ k. (λ i. walked s (tests (sym at i) (sym same i))) ∙ fails k) known
 
-query_fails : {T : Type 0} (tests : List Prefix → ℕ → List Item → List Test) (o : Listed) (text : List ℕ) (items own : List Item) (place line n m : ℕ) (ps qs : List Prefix) (r : Result T Refusal) → length text ≤ 2 ^ 24 → HasItems text items place
-    → own ≡ items → line ≡ end_line text → qs ≡ ps → n ≡ m → IfErr r (λ e. e ≢ NoMemory → walked (query_start o n) (tests qs line own) ≡ Err e)
-    → IfErr r (λ e. e ≢ NoMemory → IsRefused (tests ps (end_line text)) (query_start o m) text e)
+query_fails : {T : Type 0} (tests : List Prefix → List Numbered → Counts → ℕ → List Item → List Test) (o : Listed) (text : List ℕ) (items own : List Item) (place line n m : ℕ) (ps qs : List Prefix) (r : Result T Refusal) → length text ≤ 2 ^ 24 → HasItems text items place
+    → own ≡ items → line ≡ end_line text → qs ≡ ps → n ≡ m → IfErr r (λ e. e ≢ NoMemory → walked (query_start o n) (tests qs o.axioms (query_start o n) line own) ≡ Err e)
+    → IfErr r (λ e. e ≢ NoMemory → IsRefused (tests ps o.axioms (query_start o m) (end_line text)) (query_start o m) text e)
 query_fails tests o text items own place line n m ps qs (Ok x) short made same at same_prefixes same_nodes fails = tt
 query_fails tests o text items own place line n m ps qs (Err e) short made same at same_prefixes same_nodes fails = λ known.
-    refused e short (fails_refused (tests ps (end_line text)) (query_start o m) text items place e made (λ k. (λ i. walked (query_start o (sym same_nodes i)) (tests (sym same_prefixes i) (sym at i) (sym same i))) ∙ fails k) known)
+    refused e short (fails_refused (tests ps o.axioms (query_start o m) (end_line text)) (query_start o m) text items place e made (λ k. (λ i. walked (query_start o (sym same_nodes i)) (tests (sym same_prefixes i) o.axioms (query_start o (sym same_nodes i)) (sym at i) (sym same i))) ∙ fails k) known)
 
 -- a query is refused for a test of its items
-pub query_refused : {T : Type 0} (tests : List Prefix → ℕ → List Item → List Test) (o : Listed) (bytes text : List ℕ) (items own : List Item) (line n m : ℕ) (ps qs : List Prefix) (r : Result T Refusal) → bytes ≡ text → length bytes ≤ 2 ^ 24
-    → (place : ℕ) × HasItems bytes items place → own ≡ items → line ≡ end_line bytes → qs ≡ ps → n ≡ m → IfErr r (λ e. e ≢ NoMemory → walked (query_start o n) (tests qs line own) ≡ Err e)
-    → IfErr r (λ e. e ≢ NoMemory → IsRefused (tests ps (end_line text)) (query_start o m) text e)
+pub query_refused : {T : Type 0} (tests : List Prefix → List Numbered → Counts → ℕ → List Item → List Test) (o : Listed) (bytes text : List ℕ) (items own : List Item) (line n m : ℕ) (ps qs : List Prefix) (r : Result T Refusal) → bytes ≡ text → length bytes ≤ 2 ^ 24
+    → (place : ℕ) × HasItems bytes items place → own ≡ items → line ≡ end_line bytes → qs ≡ ps → n ≡ m → IfErr r (λ e. e ≢ NoMemory → walked (query_start o n) (tests qs o.axioms (query_start o n) line own) ≡ Err e)
+    → IfErr r (λ e. e ≢ NoMemory → IsRefused (tests ps o.axioms (query_start o m) (end_line text)) (query_start o m) text e)
 query_refused tests o bytes text items own line n m ps qs r same_text short made same at same_prefixes same_nodes fails =
-    subst (λ t. IfErr r (λ e. e ≢ NoMemory → IsRefused (tests ps (end_line t)) (query_start o m) t e)) same_text (query_fails tests o bytes items own made.0 line n m ps qs r short made.1 same at same_prefixes same_nodes fails)
+    subst (λ t. IfErr r (λ e. e ≢ NoMemory → IsRefused (tests ps o.axioms (query_start o m) (end_line t)) (query_start o m) t e)) same_text (query_fails tests o bytes items own made.0 line n m ps qs r short made.1 same at same_prefixes same_nodes fails)

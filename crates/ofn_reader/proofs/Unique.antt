@@ -2,6 +2,7 @@
 use Rattle.std.proofs.Common.{◌≡◌, ℕ, List, [], ◌∷◌, Option, Some, None, Ok, Err, ap, sym, ◌∙◌, subst, arith}
 use Rattle.shq_base.specs.Concept.{Concept}
 use Rattle.shq_terms.specs.Listed.{Listed}
+use Rattle.shq_terms.specs.declared.axioms.Numbered.{Numbered}
 use Rattle.shq_terms.specs.declared.axioms.Query.{Query}
 use Rattle.ofn_tree.specs.Lexemes.{end_line}
 use Rattle.ofn_tree.specs.Items.{Item, IsTree}
@@ -60,7 +61,7 @@ module _ (tests : List Item → List Test) (s : Counts) where
     not_refused (UnknownPrefix line) why = no_failure (UnknownPrefix line) why
     not_refused (PrefixClash line) why = no_failure (PrefixClash line) why
     not_refused (Outside line construct) why = no_failure (Outside line construct) why
-    not_refused (NotSimple line) why = why
+    not_refused (NotSimple line) why = no_failure (NotSimple line) why
     not_refused (Limit w line) why = no_failure (Limit w line) why
     not_refused NoMemory why = why
 
@@ -78,25 +79,25 @@ documents text o p j k d e a b =
 pub documents_not_refused : (text : List ℕ) (o : Listed) (k : Kept) (d : ℕ) (e : Refusal) → IsDocument text o k d → IsNoDocument text e → ⊥
 documents_not_refused text o k d e a why = not_refused (all_tests text) start text a.items d a.behind a.made a.holds e why
 
-module _ (ps : List Prefix) (s : Counts) (text : List ℕ) (a b : Counts) where
-  pub queries : (p q : Query) → IsQuery ps s text a p → IsQuery ps s text b q → (a ≡ b) × (p ≡ q)
+module _ (ps : List Prefix) (axioms : List Numbered) (s : Counts) (text : List ℕ) (a b : Counts) where
+  pub queries : (p q : Query) → IsQuery ps axioms s text a p → IsQuery ps axioms s text b q → (a ≡ b) × (p ≡ q)
   queries p q x y =
       let same = same_items text x.items y.items x.end y.end x.made y.made in
-      let behind = same_walk (query_tests ps (end_line text)) s x.items y.items a b same x.holds y.holds in
+      let behind = same_walk (query_tests ps axioms s (end_line text)) s x.items y.items a b same x.holds y.holds in
       let pairs : p ∷ [] ≡ q ∷ [] = sym x.pair ∙ (λ i. first_query ps (behind i) (same i)) ∙ y.pair in
       (behind, cc pairs)
 
-  pub classes : (c d : Concept) → IsClass ps s text a c → IsClass ps s text b d → (a ≡ b) × (c ≡ d)
+  pub classes : (c d : Concept) → IsClass ps axioms s text a c → IsClass ps axioms s text b d → (a ≡ b) × (c ≡ d)
   classes c d x y =
       let same = same_items text x.items y.items x.end y.end x.made y.made in
-      let behind = same_walk (class_query_tests ps (end_line text)) s x.items y.items a b same x.holds y.holds in
+      let behind = same_walk (class_query_tests ps axioms s (end_line text)) s x.items y.items a b same x.holds y.holds in
       let pairs : c ∷ [] ≡ d ∷ [] = sym x.class ∙ (λ i. first_class ps (behind i) (same i)) ∙ y.class in
       (behind, cc pairs)
 
-pub queries_not_refused : (ps : List Prefix) (s : Counts) (text : List ℕ) (a : Counts) (q : Query) (e : Refusal) → IsQuery ps s text a q → IsNoQuery ps s text e → ⊥
-queries_not_refused ps s text a q _ x (long more) = let short = x.short in absurd (omega arith)
-queries_not_refused ps s text a q _ x (refused e short why) = not_refused (query_tests ps (end_line text)) s text x.items x.end a x.made x.holds e why
+pub queries_not_refused : (ps : List Prefix) (axioms : List Numbered) (s : Counts) (text : List ℕ) (a : Counts) (q : Query) (e : Refusal) → IsQuery ps axioms s text a q → IsNoQuery ps axioms s text e → ⊥
+queries_not_refused ps axioms s text a q _ x (long more) = let short = x.short in absurd (omega arith)
+queries_not_refused ps axioms s text a q _ x (refused e short why) = not_refused (query_tests ps axioms s (end_line text)) s text x.items x.end a x.made x.holds e why
 
-pub classes_not_refused : (ps : List Prefix) (s : Counts) (text : List ℕ) (a : Counts) (c : Concept) (e : Refusal) → IsClass ps s text a c → IsNoClass ps s text e → ⊥
-classes_not_refused ps s text a c _ x (long more) = let short = x.short in absurd (omega arith)
-classes_not_refused ps s text a c _ x (refused e short why) = not_refused (class_query_tests ps (end_line text)) s text x.items x.end a x.made x.holds e why
+pub classes_not_refused : (ps : List Prefix) (axioms : List Numbered) (s : Counts) (text : List ℕ) (a : Counts) (c : Concept) (e : Refusal) → IsClass ps axioms s text a c → IsNoClass ps axioms s text e → ⊥
+classes_not_refused ps axioms s text a c _ x (long more) = let short = x.short in absurd (omega arith)
+classes_not_refused ps axioms s text a c _ x (refused e short why) = not_refused (class_query_tests ps axioms s (end_line text)) s text x.items x.end a x.made x.holds e why

@@ -5,8 +5,10 @@ use Rattle.ofn_tree.specs.Lexemes.{end_line}
 use Rattle.ofn_tree.specs.Items.{Item}
 use Rattle.shq_terms.specs.Listed.{Listed}
 use Rattle.shq_terms.specs.declared.axioms.Numbered.{Numbered}
+use Rattle.role_box.specs.declared.axioms.RoleAxiom.{RoleAxiom}
+use Rattle.simple_roles.specs.Simple.{counts_simple, all_role_axioms}
 use Rattle.ofn_expressions.specs.Counts.{Counts}
-use Rattle.ofn_expressions.specs.Walk.{Test, shape, walked}
+use Rattle.ofn_expressions.specs.Walk.{Test, shape, simple, after_all, walked}
 use Rattle.ofn_expressions.specs.Names.{Prefix, item_line, predeclared}
 use Rattle.ofn_expressions.specs.declared.refusal.Refusal.{Refusal}
 use Rattle.ofn_reader.specs.Groups.{is_group, inner_items, axiom_items}
@@ -42,13 +44,26 @@ abbrev pub ontology_axioms : List Prefix → Counts → List Item → List Numbe
 ontology_axioms ps s [] = []
 ontology_axioms ps s (i ∷ is) = axioms_in ps s (axiom_items (inner_items i))
 
--- the tests of a document whose text ends on a line
-abbrev pub document_tests : List Prefix → ℕ → List Item → List Test
-document_tests ps end is = prefixes_tests ps (prefix_groups is) ++ ontology_tests (document_prefixes ps is) end (behind_prefixes is)
+-- the tests of a document whose text ends on a line, in the order of the text
+abbrev pub form_tests : List Prefix → ℕ → List Item → List Test
+form_tests ps end is = prefixes_tests ps (prefix_groups is) ++ ontology_tests (document_prefixes ps is) end (behind_prefixes is)
 
 -- its numbered axioms
 abbrev pub document_axioms : List Prefix → Counts → List Item → List Numbered
 document_axioms ps s is = ontology_axioms (document_prefixes ps is) s (behind_prefixes is)
+
+-- for each of these axioms in order, that the roles which it counts are simple
+abbrev pub simple_tests : List RoleAxiom → List Numbered → List Test
+simple_tests roles [] = []
+simple_tests roles (n ∷ ns) = simple n.line (counts_simple roles n) ∷ simple_tests roles ns
+
+-- the same for all axioms of a document, by the role axioms among them
+abbrev pub all_simple_tests : List Numbered → List Test
+all_simple_tests axioms = simple_tests (all_role_axioms axioms) axioms
+
+-- the tests of a document: those in the order of its text, and behind them those for simple roles
+abbrev pub document_tests : List Prefix → ℕ → List Item → List Test
+document_tests ps end is = form_tests ps end is ++ all_simple_tests (document_axioms ps (after_all start (form_tests ps end is)) is)
 
 -- The text up to the end is a document, no test of which fails. It lists the axioms and names of o. A query on it takes over
 -- its prefixes, and the count of the nodes of its expressions.

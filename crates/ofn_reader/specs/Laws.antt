@@ -2,6 +2,7 @@
 use Rattle.std.specs.Prelude.{◌≡◌, ℕ, List}
 use Rattle.shq_base.specs.Concept.{Concept}
 use Rattle.shq_terms.specs.Listed.{Listed}
+use Rattle.shq_terms.specs.declared.axioms.Numbered.{Numbered}
 use Rattle.shq_terms.specs.declared.axioms.Query.{Query}
 use Rattle.ofn_expressions.specs.Counts.{Counts}
 use Rattle.ofn_expressions.specs.Names.{Prefix}
@@ -20,24 +21,24 @@ DocumentsAreNotRefused = (text : List ℕ) (o : Listed) (k : Kept) (d : ℕ) (e 
 
 -- the counts behind a query, and its two expressions
 abbrev pub QueriesAreUnique : Type 0
-QueriesAreUnique = (ps : List Prefix) (s : Counts) (text : List ℕ) (a b : Counts) (p q : Query) → IsQuery ps s text a p → IsQuery ps s text b q → (a ≡ b) × (p ≡ q)
+QueriesAreUnique = (ps : List Prefix) (axioms : List Numbered) (s : Counts) (text : List ℕ) (a b : Counts) (p q : Query) → IsQuery ps axioms s text a p → IsQuery ps axioms s text b q → (a ≡ b) × (p ≡ q)
 
 abbrev pub QueriesAreNotRefused : Type 0
-QueriesAreNotRefused = (ps : List Prefix) (s : Counts) (text : List ℕ) (a : Counts) (q : Query) (e : Refusal) → IsQuery ps s text a q → IsNoQuery ps s text e → ⊥
+QueriesAreNotRefused = (ps : List Prefix) (axioms : List Numbered) (s : Counts) (text : List ℕ) (a : Counts) (q : Query) (e : Refusal) → IsQuery ps axioms s text a q → IsNoQuery ps axioms s text e → ⊥
 
 -- the counts behind a class expression, and the expression
 abbrev pub ClassesAreUnique : Type 0
-ClassesAreUnique = (ps : List Prefix) (s : Counts) (text : List ℕ) (a b : Counts) (c d : Concept) → IsClass ps s text a c → IsClass ps s text b d → (a ≡ b) × (c ≡ d)
+ClassesAreUnique = (ps : List Prefix) (axioms : List Numbered) (s : Counts) (text : List ℕ) (a b : Counts) (c d : Concept) → IsClass ps axioms s text a c → IsClass ps axioms s text b d → (a ≡ b) × (c ≡ d)
 
 abbrev pub ClassesAreNotRefused : Type 0
-ClassesAreNotRefused = (ps : List Prefix) (s : Counts) (text : List ℕ) (a : Counts) (c : Concept) (e : Refusal) → IsClass ps s text a c → IsNoClass ps s text e → ⊥
+ClassesAreNotRefused = (ps : List Prefix) (axioms : List Numbered) (s : Counts) (text : List ℕ) (a : Counts) (c : Concept) (e : Refusal) → IsClass ps axioms s text a c → IsNoClass ps axioms s text e → ⊥
 
 -- a text is refused for one reason at most
 abbrev pub DocumentRefusalsAreUnique : Type 0
 DocumentRefusalsAreUnique = (text : List ℕ) (e f : Refusal) → IsNoDocument text e → IsNoDocument text f → e ≡ f
 
 abbrev pub QueryRefusalsAreUnique : Type 0
-QueryRefusalsAreUnique = (ps : List Prefix) (s : Counts) (text : List ℕ) (e f : Refusal) → IsNoQuery ps s text e → IsNoQuery ps s text f → e ≡ f
+QueryRefusalsAreUnique = (ps : List Prefix) (axioms : List Numbered) (s : Counts) (text : List ℕ) (e f : Refusal) → IsNoQuery ps axioms s text e → IsNoQuery ps axioms s text f → e ≡ f
 
 abbrev pub ClassRefusalsAreUnique : Type 0
-ClassRefusalsAreUnique = (ps : List Prefix) (s : Counts) (text : List ℕ) (e f : Refusal) → IsNoClass ps s text e → IsNoClass ps s text f → e ≡ f
+ClassRefusalsAreUnique = (ps : List Prefix) (axioms : List Numbered) (s : Counts) (text : List ℕ) (e f : Refusal) → IsNoClass ps axioms s text e → IsNoClass ps axioms s text f → e ≡ f

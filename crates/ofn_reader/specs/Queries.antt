@@ -1,16 +1,19 @@
 -- What a text says as a query on a document: an axiom, or a class expression.
-use Rattle.std.specs.Prelude.{◌≡◌, ℕ, ◌^◌, ◌≤◌, ◌<◌, false, List, [], ◌∷◌, ◌++◌, length, Some, None, Result, Ok, Err, nat_eq}
+use Rattle.std.specs.Prelude.{◌≡◌, ℕ, ◌^◌, ◌≤◌, ◌<◌, Bool, true, false, List, [], ◌∷◌, ◌++◌, length, Some, None, Result, Ok, Err, nat_eq}
 use Rattle.shq_base.specs.Concept.{Concept}
 use Rattle.shq_terms.specs.Listed.{Listed}
+use Rattle.shq_terms.specs.declared.axioms.Numbered.{Numbered}
 use Rattle.shq_terms.specs.declared.axioms.Query.{Query}
+use Rattle.simple_roles.specs.Counted.{counted_roles, counted_by_query}
+use Rattle.simple_roles.specs.Simple.{are_simple, all_role_axioms}
 use Rattle.ofn_tree.specs.Lexemes.{end_line}
 use Rattle.ofn_tree.specs.Items.{Item, name_item, iri_item, literal_item, sign_item, group_item, Items, item}
 use Rattle.ofn_expressions.specs.Counts.{Counts}
-use Rattle.ofn_expressions.specs.Walk.{Test, shape, outside, walked}
+use Rattle.ofn_expressions.specs.Walk.{Test, shape, outside, simple, after_all, walked}
 use Rattle.ofn_expressions.specs.Names.{Prefix, item_line}
 use Rattle.ofn_expressions.specs.Classes.{item_count, each_class, joined, class_tests, concept_of, Keeps, IsListed}
 use Rattle.ofn_expressions.specs.declared.refusal.Refusal.{Refusal}
-use Rattle.ofn_expressions.specs.declared.refusal.Refusal.TheVariants.{BadShape, Limit}
+use Rattle.ofn_expressions.specs.declared.refusal.Refusal.TheVariants.{BadShape, NotSimple, Limit, NoMemory}
 use Rattle.ofn_expressions.specs.declared.refusal.Which.TheVariants as which
 use Rattle.ofn_reader.specs.Keywords.{axiom_keyword}
 use Rattle.ofn_reader.specs.Groups.{without_annotations}
@@ -44,11 +47,12 @@ abbrev pub alone_tests : (Item → List Test) → ℕ → List Item → List Tes
 alone_tests tests end [] = shape end false ∷ []
 alone_tests tests end (i ∷ is) = tests i ++ nothing_tests is
 
-abbrev pub query_tests : List Prefix → ℕ → List Item → List Test
-query_tests ps end is = alone_tests (axiom_query_tests ps) end is
+-- the tests of a query, and of a class expression, in the order of the text
+abbrev pub query_form_tests : List Prefix → ℕ → List Item → List Test
+query_form_tests ps end is = alone_tests (axiom_query_tests ps) end is
 
-abbrev pub class_query_tests : List Prefix → ℕ → List Item → List Test
-class_query_tests ps end is = alone_tests (class_tests ps) end is
+abbrev pub class_form_tests : List Prefix → ℕ → List Item → List Test
+class_form_tests ps end is = alone_tests (class_tests ps) end is
 
 -- the two class expressions of a query
 abbrev pub pair_in : List Prefix → Counts → Items → List Query
@@ -70,26 +74,55 @@ abbrev pub first_class : List Prefix → Counts → List Item → List Concept
 first_class ps s [] = []
 first_class ps s (i ∷ is) = concept_of ps s i ∷ []
 
+-- the line of the first item, or that of the end
+abbrev pub first_line : ℕ → List Item → ℕ
+first_line end [] = end
+first_line end (i ∷ is) = item_line i
+
+-- the roles that the first of these counts
+abbrev pub counted_by_first : List Query → List ℕ
+counted_by_first [] = []
+counted_by_first (q ∷ qs) = counted_by_query q
+
+abbrev pub counted_in_first : List Concept → List ℕ
+counted_in_first [] = []
+counted_in_first (c ∷ cs) = counted_roles c
+
+-- that these roles are simple by the axioms of the document
+abbrev pub roles_test : List Numbered → ℕ → List ℕ → List Test
+roles_test axioms line rs = simple line (are_simple (all_role_axioms axioms) rs) ∷ []
+
+-- the tests of a query on a document with these prefixes, axioms and counts: those in the order of its text, and behind
+-- them that the roles which it counts are simple
+abbrev pub query_tests : List Prefix → List Numbered → Counts → ℕ → List Item → List Test
+query_tests ps axioms s end is =
+    query_form_tests ps end is ++ roles_test axioms (first_line end is) (counted_by_first (first_query ps (after_all s (query_form_tests ps end is)) is))
+
+-- the same for a class expression
+abbrev pub class_query_tests : List Prefix → List Numbered → Counts → ℕ → List Item → List Test
+class_query_tests ps axioms s end is =
+    class_form_tests ps end is ++ roles_test axioms (first_line end is) (counted_in_first (first_class ps (after_all s (class_form_tests ps end is)) is))
+
 -- the counts from which a query on the document goes on
 abbrev pub query_start : Listed → ℕ → Counts
 query_start o nodes = record { axioms = length o.axioms; parts = 0; nodes = nodes; classes = o.classes; roles = o.roles }
 
--- the text is a query on a document with these prefixes and counts, no test of which fails; behind it are those
-pub record IsQuery (ps : List Prefix) (s : Counts) (text : List ℕ) (behind : Counts) (q : Query) : Type 0 where
+-- the text is a query on a document with these prefixes, axioms and counts, no test of which fails; behind it are those
+pub record IsQuery (ps : List Prefix) (axioms : List Numbered) (s : Counts) (text : List ℕ) (behind : Counts) (q : Query) : Type 0 where
   pub short : length text ≤ 2 ^ 24
   pub items : List Item
   pub end : ℕ
   pub made : HasItems text items end
-  pub holds : walked s (query_tests ps (end_line text) items) ≡ Ok behind
+  pub holds : walked s (query_tests ps axioms s (end_line text) items) ≡ Ok behind
   pub pair : first_query ps behind items ≡ q ∷ []
 
 -- the same for a class expression
-pub record IsClass (ps : List Prefix) (s : Counts) (text : List ℕ) (behind : Counts) (c : Concept) : Type 0 where
+pub record IsClass (ps : List Prefix) (axioms : List Numbered) (s : Counts) (text : List ℕ) (behind : Counts) (c : Concept) : Type 0 where
   pub short : length text ≤ 2 ^ 24
   pub items : List Item
   pub end : ℕ
   pub made : HasItems text items end
-  pub holds : walked s (class_query_tests ps (end_line text) items) ≡ Ok behind
+  pub holds : walked s (class_query_tests ps axioms s (end_line text) items) ≡ Ok behind
   pub class : first_class ps behind items ≡ c ∷ []
 
 -- why a text is refused whose items have these tests: for its length, else as above
@@ -97,18 +130,24 @@ pub data IsRefused (tests : List Item → List Test) (s : Counts) (text : List �
   long : 2 ^ 24 < length text → IsRefused tests s text (Limit which.Text 0)
   refused : (e : Refusal) → length text ≤ 2 ^ 24 → IsRefusedBy tests s text e → IsRefused tests s text e
 
--- why a text is no query, or no class expression, on a document with these prefixes and counts
-abbrev pub IsNoQuery : List Prefix → Counts → List ℕ → Refusal → Type 0
-IsNoQuery ps s text e = IsRefused (query_tests ps (end_line text)) s text e
+-- why a text is no query, or no class expression, on a document with these prefixes, axioms and counts
+abbrev pub IsNoQuery : List Prefix → List Numbered → Counts → List ℕ → Refusal → Type 0
+IsNoQuery ps axioms s text e = IsRefused (query_tests ps axioms s (end_line text)) s text e
 
-abbrev pub IsNoClass : List Prefix → Counts → List ℕ → Refusal → Type 0
-IsNoClass ps s text e = IsRefused (class_query_tests ps (end_line text)) s text e
+abbrev pub IsNoClass : List Prefix → List Numbered → Counts → List ℕ → Refusal → Type 0
+IsNoClass ps axioms s text e = IsRefused (class_query_tests ps axioms s (end_line text)) s text e
 
 -- what was read, unless something stands behind it
 abbrev pub read_alone : {X : Type 0} → List Item → Result X Refusal → Result X Refusal
 read_alone [] r = r
 read_alone (i ∷ is) (Ok x) = Err (BadShape (item_line i))
 read_alone (i ∷ is) (Err e) = Err e
+
+-- what was read, if the roles that it counts are simple
+abbrev pub read_simple : {X E : Type 0} → ℕ → X → Result Bool E → Result X Refusal
+read_simple line x (Ok true) = Ok x
+read_simple line x (Ok false) = Err (NotSimple line)
+read_simple line x (Err e) = Err NoMemory
 
 -- which two class expressions the items of a query stand for, whatever names are listed later
 abbrev pub MeansPair : List Prefix → Counts → Items → Query → Type 0

@@ -37,14 +37,13 @@ pub record Fails (tests : List Item → List Test) (s : Counts) (text : List ℕ
   pub made : HasItems text items end
   pub fails : walked s (tests items) ≡ Err e
 
--- Why a text is refused: for its first fault, else for the first of its tests that fails. Roles that are not simple are not
--- looked at yet.
+-- why a text is refused: for its first fault, else for the first of its tests that fails
 abbrev pub IsRefusedBy : (List Item → List Test) → Counts → List ℕ → Refusal → Type 0
 IsRefusedBy tests s text (Text fault) = text_fault text ≡ Some fault
 IsRefusedBy tests s text (BadShape line) = Fails tests s text (BadShape line)
 IsRefusedBy tests s text (UnknownPrefix line) = Fails tests s text (UnknownPrefix line)
 IsRefusedBy tests s text (PrefixClash line) = Fails tests s text (PrefixClash line)
 IsRefusedBy tests s text (Outside line construct) = Fails tests s text (Outside line construct)
-IsRefusedBy tests s text (NotSimple line) = ⊥
+IsRefusedBy tests s text (NotSimple line) = Fails tests s text (NotSimple line)
 IsRefusedBy tests s text (Limit w line) = Fails tests s text (Limit w line)
 IsRefusedBy tests s text NoMemory = ⊥

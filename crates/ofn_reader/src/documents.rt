@@ -4,7 +4,7 @@ ghost use Rattle.std.specs.List.{prefix_len};
 ghost use Rattle.ofn_expressions.specs.Counts.{Counts};
 ghost use Rattle.ofn_expressions.specs.Walk.{Judged, walked};
 ghost use Rattle.ofn_expressions.specs.Names.{predeclared};
-ghost use Rattle.ofn_reader.specs.Documents.{start, is_prefix_group, ontology_tests, ontology_axioms, document_tests, document_axioms, document_prefixes, IsDocument, IsNoDocument};
+ghost use Rattle.ofn_reader.specs.Documents.{start, is_prefix_group, ontology_tests, ontology_axioms, form_tests, all_simple_tests, document_tests, document_axioms, document_prefixes, IsDocument, IsNoDocument};
 ghost use Rattle.ofn_expressions.specs.declared.refusal.Refusal.TheVariants.{NoMemory};
 
 use crate::axioms::read_axioms;
@@ -14,6 +14,7 @@ use crate::texts::read_items;
 use ofn_expressions::{MAX_NODES, Prefixes, Reading, Refusal, item_line};
 use ofn_tree::{Tree, end_line};
 use shq_terms::Ontology;
+use simple_roles::first_not_simple;
 use std::alloc::Global;
 use std::marker::Model;
 
@@ -99,7 +100,7 @@ fn read_document(
     state: &mut Reading,
 ) -> Result<(), Refusal>
     requires { length state.old.read ≡ state.old.counts.axioms }
-    ensures tests { Judged result state.old.counts (document_tests prefixes.old end_line items.now) state.new.counts }
+    ensures tests { Judged result state.old.counts (form_tests prefixes.old end_line items.now) state.new.counts }
     ensures declared { OnOk result (prefixes.new ≡ document_prefixes prefixes.old items.now) }
     ensures value { OnOk result (state.old.read ++ document_axioms prefixes.old state.new.counts items.now ≡ state.new.read) }
 {
@@ -108,6 +109,33 @@ fn read_document(
     read_ontology_group(alloc, behind, end_line, prefixes, state)
 }
 
+// Reads a document, whose roles are not tested yet.
+fn read_form(
+    alloc: Global,
+    items: &[Tree<'_>],
+    end_line: u32,
+) -> Result<(Ontology, Context), Refusal>
+    ensures document { IfOk result (λ r. (behind : Counts) × (walked start (form_tests predeclared end_line items.now) ≡ Ok behind) × (r.0 ≡ record { axioms = document_axioms predeclared behind items.now; classes = behind.classes; roles = behind.roles }) × (r.1 ≡ record { prefixes = document_prefixes predeclared items.now; nodes = behind.nodes })) }
+    ensures refused { IfErr result (λ e. e ≢ NoMemory → walked start (form_tests predeclared end_line items.now) ≡ Err e) }
+{
+    let mut prefixes = Prefixes::predeclared(alloc)?;
+    let mut state = Reading::new(Ontology::new(alloc), 0, 0);
+    read_document(alloc, items, end_line, &mut prefixes, &mut state)?;
+    let (ontology, nodes) = state.into_parts();
+    Ok((ontology, Context { prefixes, nodes }))
+}
+
+// Tests that the roles which axioms count are simple.
+fn test_roles(alloc: Global, ontology: &Ontology) -> Result<(), Refusal>
+    ensures { (s : Counts) → Judged result s (all_simple_tests ontology.now.axioms) s }
+{
+    match first_not_simple(alloc, ontology)? {
+        Some(line) => Err(Refusal::NotSimple(line)),
+        None => Ok(()),
+    }
+}
+
+#[tactic(auto, using(crate::proofs::Simple::document_refused, crate::proofs::Simple::document_walk))]
 fn read_from_items(
     alloc: Global,
     items: &[Tree<'_>],
@@ -116,11 +144,9 @@ fn read_from_items(
     ensures document { IfOk result (λ r. (behind : Counts) × (walked start (document_tests predeclared end_line items.now) ≡ Ok behind) × (r.0 ≡ record { axioms = document_axioms predeclared behind items.now; classes = behind.classes; roles = behind.roles }) × (r.1 ≡ record { prefixes = document_prefixes predeclared items.now; nodes = behind.nodes })) }
     ensures refused { IfErr result (λ e. e ≢ NoMemory → walked start (document_tests predeclared end_line items.now) ≡ Err e) }
 {
-    let mut prefixes = Prefixes::predeclared(alloc)?;
-    let mut state = Reading::new(Ontology::new(alloc), 0, 0);
-    read_document(alloc, items, end_line, &mut prefixes, &mut state)?;
-    let (ontology, nodes) = state.into_parts();
-    Ok((ontology, Context { prefixes, nodes }))
+    let (ontology, context) = read_form(alloc, items, end_line)?;
+    test_roles(alloc, &ontology)?;
+    Ok((ontology, context))
 }
 
 /// Reads the document that the text begins with: declarations of prefixes, and one group `Ontology` of axioms (OWL 2
@@ -131,7 +157,8 @@ fn read_from_items(
 ///
 /// # Errors
 ///
-/// The first fault of the text, else what is wrong first in the order of the text, and `NoMemory`.
+/// The first fault of the text, else what is wrong first in the order of the text, else the least numbered axiom with a
+/// number restriction over a role that is not simple, or with such a functional role; and `NoMemory`.
 pub fn read_ontology(alloc: Global, text: &[u8]) -> Result<(Ontology, Context, usize), Refusal>
     requires { length text.now ≤ 4294967293 }
     ensures document { IfOk result (λ r. IsDocument text.now r.0 r.1 r.2) }

@@ -6,7 +6,7 @@ use ofn_expressions::{Construct, excluded_axiom};
 
 /// A kind of numbered axiom.
 #[derive(Clone, Copy, Debug, PartialEq, Eq)]
-pub(crate) enum AxiomKind {
+pub enum AxiomKind {
     SubClassOf,
     EquivalentClasses,
     DisjointClasses,

@@ -14,6 +14,7 @@ mod queries;
 mod texts;
 
 pub use documents::{Context, read_ontology};
+pub use keywords::AxiomKind;
 pub use laws::{
     class_refusals_are_unique, classes_are_not_refused, classes_are_unique,
     document_refusals_are_unique, documents_are_not_refused, documents_are_unique,
@@ -21,6 +22,3 @@ pub use laws::{
 };
 pub use ofn_expressions::{Construct, Prefixes, Refusal, Which};
 pub use queries::{read_class, read_query};
-
-#[cfg(test)]
-mod tests;

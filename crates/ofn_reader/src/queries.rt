@@ -1,12 +1,12 @@
 // Queries on a document.
-ghost use Rattle.std.specs.Prelude.{◌≡◌, ◌≢◌, ℕ, ◌^◌, ◌≤◌, List, ◌∷◌, [], Ok, Err, IfOk, IfErr, OnOk, OnErr, length};
+ghost use Rattle.std.specs.Prelude.{◌≡◌, ◌≢◌, ℕ, ◌^◌, ◌≤◌, List, ◌∷◌, ◌++◌, [], Ok, Err, IfOk, IfErr, OnOk, OnErr, length};
 ghost use Rattle.ofn_tree.specs.Items.{Item, items_of};
 ghost use Rattle.ofn_expressions.specs.Counts.{Counts, Grows};
 ghost use Rattle.ofn_expressions.specs.Walk.{Test, Judged, walked};
 ghost use Rattle.ofn_expressions.specs.Classes.{IsListed};
 ghost use Rattle.ofn_expressions.specs.declared.refusal.Refusal.TheVariants.{NoMemory};
 ghost use Rattle.ofn_reader.specs.Texts.{HasItems};
-ghost use Rattle.ofn_reader.specs.Queries.{query_group_tests, axiom_query_tests, query_tests, class_query_tests, first_query, first_class, query_start, IsQuery, IsNoQuery, IsClass, IsNoClass, IsRefused, read_alone, MeansPair, MeansQuery, AreBothListed};
+ghost use Rattle.ofn_reader.specs.Queries.{query_group_tests, axiom_query_tests, query_form_tests, class_form_tests, query_tests, class_query_tests, roles_test, counted_by_first, counted_in_first, first_line, first_query, first_class, query_start, IsQuery, IsNoQuery, IsClass, IsNoClass, IsRefused, read_alone, read_simple, MeansPair, MeansQuery, AreBothListed};
 
 use crate::groups::without_annotations;
 use crate::keywords::{AxiomKeyword, AxiomKind, axiom_keyword};
@@ -16,6 +16,7 @@ use crate::{Context, Prefixes, Refusal, Which};
 use ofn_expressions::{MAX_NODES, Reading, item_line};
 use ofn_tree::{Form, Tree, end_line};
 use shq_terms::{Concept, Ontology, Query};
+use simple_roles::{class_is_simple, query_is_simple};
 use std::alloc::Global;
 use std::mem;
 
@@ -109,7 +110,7 @@ fn read_query_items(
     prefixes: &Prefixes,
     state: &mut Reading,
 ) -> Result<Query, Refusal>
-    ensures tests { Judged result state.old.counts (query_tests prefixes.now end_line items.now) state.new.counts }
+    ensures tests { Judged result state.old.counts (query_form_tests prefixes.now end_line items.now) state.new.counts }
     ensures grown { Grows state.old state.new }
     ensures pair { IfOk result (λ q. first_query prefixes.now state.new.counts items.now ≡ q ∷ []) }
     ensures listed { IfOk result (AreBothListed state.new.counts) }
@@ -128,7 +129,7 @@ fn read_class_items(
     prefixes: &Prefixes,
     state: &mut Reading,
 ) -> Result<Concept, Refusal>
-    ensures tests { Judged result state.old.counts (class_query_tests prefixes.now end_line items.now) state.new.counts }
+    ensures tests { Judged result state.old.counts (class_form_tests prefixes.now end_line items.now) state.new.counts }
     ensures grown { Grows state.old state.new }
     ensures class { IfOk result (λ c. first_class prefixes.now state.new.counts items.now ≡ c ∷ []) }
     ensures listed { IfOk result (IsListed state.new.counts) }
@@ -138,6 +139,74 @@ fn read_class_items(
     }
     let class = ofn_expressions::read_class(alloc, &items[0], prefixes, state);
     alone(class, items.split_at(1).1)
+}
+
+fn first_line(items: &[Tree<'_>], end_line: u32) -> u32
+    ensures { result ≡ first_line end_line items.now }
+{
+    match items.first() {
+        Some(item) => item_line(item),
+        None => end_line,
+    }
+}
+
+// What was read, if the roles that it counts are simple.
+fn if_simple<T: Drop>(
+    read: T,
+    simple: Result<bool, shq_base::NoMemory>,
+    line: u32,
+) -> Result<T, Refusal>
+    ensures { result ≡ read_simple line read simple }
+{
+    match simple {
+        Ok(true) => Ok(read),
+        Ok(false) => {
+            drop(read);
+            Err(Refusal::NotSimple(line))
+        }
+        Err(_) => {
+            drop(read);
+            Err(Refusal::NoMemory)
+        }
+    }
+}
+
+// The query that was read, if the roles that it counts are simple.
+fn simple_query(
+    alloc: Global,
+    ontology: &Ontology,
+    read: Result<Query, Refusal>,
+    line: u32,
+) -> Result<Query, Refusal>
+    ensures same { IfOk result (λ q. read ≡ Ok q) }
+    ensures tests { (s new : Counts) (ts : List Test) (qs : List Query) → Judged read s ts new → IfOk read (λ q. qs ≡ q ∷ []) → Judged result s (ts ++ roles_test ontology.now.axioms line (counted_by_first qs)) new }
+{
+    match read {
+        Ok(query) => {
+            let simple = query_is_simple(alloc, ontology, &query);
+            if_simple(query, simple, line)
+        }
+        Err(refusal) => Err(refusal),
+    }
+}
+
+// The same for a class expression.
+fn simple_class(
+    alloc: Global,
+    ontology: &Ontology,
+    read: Result<Concept, Refusal>,
+    line: u32,
+) -> Result<Concept, Refusal>
+    ensures same { IfOk result (λ c. read ≡ Ok c) }
+    ensures tests { (s new : Counts) (ts : List Test) (cs : List Concept) → Judged read s ts new → IfOk read (λ c. cs ≡ c ∷ []) → Judged result s (ts ++ roles_test ontology.now.axioms line (counted_in_first cs)) new }
+{
+    match read {
+        Ok(class) => {
+            let simple = class_is_simple(alloc, ontology, &class);
+            if_simple(class, simple, line)
+        }
+        Err(refusal) => Err(refusal),
+    }
 }
 
 // Reads the query and lists its names. After a refusal the names are cut again.
@@ -150,8 +219,8 @@ fn read_query_on(
     ontology: &mut Ontology,
 ) -> Result<Query, Refusal>
     requires { nodes ≤ MAX_NODES }
-    ensures query { IfOk result (λ q. (behind : Counts) × (walked (query_start ontology.old nodes) (query_tests prefixes.now end_line items.now) ≡ Ok behind) × (first_query prefixes.now behind items.now ≡ q ∷ []) × AreBothListed behind q × (ontology.new ≡ record ontology.old { classes = behind.classes; roles = behind.roles })) }
-    ensures refused { IfErr result (λ e. e ≢ NoMemory → walked (query_start ontology.old nodes) (query_tests prefixes.now end_line items.now) ≡ Err e) }
+    ensures query { IfOk result (λ q. (behind : Counts) × (walked (query_start ontology.old nodes) (query_tests prefixes.now ontology.old.axioms (query_start ontology.old nodes) end_line items.now) ≡ Ok behind) × (first_query prefixes.now behind items.now ≡ q ∷ []) × AreBothListed behind q × (ontology.new ≡ record ontology.old { classes = behind.classes; roles = behind.roles })) }
+    ensures refused { IfErr result (λ e. e ≢ NoMemory → walked (query_start ontology.old nodes) (query_tests prefixes.now ontology.old.axioms (query_start ontology.old nodes) end_line items.now) ≡ Err e) }
     ensures unchanged { OnErr result (ontology.new ≡ ontology.old) }
 {
     let classes = ontology.class_count();
@@ -161,6 +230,7 @@ fn read_query_on(
     let mut state = Reading::new(own, axioms, nodes);
     let read = read_query_items(alloc, items, end_line, prefixes, &mut state);
     let (mut own, _) = state.into_parts();
+    let read = simple_query(alloc, &own, read, first_line(items, end_line));
     if read.is_err() {
         own.cut_names(classes, roles);
     }
@@ -178,8 +248,8 @@ fn read_class_on(
     ontology: &mut Ontology,
 ) -> Result<Concept, Refusal>
     requires { nodes ≤ MAX_NODES }
-    ensures class { IfOk result (λ c. (behind : Counts) × (walked (query_start ontology.old nodes) (class_query_tests prefixes.now end_line items.now) ≡ Ok behind) × (first_class prefixes.now behind items.now ≡ c ∷ []) × IsListed behind c × (ontology.new ≡ record ontology.old { classes = behind.classes; roles = behind.roles })) }
-    ensures refused { IfErr result (λ e. e ≢ NoMemory → walked (query_start ontology.old nodes) (class_query_tests prefixes.now end_line items.now) ≡ Err e) }
+    ensures class { IfOk result (λ c. (behind : Counts) × (walked (query_start ontology.old nodes) (class_query_tests prefixes.now ontology.old.axioms (query_start ontology.old nodes) end_line items.now) ≡ Ok behind) × (first_class prefixes.now behind items.now ≡ c ∷ []) × IsListed behind c × (ontology.new ≡ record ontology.old { classes = behind.classes; roles = behind.roles })) }
+    ensures refused { IfErr result (λ e. e ≢ NoMemory → walked (query_start ontology.old nodes) (class_query_tests prefixes.now ontology.old.axioms (query_start ontology.old nodes) end_line items.now) ≡ Err e) }
     ensures unchanged { OnErr result (ontology.new ≡ ontology.old) }
 {
     let classes = ontology.class_count();
@@ -189,6 +259,7 @@ fn read_class_on(
     let mut state = Reading::new(own, axioms, nodes);
     let class = read_class_items(alloc, items, end_line, prefixes, &mut state);
     let (mut own, _) = state.into_parts();
+    let class = simple_class(alloc, &own, class, first_line(items, end_line));
     if class.is_err() {
         own.cut_names(classes, roles);
     }
@@ -202,15 +273,16 @@ fn read_class_on(
 /// # Errors
 ///
 /// `Limit` of the text where it has more than 16,777,216 bytes; the first fault of the text, else what is wrong first in
-/// the order of the text; and `NoMemory`. The ontology is then as before.
+/// the order of the text; `NotSimple` where a number restriction is over a role that is not simple in the document; and
+/// `NoMemory`. The ontology is then as before.
 pub fn read_query(
     alloc: Global,
     text: &str,
     ontology: &mut Ontology,
     context: &Context,
 ) -> Result<Query, Refusal>
-    ensures query { IfOk result (λ q. (behind : Counts) × IsQuery context.now.prefixes (query_start ontology.old context.now.nodes) text.now behind q × AreBothListed behind q × (ontology.new ≡ record ontology.old { classes = behind.classes; roles = behind.roles })) }
-    ensures refused { IfErr result (λ e. e ≢ NoMemory → IsNoQuery context.now.prefixes (query_start ontology.old context.now.nodes) text.now e) }
+    ensures query { IfOk result (λ q. (behind : Counts) × IsQuery context.now.prefixes ontology.old.axioms (query_start ontology.old context.now.nodes) text.now behind q × AreBothListed behind q × (ontology.new ≡ record ontology.old { classes = behind.classes; roles = behind.roles })) }
+    ensures refused { IfErr result (λ e. e ≢ NoMemory → IsNoQuery context.now.prefixes ontology.old.axioms (query_start ontology.old context.now.nodes) text.now e) }
     ensures unchanged { OnErr result (ontology.new ≡ ontology.old) }
 {
     let bytes = text.as_bytes();
@@ -231,15 +303,16 @@ pub fn read_query(
 /// # Errors
 ///
 /// `Limit` of the text where it has more than 16,777,216 bytes; the first fault of the text, else what is wrong first in
-/// the order of the text; and `NoMemory`. The ontology is then as before.
+/// the order of the text; `NotSimple` where a number restriction is over a role that is not simple in the document; and
+/// `NoMemory`. The ontology is then as before.
 pub fn read_class(
     alloc: Global,
     text: &str,
     ontology: &mut Ontology,
     context: &Context,
 ) -> Result<Concept, Refusal>
-    ensures class { IfOk result (λ c. (behind : Counts) × IsClass context.now.prefixes (query_start ontology.old context.now.nodes) text.now behind c × IsListed behind c × (ontology.new ≡ record ontology.old { classes = behind.classes; roles = behind.roles })) }
-    ensures refused { IfErr result (λ e. e ≢ NoMemory → IsNoClass context.now.prefixes (query_start ontology.old context.now.nodes) text.now e) }
+    ensures class { IfOk result (λ c. (behind : Counts) × IsClass context.now.prefixes ontology.old.axioms (query_start ontology.old context.now.nodes) text.now behind c × IsListed behind c × (ontology.new ≡ record ontology.old { classes = behind.classes; roles = behind.roles })) }
+    ensures refused { IfErr result (λ e. e ≢ NoMemory → IsNoClass context.now.prefixes ontology.old.axioms (query_start ontology.old context.now.nodes) text.now e) }
     ensures unchanged { OnErr result (ontology.new ≡ ontology.old) }
 {
     let bytes = text.as_bytes();

@@ -10,6 +10,7 @@ use Rattle.finite_model.specs.Kept.{meaning}
 use Rattle.ofn_expressions.specs.Counts.{Counts}
 use Rattle.ofn_reader.specs.Kept.{Kept}
 use Rattle.ofn_reader.specs.Documents.{IsDocument}
+use Rattle.ofn_reader.specs.Queries.{query_start}
 use Rattle.ofn_reader.proofs.OneReason.{document_refusals, query_refusals}
 use Rattle.ofn_reader.proofs.Unique.{documents, documents_not_refused, queries, queries_not_refused}
 use Rattle.ontology_cli.specs.Words.{Job, check, job_of}
@@ -70,7 +71,7 @@ module _ (query bytes : List ℕ) (o : Listed) (kept : Kept) (end : ℕ) where
   same_asked : (a b : Counts) (x y : Asked) (r q : Reply) → IsAsked o kept query a x → IsAsked o kept query b y → Shows (with_names o a) x (certificate (with_names o a) (drop end bytes)) r
       → Shows (with_names o b) y (certificate (with_names o b) (drop end bytes)) q → ◌≡◌ {A = Answer} (reply_answer r) (reply_answer q)
   same_asked a b x y r q p s shows tells =
-      let same = queries _ _ query a b x y p s in
+      let same = queries kept.prefixes o.axioms (query_start o kept.nodes) query a b x y p s in
       same_shows (with_names o b) y (certificate (with_names o b) (drop end bytes)) r q
       (subst (λ z. Shows (with_names o b) z (certificate (with_names o b) (drop end bytes)) r) same.1 (subst (λ d. Shows (with_names o d) x (certificate (with_names o d) (drop end bytes)) r) same.0 shows)) tells
 
@@ -86,12 +87,12 @@ same_said query bytes _ _ (no_document e why) (no_query o k d f is because) = ab
 same_said query bytes _ _ (no_document e why) (shown o k d b x q is asked shows) = absurd (documents_not_refused bytes o k d e is why)
 same_said query bytes _ _ (no_query o k d f is because) (no_document e why) = absurd (documents_not_refused bytes o k d e is why)
 same_said query bytes _ _ (no_query o k d e is why) (no_query p j c f are because) =
-    ap (λ x. reply_answer (refused_query x)) (query_refusals _ _ query e f (moved (λ l i n. IsNotAsked l i query e) bytes o p k j d c is are why) because)
+    ap (λ x. reply_answer (refused_query x)) (query_refusals j.prefixes p.axioms (query_start p j.nodes) query e f (moved (λ l i n. IsNotAsked l i query e) bytes o p k j d c is are why) because)
 same_said query bytes _ _ (no_query o k d e is why) (shown p j c b x q are asked shows) =
-    absurd (queries_not_refused _ _ query b x e asked (moved (λ l i n. IsNotAsked l i query e) bytes o p k j d c is are why))
+    absurd (queries_not_refused j.prefixes p.axioms (query_start p j.nodes) query b x e asked (moved (λ l i n. IsNotAsked l i query e) bytes o p k j d c is are why))
 same_said query bytes _ _ (shown o k d b x r is asked shows) (no_document e why) = absurd (documents_not_refused bytes o k d e is why)
 same_said query bytes _ _ (shown o k d b x r is asked shows) (no_query p j c e are why) =
-    absurd (queries_not_refused _ _ query b x e asked (moved (λ l i n. IsNotAsked l i query e) bytes p o j k c d are is why))
+    absurd (queries_not_refused k.prefixes o.axioms (query_start o k.nodes) query b x e asked (moved (λ l i n. IsNotAsked l i query e) bytes p o j k c d are is why))
 same_said query bytes _ _ (shown o k d b x r is asked shows) (shown p j c a y q are sought tells) =
     let there = moved (λ l i n. IsAsked l i query b x × Shows (with_names l b) x (certificate (with_names l b) (drop n bytes)) r) bytes o p k j d c is are (asked, shows) in
     same_asked query bytes p j c b a x y r q there.0 sought there.1 tells

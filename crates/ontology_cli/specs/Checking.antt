@@ -25,11 +25,11 @@ with_names o behind = record o { classes = behind.classes; roles = behind.roles 
 
 -- the text is this query on a document, and they list these counts together
 abbrev pub IsAsked : Listed → Kept → List ℕ → Counts → Asked → Type 0
-IsAsked o kept query behind asked = IsQuery kept.prefixes (query_start o kept.nodes) query behind asked
+IsAsked o kept query behind asked = IsQuery kept.prefixes o.axioms (query_start o kept.nodes) query behind asked
 
 -- why the text is no query on a document
 abbrev pub IsNotAsked : Listed → Kept → List ℕ → Refusal → Type 0
-IsNotAsked o kept query e = IsNoQuery kept.prefixes (query_start o kept.nodes) query e
+IsNotAsked o kept query e = IsNoQuery kept.prefixes o.axioms (query_start o kept.nodes) query e
 
 -- the query on a document, and the model of what follows the document, over the names of both
 pub record IsClaim (o : Listed) (kept : Kept) (query rest : List ℕ) (both : Listed) (claim : Claim) : Type 0 where

@@ -269,6 +269,35 @@ fn refuses_queries(rt: HostRuntime) -> Result<(), Fail> {
     Ok(())
 }
 
+// The role axioms of a document, on its lines 3 and 4.
+const ROLES: &str = "TransitiveObjectProperty(:R)\nSubObjectPropertyOf(:R :S)\n";
+
+#[test]
+fn refuses_counted_roles(rt: HostRuntime) -> Result<(), Fail> {
+    let cases: [(&str, &str, &str); 2] = [
+        (
+            "FunctionalObjectProperty(:S)",
+            "SubClassOf(:A :B)",
+            "outside not-simple line 5\n",
+        ),
+        (
+            "",
+            "SubClassOf(ObjectMinCardinality(2 :S) :A)",
+            "outside not-simple query\n",
+        ),
+    ];
+    for (last, query, text) in cases {
+        let mut axioms = String::from_str(rt.alloc(), ROLES)?;
+        axioms.push_str(last)?;
+        let document = document(rt.alloc(), &axioms)?;
+        let words = ["check", query];
+        let (answer, sink) = run_on(rt.alloc(), &words, [document.as_str(), ""], [0, 0])?;
+        assert!(rt; sink.taken() == text.as_bytes(), "{text}");
+        assert_eq!(rt; answer, Status::Outside, "{text}");
+    }
+    Ok(())
+}
+
 #[test]
 fn answers_bad_words_without_a_read(rt: HostRuntime) -> Result<(), Fail> {
     let cases: [&[&str]; 5] = [

@@ -1,7 +1,7 @@
 // Documents and queries that were worked out by hand.
 ghost use Rattle.std.specs.Prelude.{◌≤◌, length};
 
-use crate::{Construct, Context, Refusal, Which, read_class, read_ontology, read_query};
+use ofn_reader::{Construct, Context, Refusal, Which, read_class, read_ontology, read_query};
 use ofn_tree::TextFault;
 use shq_terms::{Axiom, Node, Ontology};
 use std::alloc::{AllocError, Global};
@@ -382,6 +382,66 @@ fn refuses_classes(rt: HostRuntime) -> Result<(), Fail> {
         assert_eq!(rt; refused, Some(want), "{text}");
         assert_eq!(rt; ontology.class_count(), 2, "{text}");
     }
+    Ok(())
+}
+
+// A document in which the role q is below r, and r below s; r is transitive. The axioms stand on line 4 and behind it.
+fn roles_and(alloc: Global, axioms: &str) -> Result<String, AllocError> {
+    let mut text = String::from_str(alloc, "TransitiveObjectProperty(:r)")?;
+    text.push_str("SubObjectPropertyOf(:q :r)SubObjectPropertyOf(:r :s)\n")?;
+    text.push_str(axioms)?;
+    document_of(alloc, &text)
+}
+
+#[test]
+fn refuses_counted_roles(rt: HostRuntime) -> Result<(), Fail> {
+    let cases: [(&str, Option<Refusal>); 5] = [
+        ("FunctionalObjectProperty(:q)", None),
+        ("FunctionalObjectProperty(:s)", Some(Refusal::NotSimple(4))),
+        (
+            "SubClassOf(:A ObjectSomeValuesFrom(:q ObjectUnionOf(:B ObjectMaxCardinality(0 :s))))",
+            Some(Refusal::NotSimple(4)),
+        ),
+        // The least numbered axiom is told.
+        (
+            "\nSubClassOf(ObjectMinCardinality(2 :r) :A)\nFunctionalObjectProperty(:s)",
+            Some(Refusal::NotSimple(5)),
+        ),
+        // Each other refusal comes before.
+        (
+            "FunctionalObjectProperty(:s)\nHasKey()",
+            Some(Refusal::Outside(5, Construct::HasKey)),
+        ),
+    ];
+    for (axioms, want) in cases {
+        let text = roles_and(rt.alloc(), axioms)?;
+        assert_eq!(rt; counts(rt.alloc(), &text).err(), want, "{axioms}");
+    }
+    Ok(())
+}
+
+#[test]
+fn refuses_queries_of_counted_roles(rt: HostRuntime) -> Result<(), Fail> {
+    let alloc = rt.alloc();
+    let text = roles_and(alloc, "")?;
+    let (mut ontology, context, _) = read_ontology(alloc, short_bytes(&text))?;
+    for (class, simple) in [
+        ("ObjectMinCardinality(1 :q)", true),
+        ("ObjectExactCardinality(0 :s)", false),
+        ("ObjectMaxCardinality(2 :t)", true),
+    ] {
+        let read = read_class(alloc, class, &mut ontology, &context);
+        assert_eq!(rt; read.is_ok(), simple, "{class}");
+    }
+    let refused = read_query(
+        alloc,
+        "SubClassOf(:A\nObjectMinCardinality(2 :s))",
+        &mut ontology,
+        &context,
+    );
+    assert_eq!(rt; refused.err(), Some(Refusal::NotSimple(1)));
+    assert_eq!(rt; ontology.role_count(), 4);
+    assert_eq!(rt; ontology.class_count(), 0);
     Ok(())
 }
 

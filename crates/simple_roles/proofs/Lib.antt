@@ -1,0 +1,4 @@
+pub mod Lists
+pub mod Tested
+pub mod Numbers
+pub mod Plain
