@@ -4,14 +4,14 @@ use Rattle.std.specs.Prelude.{slice_get, if◌then◌else◌}
 use Rattle.std.specs.List.{list_any}
 use Rattle.std.proofs.lemmas.List.{map-append}
 use Rattle.shape_specs.specs.Shape.{shape_of, has_parts_below, is_normal, IsTable}
-use Rattle.shq_nnf.specs.declared.shapes.Kept.{Kept}
-use Rattle.shq_nnf.specs.contracts.shapes.KeptPartialEq.TheImpl.{ghosts}
+use Rattle.shq_nnf.specs.declared.shapes.KeptShape.{KeptShape}
+use Rattle.shq_nnf.specs.contracts.shapes.KeptShapePartialEq.TheImpl.{ghosts}
 use Rattle.shq_nnf.specs.Kept.{form_of_kept}
 use Rattle.shq_nnf.specs.Numbers.{IsPut}
 use Rattle.shq_nnf.proofs.Same.{same_form, form_same}
 use Rattle.shq_nnf.proofs.Grown.{table_with_new}
 
-pub found_at : (k : Kept) (keys : List Kept) (c : ℕ) → c < length keys → shape_of (map form_of_kept keys) c ≡ form_of_kept k → list_any (ghosts.eq k) keys ≡ true
+pub found_at : (k : KeptShape) (keys : List KeptShape) (c : ℕ) → c < length keys → shape_of (map form_of_kept keys) c ≡ form_of_kept k → list_any (ghosts.eq k) keys ≡ true
 found_at k [] c lt e = absurd (omega arith)
 found_at k (x ∷ xs) zero lt e = ap (λ b. b || list_any (ghosts.eq k) xs) (form_same k x (sym e))
 found_at k (x ∷ xs) (suc c) lt e = by (ghosts.eq k x) (found_at k xs c (omega arith) e)
@@ -20,14 +20,14 @@ found_at k (x ∷ xs) (suc c) lt e = by (ghosts.eq k x) (found_at k xs c (omega 
     by true h = refl
     by false h = h
 
-length_map : (keys : List Kept) → length (map form_of_kept keys) ≡ length keys
+length_map : (keys : List KeptShape) → length (map form_of_kept keys) ≡ length keys
 length_map [] = refl
 length_map (k ∷ ks) = ap suc (length_map ks)
 
-abbrev with_key : Bool → List Kept → Kept → List Kept
+abbrev with_key : Bool → List KeptShape → KeptShape → List KeptShape
 with_key b keys k = if b then keys else keys ++ k ∷ []
 
-module _ (keys after : List Kept) (k : Kept) (inserted : after ≡ with_key (list_any (ghosts.eq k) keys) keys k) where
+module _ (keys after : List KeptShape) (k : KeptShape) (inserted : after ≡ with_key (list_any (ghosts.eq k) keys) keys k) where
   pub length_inserted : length after ≤ length keys + 1
   length_inserted = by (list_any (ghosts.eq k) keys) inserted
     where
@@ -53,12 +53,12 @@ module _ (keys after : List Kept) (k : Kept) (inserted : after ≡ with_key (lis
           λ c lt same. let found : list_any (ghosts.eq k) keys ≡ true = found_at k keys c (omega (arith, length_map keys)) same in absurd (cc (sym found ∙ e)) in
           subst IsTable (sym is) (table_with_new (map form_of_kept keys) (form_of_kept k) good below normal absent)
 
-shape_at : (keys : List Kept) (n : ℕ) (k : Kept) → slice_get keys n ≡ Some k → (n < length (map form_of_kept keys)) × (shape_of (map form_of_kept keys) n ≡ form_of_kept k)
+shape_at : (keys : List KeptShape) (n : ℕ) (k : KeptShape) → slice_get keys n ≡ Some k → (n < length (map form_of_kept keys)) × (shape_of (map form_of_kept keys) n ≡ form_of_kept k)
 shape_at [] n k h = cc
 shape_at (x ∷ xs) zero k h = let e : x ≡ k = cc in (omega arith, ap form_of_kept e)
 shape_at (x ∷ xs) (suc n) k h = let t = shape_at xs n k h in (omega (arith, t.0), t.1)
 
-pub put_inserted : (keys after : List Kept) (k x : Kept) (n : ℕ) → after ≡ with_key (list_any (ghosts.eq k) keys) keys k → slice_get after n ≡ Some x → ghosts.eq k x ≡ true → IsPut (map form_of_kept keys) (form_of_kept k) (map form_of_kept after) n
+pub put_inserted : (keys after : List KeptShape) (k x : KeptShape) (n : ℕ) → after ≡ with_key (list_any (ghosts.eq k) keys) keys k → slice_get after n ≡ Some x → ghosts.eq k x ≡ true → IsPut (map form_of_kept keys) (form_of_kept k) (map form_of_kept after) n
 put_inserted keys after k x n inserted at same =
     let t = shape_at after n x at in
     record { listed = t.0; has_shape = t.1 ∙ sym (same_form k x same); grown = grown_inserted keys after k inserted }

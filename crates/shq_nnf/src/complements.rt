@@ -8,7 +8,7 @@ ghost use Rattle.shq_nnf.specs.Bounds.{joined_form, quantified_form};
 ghost use Rattle.shq_nnf.specs.Kept.{form_of_kept};
 ghost use Rattle.shq_nnf.specs.Numbers.{Extends, IsNumber, AreNumbers};
 
-use crate::shapes::{Kept, owned};
+use crate::shapes::{KeptShape, owned};
 use crate::{Concepts, NoMemory};
 
 impl Concepts {
@@ -21,20 +21,20 @@ impl Concepts {
     {
         let shape = self.copied(concept)?;
         match &shape {
-            Kept::Top => self.constant(true),
-            Kept::Bottom => self.constant(false),
-            Kept::Name(class) => self.literal(*class, true),
-            Kept::NotName(class) => self.literal(*class, false),
-            Kept::And(parts) => self.joined_complement(true, parts, concept),
-            Kept::Or(parts) => self.joined_complement(false, parts, concept),
-            Kept::SomeOf(role, filler) => self.quantified_complement(true, *role, *filler),
-            Kept::AllOf(role, filler) => self.quantified_complement(false, *role, *filler),
-            Kept::Min(count, role, filler) => self.at_most(*count - 1, *role, *filler),
-            Kept::Max(count, role, filler) => self.at_least(*count + 1, *role, *filler),
+            KeptShape::Top => self.constant(true),
+            KeptShape::Bottom => self.constant(false),
+            KeptShape::Name(class) => self.literal(*class, true),
+            KeptShape::NotName(class) => self.literal(*class, false),
+            KeptShape::And(parts) => self.joined_complement(true, parts, concept),
+            KeptShape::Or(parts) => self.joined_complement(false, parts, concept),
+            KeptShape::SomeOf(role, filler) => self.quantified_complement(true, *role, *filler),
+            KeptShape::AllOf(role, filler) => self.quantified_complement(false, *role, *filler),
+            KeptShape::Min(count, role, filler) => self.at_most(*count - 1, *role, *filler),
+            KeptShape::Max(count, role, filler) => self.at_least(*count + 1, *role, *filler),
         }
     }
 
-    fn copied(&self, concept: u32) -> Result<Kept, NoMemory>
+    fn copied(&self, concept: u32) -> Result<KeptShape, NoMemory>
         requires { concept < length self.now }
         ensures shape { IfOk result (λ kept. form_of_kept kept ≡ shape_of self.now concept) }
         ensures table { IsTable self.now }

@@ -25,7 +25,7 @@ pub enum Shape<'a> {
 
 /// A shape that owns the numbers of its parts.
 #[derive(Debug, PartialEq, Eq, Hash, Drop)]
-pub(crate) enum Kept {
+pub enum KeptShape {
     Top,
     Bottom,
     Name(u32),
@@ -38,39 +38,41 @@ pub(crate) enum Kept {
     Max(u32, u32, u32),
 }
 
-/// The shape that is kept.
-pub(crate) fn shown(kept: &Kept) -> Shape<'_>
-    ensures { form_of result ≡ form_of_kept kept.now }
-{
-    match kept {
-        Kept::Top => Shape::Top,
-        Kept::Bottom => Shape::Bottom,
-        Kept::Name(class) => Shape::Name(*class),
-        Kept::NotName(class) => Shape::NotName(*class),
-        Kept::And(parts) => Shape::And(parts),
-        Kept::Or(parts) => Shape::Or(parts),
-        Kept::SomeOf(role, filler) => Shape::SomeOf(*role, *filler),
-        Kept::AllOf(role, filler) => Shape::AllOf(*role, *filler),
-        Kept::Min(count, role, filler) => Shape::Min(*count, *role, *filler),
-        Kept::Max(count, role, filler) => Shape::Max(*count, *role, *filler),
+impl KeptShape {
+    /// The shape that is kept.
+    pub fn shape(&self) -> Shape<'_>
+        ensures { form_of result ≡ form_of_kept self.now }
+    {
+        match self {
+            KeptShape::Top => Shape::Top,
+            KeptShape::Bottom => Shape::Bottom,
+            KeptShape::Name(class) => Shape::Name(*class),
+            KeptShape::NotName(class) => Shape::NotName(*class),
+            KeptShape::And(parts) => Shape::And(parts),
+            KeptShape::Or(parts) => Shape::Or(parts),
+            KeptShape::SomeOf(role, filler) => Shape::SomeOf(*role, *filler),
+            KeptShape::AllOf(role, filler) => Shape::AllOf(*role, *filler),
+            KeptShape::Min(count, role, filler) => Shape::Min(*count, *role, *filler),
+            KeptShape::Max(count, role, filler) => Shape::Max(*count, *role, *filler),
+        }
     }
 }
 
 /// The shape with parts of its own.
-pub(crate) fn owned(alloc: Global, shape: Shape<'_>) -> Result<Kept, NoMemory>
+pub(crate) fn owned(alloc: Global, shape: Shape<'_>) -> Result<KeptShape, NoMemory>
     ensures { IfOk result (λ kept. form_of_kept kept ≡ form_of shape.entry) }
 {
     Ok(match shape {
-        Shape::Top => Kept::Top,
-        Shape::Bottom => Kept::Bottom,
-        Shape::Name(class) => Kept::Name(class),
-        Shape::NotName(class) => Kept::NotName(class),
-        Shape::And(parts) => Kept::And(copied(alloc, parts)?),
-        Shape::Or(parts) => Kept::Or(copied(alloc, parts)?),
-        Shape::SomeOf(role, filler) => Kept::SomeOf(role, filler),
-        Shape::AllOf(role, filler) => Kept::AllOf(role, filler),
-        Shape::Min(count, role, filler) => Kept::Min(count, role, filler),
-        Shape::Max(count, role, filler) => Kept::Max(count, role, filler),
+        Shape::Top => KeptShape::Top,
+        Shape::Bottom => KeptShape::Bottom,
+        Shape::Name(class) => KeptShape::Name(class),
+        Shape::NotName(class) => KeptShape::NotName(class),
+        Shape::And(parts) => KeptShape::And(copied(alloc, parts)?),
+        Shape::Or(parts) => KeptShape::Or(copied(alloc, parts)?),
+        Shape::SomeOf(role, filler) => KeptShape::SomeOf(role, filler),
+        Shape::AllOf(role, filler) => KeptShape::AllOf(role, filler),
+        Shape::Min(count, role, filler) => KeptShape::Min(count, role, filler),
+        Shape::Max(count, role, filler) => KeptShape::Max(count, role, filler),
     })
 }
 

@@ -6,7 +6,7 @@ ghost use Rattle.shq_nnf.specs.Kept.{form_of, form_of_kept};
 ghost use Rattle.shq_nnf.specs.Numbers.{IsPut};
 
 use crate::NoMemory;
-use crate::shapes::{Kept, Shape, owned, shown};
+use crate::shapes::{KeptShape, Shape, owned};
 use indexmap::IndexSet;
 use std::alloc::Global;
 use std::marker::Model;
@@ -16,7 +16,7 @@ use std::marker::Model;
 #[derive(Drop)]
 pub struct Concepts {
     pub(crate) alloc: Global,
-    kept: IndexSet<Kept>,
+    kept: IndexSet<KeptShape>,
 }
 
 impl Model for Concepts {
@@ -41,7 +41,7 @@ impl Concepts {
         ensures { IfOk result (λ table. table ≡ plain_top ∷ []) }
     {
         let mut kept = IndexSet::new(alloc);
-        kept.insert_full(Kept::Top)?;
+        kept.insert_full(KeptShape::Top)?;
         Ok(Concepts { alloc, kept })
     }
 
@@ -60,7 +60,7 @@ impl Concepts {
         ensures table { IsTable self.now }
     {
         match self.kept.get_index(concept as usize) {
-            Some(kept) => shown(kept),
+            Some(kept) => kept.shape(),
             None => unreachable!(),
         }
     }
@@ -81,7 +81,7 @@ impl Concepts {
         self.keep(kept)
     }
 
-    fn keep(&mut self, shape: Kept) -> Result<u32, NoMemory>
+    fn keep(&mut self, shape: KeptShape) -> Result<u32, NoMemory>
         requires parts { IsTrue (has_parts_below (length self.old) (form_of_kept shape)) }
         requires normal { IsTrue (is_normal self.old (form_of_kept shape)) }
         ensures number { IfOk result (λ n. IsPut self.old (form_of_kept shape) self.new n) }

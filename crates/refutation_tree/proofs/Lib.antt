@@ -1,0 +1,13 @@
+pub mod Maps
+pub mod Words
+pub mod Shapes
+pub mod Kept
+pub mod FirstLine
+pub mod ConceptLines
+pub mod FieldsBack
+pub mod AxiomsBack
+pub mod ConceptsBack
+pub mod RulesBack
+pub mod TextBack
+pub mod Writable
+pub mod Normal

@@ -1,0 +1,20 @@
+use Rattle.std.proofs.Common.{◌≡◌, ℕ, [], ◌-◌, length, get_or, take, drop, map, Bor, List, Some, IfOk, Result, Ok, Err, subst, sym}
+use Rattle.certificate_lines.specs.Lines.{words}
+use Rattle.shq_terms.specs.Listed.{Listed}
+use Rattle.refutation_tree.specs.Kept.{Kept}
+use Rattle.refutation_tree.specs.RefutationText.{body_from, begun}
+use Rattle.refutation_tree.specs.ReadBack.{IsWritable}
+use Rattle.refutation_tree.specs.declared.reading.CertFault.{CertFault}
+use Rattle.refutation_tree.proofs.Writable.{body_writable, begun_writable}
+use Rattle.refutation_tree.proofs.reading.read_text.Goals as goal
+
+read_writable : (o : Listed) (k : Kept) (ls : List (List ℕ)) (read : Result Kept CertFault) → IsWritable o k → IfOk read (λ m. body_from o k ls ≡ Some m) → IfOk read (λ m. IsWritable o m)
+read_writable o k ls (Ok m) can is = body_writable o k m ls can is
+read_writable o k ls (Err e) can is = is
+
+pub returns-clause-writable : goal.returns-clause-writable
+returns-clause-writable c =
+    let o = c.args.ontology.now in
+    let none : Bor (List ℕ) = record { ref_ptr = (0, 0); now = [] } in
+    let begins : IsWritable o (begun c.in_ok-axioms.axioms) = begun_writable o (words (get_or c.args.lines.now 1 none).now) c.in_ok-axioms.axioms c.in_ok-axioms.ensures.few c.in_ok-axioms.ensures.axioms in
+    read_writable o c.new-refutation.result (map (λ l. l.now) (take (length c.args.lines.now - 2) (drop 2 c.args.lines.now))) c.read_body.result (subst (IsWritable o) (sym c.new-refutation.ensures) begins) c.read_body.ensures.refutation

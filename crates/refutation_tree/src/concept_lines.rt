@@ -1,0 +1,115 @@
+// Concept lines are read.
+ghost use Rattle.std.specs.Prelude.{◌≡◌, IsTrue, ◌+◌, ◌<◌, ◌^◌, map, Some, IfOk, IfErr, length, option_map};
+ghost use Rattle.shape_specs.specs.Shape.Shape.{top, bottom};
+ghost use Rattle.shq_nnf.specs.Kept.{form_of_kept};
+ghost use Rattle.certificate_lines.specs.Lines.{number_in};
+ghost use Rattle.refutation_tree.specs.RefutationText.{is_number, when_none, short_shape, shape_in, concept_in};
+ghost use Rattle.refutation_tree.specs.Malformed.{IsFaultAt};
+
+use crate::CertFault;
+use crate::fields::{class_in, counted_in, read_numbers, restriction_in};
+use crate::keywords::{ShapeKind, shape_kind};
+use certificate_lines::number;
+use shq_nnf::KeptShape;
+use shq_terms::Ontology;
+use std::alloc::Global;
+
+/// The shape that the words of a concept line say, where the line's concept is to have the number behind `count`.
+#[tactic(auto, using(crate::proofs::Maps::words_drop))]
+pub(crate) fn read_concept_line(
+    alloc: Global,
+    words: &[&[u8]],
+    line: u32,
+    ontology: &Ontology,
+    count: u32,
+) -> Result<KeptShape, CertFault>
+    ensures value { IfOk result (λ s. concept_in ontology.now (count + 1) (map (λ w. w.now) words.now) ≡ Some (form_of_kept s)) }
+    ensures room { IfOk result (λ s. count + 1 < 2 ^ 32) }
+    ensures fault { IfErr result (IsFaultAt line (concept_in ontology.now (count + 1) (map (λ w. w.now) words.now))) }
+{
+    if words.len() < 3 || !is_behind(count, words[1]) {
+        return Err(CertFault::Malformed(line));
+    }
+    match shape_kind(words[2]) {
+        Some(kind) => read_shape(alloc, kind, words.split_at(3).1, line, ontology),
+        None => Err(CertFault::Malformed(line)),
+    }
+}
+
+// Whether the word is the number behind the one that is given.
+fn is_behind(count: u32, word: &[u8]) -> bool
+    ensures value { result ≡ is_number (count + 1) (number_in word.now) }
+    ensures room { IsTrue result → count + 1 < 2 ^ 32 }
+{
+    match number(word) {
+        Some(n) => n > count && n - count == 1,
+        None => false,
+    }
+}
+
+fn read_shape(
+    alloc: Global,
+    kind: ShapeKind,
+    fields: &[&[u8]],
+    line: u32,
+    ontology: &Ontology,
+) -> Result<KeptShape, CertFault>
+    ensures value { IfOk result (λ s. shape_in ontology.now kind (map (λ w. w.now) fields.now) ≡ Some (form_of_kept s)) }
+    ensures fault { IfErr result (IsFaultAt line (shape_in ontology.now kind (map (λ w. w.now) fields.now))) }
+{
+    match kind {
+        ShapeKind::And => Ok(KeptShape::And(read_numbers(alloc, fields, line)?)),
+        ShapeKind::Or => Ok(KeptShape::Or(read_numbers(alloc, fields, line)?)),
+        _ => match short_shape(kind, fields, ontology) {
+            Some(shape) => Ok(shape),
+            None => Err(CertFault::Malformed(line)),
+        },
+    }
+}
+
+// The shape of a kind with as many fields as each of its kind has.
+fn short_shape(kind: ShapeKind, fields: &[&[u8]], ontology: &Ontology) -> Option<KeptShape>
+    ensures { option_map form_of_kept result ≡ short_shape ontology.now kind (map (λ w. w.now) fields.now) }
+{
+    match kind {
+        ShapeKind::Top => top_in(fields),
+        ShapeKind::Bottom => bottom_in(fields),
+        ShapeKind::Name => class_in(fields, ontology).map(|a| KeptShape::Name(a)),
+        ShapeKind::NotName => class_in(fields, ontology).map(|a| KeptShape::NotName(a)),
+        ShapeKind::SomeOf => {
+            restriction_in(fields, ontology).map(|q| KeptShape::SomeOf(q.role, q.filler))
+        }
+        ShapeKind::AllOf => {
+            restriction_in(fields, ontology).map(|q| KeptShape::AllOf(q.role, q.filler))
+        }
+        ShapeKind::Least => counted_in(fields, ontology).map(|q| KeptShape::Min(
+            q.count,
+            q.rest.role,
+            q.rest.filler,
+        )),
+        ShapeKind::Most => counted_in(fields, ontology).map(|q| KeptShape::Max(
+            q.count,
+            q.rest.role,
+            q.rest.filler,
+        )),
+        ShapeKind::And | ShapeKind::Or => None,
+    }
+}
+
+fn top_in(fields: &[&[u8]]) -> Option<KeptShape>
+    ensures { option_map form_of_kept result ≡ when_none (map (λ w. w.now) fields.now) top }
+{
+    match fields {
+        [] => Some(KeptShape::Top),
+        _ => None,
+    }
+}
+
+fn bottom_in(fields: &[&[u8]]) -> Option<KeptShape>
+    ensures { option_map form_of_kept result ≡ when_none (map (λ w. w.now) fields.now) bottom }
+{
+    match fields {
+        [] => Some(KeptShape::Bottom),
+        _ => None,
+    }
+}

@@ -1,0 +1,280 @@
+// The text of a refutation is read.
+ghost use Rattle.std.specs.Prelude.{◌≡◌, ◌<◌, ◌≤◌, ◌+◌, ◌^◌, option_and_then, nat_lt, nat_le, ◌&&◌, IsTrue, [], map, length, true, false, All, Some, None, IfOk, IfErr, OnOk, IfSome, MatchOption, codes, option_map};
+ghost use Rattle.std.specs.List.{list_all};
+ghost use Rattle.certificate_lines.specs.Lines.{is_blank, words};
+ghost use Rattle.shape_specs.specs.Rows.{is_ascending};
+ghost use Rattle.shq_nnf.specs.Kept.{form_of_kept};
+ghost use Rattle.refutation_tree.specs.RuleLine.{line_of};
+ghost use Rattle.refutation_tree.specs.RefutationText.{are_axiom_numbers, axiom_set, axioms_of, axioms_line, rule_line, with_shape, with_line, concept_read, is_concept_line, line_read, body_from, refutation_of, IsFaultOf};
+ghost use Rattle.refutation_tree.specs.ReadBack.{IsWritable};
+ghost use Rattle.refutation_tree.specs.Malformed.{first_unblank, malformed_from, first_malformed, told, IsFaultAt, IsFaultOfLine};
+
+use crate::concept_lines::read_concept_line;
+use crate::fields::read_numbers;
+use crate::rule_lines::read_rule_line;
+use crate::{Line, NoMemory, Refutation};
+use axiom_sets::AxiomSet;
+use certificate_lines::{is_blank, words};
+use shq_nnf::KeptShape;
+use shq_terms::Ontology;
+use std::alloc::{AllocFailed, Global};
+use thiserror::Error;
+
+/// Why lines are not the text of a refutation.
+#[derive(Clone, Copy, Debug, PartialEq, Eq, Error)]
+pub enum CertFault {
+    /// The number of the first line outside the format, where the line `refutation` has the number 2. A number above
+    /// 4,294,967,295 is told as 4,294,967,295.
+    #[error("line {0} is malformed")]
+    Malformed(u32),
+    #[error("memory was refused")]
+    NoMemory,
+}
+
+impl From<NoMemory> for CertFault {
+    ghost use Rattle.std.specs.Prelude.{◌≡◌};
+    ghost use Rattle.refutation_tree.specs.declared.reading.CertFault.TheVariants as fault;
+
+    ghost from_gives = { λ _ e. e ≡ fault.NoMemory };
+
+    fn from(_: NoMemory) -> Self {
+        CertFault::NoMemory
+    }
+}
+
+impl<T: Drop> From<AllocFailed<T>> for CertFault {
+    ghost use Rattle.std.specs.Prelude.{◌≡◌};
+    ghost use Rattle.refutation_tree.specs.declared.reading.CertFault.TheVariants as fault;
+
+    ghost from_gives = { λ _ e. e ≡ fault.NoMemory };
+
+    fn from(_: AllocFailed<T>) -> Self {
+        CertFault::NoMemory
+    }
+}
+
+/// The refutation whose text these lines are: `refutation`, `axioms K ..`, concept lines, rule lines, the line `end`, and
+/// blank lines.
+///
+/// The numbers of axioms are those of the ontology and ascend strictly. Concept lines are numbered from 1. Each is
+/// `concept K` and then `top`, `bottom`, `name NAME`, `not NAME`, `and I J ..`, `or I J ..`, `some ROLE I`, `all ROLE I`,
+/// `least N ROLE I` or `most N ROLE I`, in normal form, with parts of smaller numbers, and none stands twice. A name is the
+/// full IRI of a listed class or role between `<` and `>`. A number of a concept on a rule line is that of a concept line.
+///
+/// # Errors
+///
+/// `Malformed` exactly where the lines are no such text, and `NoMemory`. The first of the lines has the number 2. The
+/// malformed line is the first with which no text begins, or the line behind the last where a text begins with them all.
+pub fn read_text(
+    alloc: Global,
+    lines: &[&[u8]],
+    ontology: &Ontology,
+) -> Result<Refutation, CertFault>
+    ensures refutation { IfOk result (λ k. refutation_of ontology.now (map (λ l. l.now) lines.now) ≡ Some k) }
+    ensures writable { IfOk result (λ k. IsWritable ontology.now k) }
+    ensures fault { IfErr result (IsFaultOf (refutation_of ontology.now (map (λ l. l.now) lines.now))) }
+    ensures line { IfErr result (IsFaultOfLine (first_malformed ontology.now (map (λ l. l.now) lines.now))) }
+{
+    if lines.is_empty() || lines[0] != b"refutation".as_slice() {
+        return Err(CertFault::Malformed(2));
+    }
+    if lines.len() == 1 {
+        return Err(CertFault::Malformed(3));
+    }
+    let axioms = read_axioms(alloc, lines[1], ontology)?;
+    let refutation = Refutation::new(alloc, axioms);
+    read_body(alloc, &lines[2..], ontology, refutation)
+}
+
+// The number of a line as it is told.
+fn told(number: usize) -> u32
+    ensures { result ≡ told number }
+{
+    u32::try_from(number).unwrap_or(u32::MAX)
+}
+
+// Reads the lines behind that of the axioms.
+fn read_body(
+    alloc: Global,
+    lines: &[&[u8]],
+    ontology: &Ontology,
+    mut refutation: Refutation,
+) -> Result<Refutation, CertFault>
+    ensures refutation { IfOk result (λ k. body_from ontology.now refutation (map (λ l. l.now) lines.now) ≡ Some k) }
+    ensures fault { IfErr result (IsFaultOf (body_from ontology.now refutation (map (λ l. l.now) lines.now))) }
+    ensures line { IfErr result (IsFaultOfLine (malformed_from ontology.now 4 refutation (map (λ l. l.now) lines.now))) }
+{
+    for index in 0..lines.len() {
+        if lines[index] == b"end".as_slice() {
+            return match first_unblank(&lines[index + 1..], index + 5) {
+                None => Ok(refutation),
+                Some(number) => Err(CertFault::Malformed(told(number))),
+            };
+        }
+        read_line(
+            alloc,
+            lines[index],
+            told(index + 4),
+            ontology,
+            &mut refutation,
+        )?;
+    }
+    Err(CertFault::Malformed(told(lines.len() + 4)))
+}
+
+// The number of the first line that is not blank, where the first of all has the number that is given.
+fn first_unblank(lines: &[&[u8]], number: usize) -> Option<usize>
+    requires { number + length lines.now < 2 ^ 62 }
+    ensures first { result ≡ first_unblank number (map (λ l. l.now) lines.now) }
+    ensures blank { MatchOption result (list_all is_blank (map (λ l. l.now) lines.now) ≡ true) (λ _. list_all is_blank (map (λ l. l.now) lines.now) ≡ false) }
+{
+    for index in 0..lines.len() {
+        if !is_blank(lines[index]) {
+            return Some(number + index);
+        }
+    }
+    None
+}
+
+// Reads one line more, whose number is given.
+fn read_line(
+    alloc: Global,
+    line: &[u8],
+    number: u32,
+    ontology: &Ontology,
+    refutation: &mut Refutation,
+) -> Result<(), CertFault>
+    ensures read { OnOk result (line_read ontology.now refutation.old line.now ≡ Some refutation.new) }
+    ensures fault { IfErr result (IsFaultAt number (line_read ontology.now refutation.old line.now)) }
+{
+    let words = words(alloc, line)?;
+    if is_concept_line(&words) {
+        add_concept(alloc, &words, number, ontology, refutation)
+    } else {
+        add_line(alloc, &words, number, ontology, refutation)
+    }
+}
+
+fn is_concept_line(words: &[&[u8]]) -> bool
+    ensures { result ≡ is_concept_line (map (λ w. w.now) words.now) }
+{
+    !words.is_empty() && words[0] == b"concept".as_slice()
+}
+
+// Concept lines stand before all rule lines.
+fn add_concept(
+    alloc: Global,
+    words: &[&[u8]],
+    number: u32,
+    ontology: &Ontology,
+    refutation: &mut Refutation,
+) -> Result<(), CertFault>
+    ensures read { OnOk result (concept_read ontology.now refutation.old refutation.old.lines (map (λ w. w.now) words.now) ≡ Some refutation.new) }
+    ensures fault { IfErr result (IsFaultAt number (concept_read ontology.now refutation.old refutation.old.lines (map (λ w. w.now) words.now))) }
+{
+    if !refutation.lines().is_empty() {
+        return Err(CertFault::Malformed(number));
+    }
+    let shape = read_concept_line(alloc, words, number, ontology, refutation.shape_count())?;
+    add_shape(refutation, number, shape)
+}
+
+fn add_shape(refutation: &mut Refutation, number: u32, shape: KeptShape) -> Result<(), CertFault>
+    requires room { length refutation.old.shapes + 1 < 2 ^ 32 }
+    requires lines { refutation.old.lines ≡ [] }
+    ensures read { OnOk result (with_shape refutation.old (form_of_kept shape) ≡ Some refutation.new) }
+    ensures fault { IfErr result (IsFaultAt number (with_shape refutation.old (form_of_kept shape))) }
+{
+    if !refutation.admits(&shape) {
+        drop(shape);
+        return Err(CertFault::Malformed(number));
+    }
+    refutation.put_shape(shape)?;
+    Ok(())
+}
+
+fn add_line(
+    alloc: Global,
+    words: &[&[u8]],
+    number: u32,
+    ontology: &Ontology,
+    refutation: &mut Refutation,
+) -> Result<(), CertFault>
+    ensures read { OnOk result (option_and_then (with_line refutation.old) (rule_line ontology.now (map (λ w. w.now) words.now)) ≡ Some refutation.new) }
+    ensures fault { IfErr result (IsFaultAt number (option_and_then (with_line refutation.old) (rule_line ontology.now (map (λ w. w.now) words.now)))) }
+{
+    let line = read_rule_line(alloc, words, number, ontology)?;
+    add_rule(refutation, number, line)
+}
+
+fn add_rule(refutation: &mut Refutation, number: u32, line: Line) -> Result<(), CertFault>
+    ensures read { OnOk result (with_line refutation.old (line_of line) ≡ Some refutation.new) }
+    ensures fault { IfErr result (IsFaultAt number (with_line refutation.old (line_of line))) }
+{
+    if !refutation.names_concepts(&line) {
+        drop(line);
+        return Err(CertFault::Malformed(number));
+    }
+    refutation.put_line(line)?;
+    Ok(())
+}
+
+fn read_axioms(alloc: Global, line: &[u8], ontology: &Ontology) -> Result<AxiomSet, CertFault>
+    ensures axioms { IfOk result (λ a. axioms_line (length ontology.now.axioms) (words line.now) ≡ Some a) }
+    ensures few { IfOk result (λ _. length ontology.now.axioms < 2 ^ 32) }
+    ensures fault { IfErr result (IsFaultAt 3 (axioms_line (length ontology.now.axioms) (words line.now))) }
+{
+    let words = words(alloc, line)?;
+    match words.as_slice() {
+        [keyword, fields @ ..] if *keyword == b"axioms".as_slice() => {
+            let numbers = read_numbers(alloc, fields, 3)?;
+            axioms_of(alloc, &numbers, ontology.axiom_count())
+        }
+        _ => Err(CertFault::Malformed(3)),
+    }
+}
+
+// The set of these numbers, where they are numbers of axioms and ascend strictly.
+fn axioms_of(alloc: Global, numbers: &[u32], count: u32) -> Result<AxiomSet, CertFault>
+    ensures axioms { IfOk result (λ a. axioms_of count numbers.now ≡ Some a) }
+    ensures fault { IfErr result (IsFaultAt 3 (axioms_of count numbers.now)) }
+{
+    if !are_axiom_numbers(count, numbers) {
+        return Err(CertFault::Malformed(3));
+    }
+    Ok(axiom_set(alloc, count, numbers)?)
+}
+
+fn are_axiom_numbers(count: u32, numbers: &[u32]) -> bool
+    ensures { result ≡ are_axiom_numbers count numbers.now }
+{
+    are_within(count, numbers) && is_ascending(numbers)
+}
+
+fn are_within(count: u32, numbers: &[u32]) -> bool
+    ensures { result ≡ list_all (λ n. nat_lt 0 n && nat_le n count) numbers.now }
+{
+    numbers.iter().all(|n| 0 < *n && *n <= count)
+}
+
+fn is_ascending(numbers: &[u32]) -> bool
+    ensures { result ≡ is_ascending numbers.now }
+{
+    for index in 1..numbers.len() {
+        if numbers[index - 1] >= numbers[index] {
+            return false;
+        }
+    }
+    true
+}
+
+fn axiom_set(alloc: Global, count: u32, numbers: &[u32]) -> Result<AxiomSet, NoMemory>
+    requires { IsTrue (list_all (λ n. nat_lt 0 n && nat_le n count) numbers.now) }
+    ensures { IfOk result (λ a. a ≡ axiom_set count numbers.now) }
+{
+    let mut axioms = AxiomSet::empty(alloc, count)?;
+    for number in numbers {
+        axioms.put(*number);
+    }
+    Ok(axioms)
+}
