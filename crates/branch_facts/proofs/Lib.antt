@@ -1,0 +1,5 @@
+pub mod Same
+pub mod Grown
+pub mod Entries
+pub mod Reps
+pub mod Found

@@ -1,0 +1,169 @@
+// What is kept of some facts, so that each is found by one look.
+ghost use Rattle.std.specs.Prelude.{◌≡◌, ◌<◌, [], ◌∷◌, ◌++◌, ◌||◌, OnOk, OnErr, length, take, slice_get};
+ghost use Rattle.branch_facts.specs.declared.seen.Seen.TheVariants.{Has, Edge, Apart};
+ghost use Rattle.branch_facts.specs.Seen.{through, is_seen, with_seen, copied, copied_at, linked, joined, seeing, after, Index as Kept, Begins};
+
+use crate::NoMemory;
+use crate::seen::{Seen, renamed};
+use fact_specs::Fact;
+use indexmap::IndexSet;
+use std::alloc::Global;
+use std::marker::Model;
+
+/// Facts between representatives, and the links that lead to these.
+#[derive(Drop)]
+pub(crate) struct Index {
+    seen: IndexSet<Seen>,
+    links: Vec<(u32, u32)>,
+}
+
+impl Model for Index {
+    ghost use Rattle.branch_facts.specs.Seen.{Index as Kept};
+
+    ghost Value = { Kept };
+
+    ghost view = { λ i. record { seen = i.seen.keys; links = i.links.items } };
+}
+
+impl Index {
+    ghost use Rattle.branch_facts.specs.Seen.{Index as Kept};
+
+    pub(crate) fn new(alloc: Global) -> Index
+        ensures { result ≡ record { seen = []; links = [] } }
+    {
+        Index {
+            seen: IndexSet::new(alloc),
+            links: Vec::new(alloc),
+        }
+    }
+
+    /// How many facts and links are kept.
+    pub(crate) fn lengths(&self) -> (usize, usize)
+        ensures seen { result.0 ≡ length self.now.seen }
+        ensures links { result.1 ≡ length self.now.links }
+    {
+        (self.seen.len(), self.links.len())
+    }
+
+    /// The first facts and the first links alone.
+    pub(crate) fn cut(&mut self, seen: usize, links: usize)
+        ensures { self.new ≡ record { seen = take seen self.old.seen; links = take links self.old.links } }
+    {
+        self.seen.truncate(seen);
+        self.links.truncate(links);
+    }
+
+    /// The representative of a node.
+    pub(crate) fn representative(&self, node: u32) -> u32
+        ensures { result ≡ through self.now.links node }
+    {
+        let mut reached = node;
+        for link in &self.links {
+            reached = renamed(link.0, link.1, reached);
+        }
+        reached
+    }
+
+    // Whether the fact is kept.
+    #[tactic(auto, using(crate::proofs::Same::eq_is))]
+    fn contains(&self, fact: Seen) -> bool
+        ensures { result ≡ is_seen self.now.seen fact }
+    {
+        self.seen.contains(&fact)
+    }
+
+    /// Whether the node's representative has the concept.
+    pub(crate) fn has(&self, node: u32, concept: u32) -> bool
+        ensures { result ≡ is_seen self.now.seen (Has (through self.now.links node) concept) }
+    {
+        self.contains(Seen::Has(self.representative(node), concept))
+    }
+
+    /// Whether an edge of the role leads from one node's representative to the other's.
+    pub(crate) fn has_edge(&self, role: u32, from: u32, to: u32) -> bool
+        ensures { result ≡ is_seen self.now.seen (Edge role (through self.now.links from) (through self.now.links to)) }
+    {
+        self.contains(Seen::Edge(role, self.representative(from), self.representative(to)))
+    }
+
+    /// Whether the representatives of the two nodes are apart, in either order.
+    pub(crate) fn are_apart(&self, x: u32, y: u32) -> bool
+        ensures { result ≡ (is_seen self.now.seen (Apart (through self.now.links x) (through self.now.links y)) || is_seen self.now.seen (Apart (through self.now.links y) (through self.now.links x))) }
+    {
+        let (x, y) = (self.representative(x), self.representative(y));
+        self.contains(Seen::Apart(x, y)) || self.contains(Seen::Apart(y, x))
+    }
+
+    /// Keeps one fact more.
+    ///
+    /// # Errors
+    ///
+    /// Want of memory. What is kept begins as before.
+    pub(crate) fn put(&mut self, fact: &Fact<u32>) -> Result<(), NoMemory>
+        ensures put { OnOk result (self.new ≡ after self.old fact.now) }
+        ensures begins { OnErr result (Begins self.old self.new) }
+    {
+        match *fact {
+            Fact::Has(x, concept) => self.see(Seen::Has(self.representative(x), concept)),
+            Fact::Edge(role, x, y) => {
+                self.see(Seen::Edge(role, self.representative(x), self.representative(y)))
+            }
+            Fact::Apart(x, y) => {
+                self.see(Seen::Apart(self.representative(x), self.representative(y)))
+            }
+            Fact::Same(x, y) => self.join(self.representative(x), self.representative(y)),
+        }
+    }
+
+    #[tactic(auto, using(crate::proofs::Same::eq_is))]
+    fn see(&mut self, fact: Seen) -> Result<(), NoMemory>
+        ensures put { OnOk result (self.new ≡ seeing self.old fact) }
+        ensures unchanged { OnErr result (self.new ≡ self.old) }
+    {
+        self.seen.insert_full(fact)?;
+        Ok(())
+    }
+
+    fn join(&mut self, x: u32, y: u32) -> Result<(), NoMemory>
+        ensures put { OnOk result (self.new ≡ joined self.old x y) }
+        ensures begins { OnErr result (Begins self.old self.new) }
+    {
+        if x == y {
+            return Ok(());
+        }
+        self.link(x.max(y), x.min(y))
+    }
+
+    // Says of the lower representative what is said of the higher, and leads from this one to that.
+    fn link(&mut self, high: u32, low: u32) -> Result<(), NoMemory>
+        ensures put { OnOk result (self.new ≡ linked self.old high low) }
+        ensures begins { OnErr result (Begins self.old self.new) }
+    {
+        self.copy(high, low)?;
+        self.links.push((high, low))?;
+        Ok(())
+    }
+
+    #[tactic(auto, using(crate::proofs::Grown::copying_on, crate::proofs::Grown::place_within, crate::proofs::Grown::copying_begins))]
+    fn copy(&mut self, high: u32, low: u32) -> Result<(), NoMemory>
+        ensures put { OnOk result (self.new ≡ record { seen = copied high low self.old.seen self.old.seen; links = self.old.links }) }
+        ensures begins { OnErr result (Begins self.old self.new) }
+    {
+        for place in 0..self.seen.len() {
+            self.copy_at(place, high, low)?;
+        }
+        Ok(())
+    }
+
+    fn copy_at(&mut self, place: usize, high: u32, low: u32) -> Result<(), NoMemory>
+        requires { place < length self.old.seen }
+        ensures put { OnOk result (self.new ≡ copied_at high low self.old (slice_get self.old.seen place)) }
+        ensures unchanged { OnErr result (self.new ≡ self.old) }
+    {
+        let fact = self.seen[place];
+        if fact.mentions(high) {
+            return self.see(fact.renamed(high, low));
+        }
+        Ok(())
+    }
+}

@@ -1,0 +1,5 @@
+use Rattle.refutation_truth.proofs.Numbered.{numbered}
+use Rattle.refutation_truth.proofs.parts_are_numbered.Goals as goal
+
+pub returns : goal.returns
+returns c = numbered

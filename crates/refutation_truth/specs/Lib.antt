@@ -1,0 +1,3 @@
+pub mod Theory
+pub mod Laws
+pub mod Examples

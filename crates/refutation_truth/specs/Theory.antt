@@ -1,0 +1,54 @@
+-- What the axioms of some numbers give to refutations. Numbers count from 1, and none is 0.
+use Rattle.std.specs.Prelude.{ℕ, ◌+◌, ◌-◌, ◌&&◌, nat_le, List, [], ◌∷◌, ◌++◌, map, length, Option, Some, None, slice_get, if◌then◌else◌}
+use Rattle.shq_terms.specs.declared.axioms.Axiom.{Axiom}
+use Rattle.shq_terms.specs.declared.axioms.Numbered.{Numbered}
+use Rattle.shape_specs.specs.Rows.{Part, NumberedPart, Theory, is_among}
+use Rattle.shq_nnf.specs.Parts.{axiom_parts, part_in}
+use Rattle.role_box.specs.RoleAxioms.{role_axioms}
+use Rattle.role_box.specs.Steps.{is_transitive}
+use Rattle.role_box.specs.Paths.{is_below}
+
+-- the axiom of a number, in a list of one; none where there is no such axiom
+abbrev pub axiom_in : Option Numbered → List Axiom
+axiom_in None = []
+axiom_in (Some n) = n.axiom ∷ []
+
+-- the axioms of these numbers
+abbrev pub named_axioms : List Numbered → List ℕ → List Axiom
+named_axioms axioms [] = []
+named_axioms axioms (k ∷ ks) = axiom_in (slice_get axioms (k - 1)) ++ named_axioms axioms ks
+
+-- all of the axioms
+abbrev pub all_axioms : List Numbered → List Axiom
+all_axioms axioms = map (λ n. n.axiom) axioms
+
+-- ---- the parts of the axioms of these numbers
+
+abbrev pub parts_in : Option Numbered → List Part
+parts_in None = []
+parts_in (Some n) = axiom_parts n.axiom
+
+-- the parts of the axiom of a number
+abbrev pub parts_at : List Numbered → ℕ → List Part
+parts_at axioms k = parts_in (slice_get axioms (k - 1))
+
+-- parts of the axiom k, numbered from `first` on
+abbrev pub numbered_parts : ℕ → ℕ → List Part → List NumberedPart
+numbered_parts k first [] = []
+numbered_parts k first (q ∷ qs) = record { axiom_number = k; part_number = first; part = q } ∷ numbered_parts k (first + 1) qs
+
+abbrev pub named_parts : List Numbered → List ℕ → List NumberedPart
+named_parts axioms [] = []
+named_parts axioms (k ∷ ks) = numbered_parts k 1 (parts_at axioms k) ++ named_parts axioms ks
+
+-- the parts of the axioms of these numbers, and the tests of roles that the role axioms among them make
+abbrev pub theory_of : List Numbered → List ℕ → Theory
+theory_of axioms ks = record {
+  parts = named_parts axioms ks;
+  below = is_below (role_axioms axioms ks);
+  is_transitive = is_transitive (role_axioms axioms ks);
+}
+
+-- the part of an axiom that has a number, where the axiom is among those of the numbers and has such a part
+abbrev pub part_of_axiom : List Numbered → List ℕ → ℕ → ℕ → Option Part
+part_of_axiom axioms ks a p = if is_among ks a && nat_le 1 p && nat_le p (length (parts_at axioms a)) then Some (part_in (parts_at axioms a) (p - 1)) else None
