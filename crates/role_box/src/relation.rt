@@ -1,11 +1,11 @@
 // The tests of roles, over the table of the roles above each role.
-ghost use Rattle.std.specs.Prelude.{◌≡◌, ℕ, ◌≤◌, ◌↔◌, IsTrue, IfOk, length};
+ghost use Rattle.std.specs.Prelude.{◌≡◌, ℕ, ◌≤◌, ◌==◌, ◌↔◌, IsTrue, IfOk, length};
 ghost use Rattle.std.specs.List.{All, Contains};
 ghost use Rattle.std.specs.List.Sorted.{IsStrictlyIncreasing};
 ghost use Rattle.std.specs.Iterator.{YieldsFirst, item_count};
 ghost use Rattle.shape_specs.specs.Roles.{IsBelow, IsSimple};
 ghost use Rattle.role_box.specs.RoleAxioms.{role_axioms};
-ghost use Rattle.role_box.specs.Steps.{Leads, IsTransitive};
+ghost use Rattle.role_box.specs.Steps.{Leads, is_transitive, IsTransitive};
 ghost use Rattle.role_box.specs.Paths.{is_below};
 ghost use Rattle.role_box.specs.Closure.{is_between};
 
@@ -77,11 +77,26 @@ impl RoleBox {
         !self.complex.contains(role)
     }
 
+    /// A bound, at most 1,000, of the roles that the tests tell apart: from it on each role is below itself alone.
+    pub fn role_bound(&self) -> u32
+        ensures outside { (r s : ℕ) → result ≤ r → is_below self.now r s ≡ (r == s) }
+        ensures small { result ≤ 1000 }
+    {
+        self.rows.len() as u32
+    }
+
+    /// Whether an axiom makes the role transitive.
+    pub fn is_transitive(&self, role: u32) -> bool
+        ensures { result ≡ is_transitive self.now role }
+    {
+        self.transitive.contains(role)
+    }
+
     // Whether the role is transitive, and above the one role and below the other.
     fn is_between(&self, role: u32, lower: u32, upper: u32) -> bool
         ensures { result ≡ is_between self.now lower upper role }
     {
-        self.transitive.contains(role) && self.below(lower, role) && self.below(role, upper)
+        self.is_transitive(role) && self.below(lower, role) && self.below(role, upper)
     }
 
     /// The transitive roles above the one role and below the other, these two included, in ascending order.

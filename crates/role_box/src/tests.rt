@@ -86,8 +86,17 @@ fn finds_chains(rt: HostRuntime) -> Result<(), Fail> {
 fn finds_transitive_roles(rt: HostRuntime) -> Result<(), Fail> {
     let ontology = made_ontology(rt.alloc())?;
     let all = made_box(rt.alloc(), &ontology, &[1, 2, 3, 4, 5, 6, 7])?;
-    for (role, simple) in [(0, true), (1, false), (2, false), (3, false), (4, true)] {
+    assert_eq!(rt; all.role_bound(), 8);
+    for (role, simple, transitive) in [
+        (0, true, false),
+        (1, false, true),
+        (2, false, false),
+        (3, false, true),
+        (4, true, false),
+        (9, true, false),
+    ] {
         assert_eq!(rt; all.simple(role), simple);
+        assert_eq!(rt; all.is_transitive(role), transitive);
     }
     let mut between = all.transitive_between(0, 2);
     for wanted in [Some(1), Some(3), None] {
