@@ -7,8 +7,10 @@ ghost use Rattle.std.specs.List.{list_all, slice_split};
 ghost use Rattle.std.specs.Str.Lines.{strip_carriage_return};
 ghost use Rattle.certificate_lines.specs.Lines.{lines, is_space, is_blank, words, is_numeral, small_value, number_in, iri_in};
 
+mod fault;
 mod laws;
 
+pub use fault::{LineFault, first_unblank, told};
 pub use laws::{
     iris_are_read_back, lines_are_read_back, numbers_are_read_back, words_are_read_back,
 };

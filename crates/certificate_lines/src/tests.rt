@@ -1,6 +1,6 @@
 // Lines, words and numbers as they are written in certificates.
 
-use crate::{iri, is_blank, lines, number, words};
+use crate::{LineFault, first_unblank, iri, is_blank, lines, number, told, words};
 use std::test::Fail;
 
 #[test]
@@ -58,4 +58,23 @@ fn reads_iris_and_blank_lines(rt: HostRuntime) {
     assert!(rt; is_blank(b""));
     assert!(rt; is_blank(b" \t\r"));
     assert!(rt; !is_blank(b" . "));
+}
+
+#[test]
+fn finds_the_first_line_that_is_not_blank(rt: HostRuntime) {
+    let lines: [&[u8]; 4] = [b"", b" \t\r", b" .", b"end"];
+    assert_eq!(rt; first_unblank(&lines, 5), Some(7));
+    assert_eq!(rt; first_unblank(&lines[3..], 5), Some(5));
+    assert_eq!(rt; first_unblank(&lines[..2], 5), None);
+}
+
+#[test]
+fn tells_malformed_lines(rt: HostRuntime) -> Result<(), Fail> {
+    assert_eq!(rt; told(4_294_967_295), 4_294_967_295);
+    assert_eq!(rt; told(4_294_967_296), 4_294_967_295);
+    let text = format!(in rt.alloc(); "{}", LineFault::Malformed(told(7)))?;
+    assert!(rt; text.as_str() == "line 7 is malformed");
+    let text = format!(in rt.alloc(); "{}", LineFault::NoMemory)?;
+    assert!(rt; text.as_str() == "memory was refused");
+    Ok(())
 }

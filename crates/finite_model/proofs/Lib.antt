@@ -1,4 +1,3 @@
-pub mod Maps
 pub mod Pairs
 pub mod Ranges
 pub mod Texts

@@ -1,5 +1,5 @@
 -- The text of a model in a certificate, from its line `model N` on, and what it stands for.
-use Rattle.std.specs.Prelude.{◌≡◌, ℕ, ◌+◌, Bool, true, false, ◌&&◌, ◌||◌, nat_eq, nat_lt, nat_le, List, [], ◌∷◌, take, drop, codes, position, Option, Some, None, option_map, option_and_then, if◌then◌else◌}
+use Rattle.std.specs.Prelude.{ℕ, ◌+◌, Bool, true, false, ◌&&◌, ◌||◌, nat_eq, nat_lt, nat_le, List, [], ◌∷◌, take, drop, codes, position, Option, Some, None, option_map, option_and_then, if◌then◌else◌}
 use Rattle.std.specs.List.{list_all, list_any}
 use Rattle.std.specs.Ordering.{nat_cmp}
 use Rattle.std.specs.BTreeSet.{insert_key}
@@ -8,8 +8,6 @@ use Rattle.certificate_lines.specs.Lines.{words, is_blank, number_in, iri_in}
 use Rattle.shq_terms.specs.Listed.{Listed}
 use Rattle.finite_model.specs.Kept.{Kept, member_cmp, link_cmp}
 use Rattle.finite_model.specs.declared.reading.Pair.{Pair}
-use Rattle.finite_model.specs.declared.reading.ModelFault.{ModelFault}
-use Rattle.finite_model.specs.declared.reading.ModelFault.TheVariants.{Malformed, NoMemory}
 
 -- the number of a word, where it is at least low and below the size
 abbrev pub element_in : ℕ → ℕ → List ℕ → Option ℕ
@@ -127,8 +125,3 @@ empty_body n = record { classes = []; roles = []; model = record { size = n; mem
 abbrev pub model_of : Listed → List (List ℕ) → Option Kept
 model_of o [] = None
 model_of o (l ∷ ls) = option_and_then (λ n. body_from o (empty_body n) ls) (size_line (words l))
-
--- a fault that is told: that there is no text, or that memory was refused
-abbrev pub IsFaultOf : {A : Type 0} → Option A → ModelFault → Type 0
-IsFaultOf there NoMemory = Unit {0}
-IsFaultOf there (Malformed line) = there ≡ None

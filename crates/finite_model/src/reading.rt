@@ -1,50 +1,15 @@
 // The text of a model, as it stands in a certificate.
-ghost use Rattle.std.specs.Prelude.{◌≡◌, ◌<◌, ◌≤◌, ◌+◌, ◌^◌, map, length, true, false, nat_eq, position, All, Some, None, IfOk, IfErr, OnOk, IfSome, MatchOption, codes};
-ghost use Rattle.std.specs.List.{list_all};
-ghost use Rattle.certificate_lines.specs.Lines.{is_blank};
-ghost use Rattle.finite_model.specs.ModelText.{element_in, elements_from, pair_at, pair_in, pair_from, pairs_from, named_in, class_line, role_line, with_class, with_role, with_elements, with_pairs, is_role_line, class_read, role_read, line_read, body_from, size_line, model_of, IsFaultOf};
-ghost use Rattle.finite_model.specs.Malformed.{first_unblank, malformed_from, first_malformed, told, IsFaultAt, IsFaultOfLine};
+ghost use Rattle.std.specs.Prelude.{◌≡◌, ◌<◌, ◌≤◌, map, length, nat_eq, position, All, Some, IfOk, IfErr, OnOk, IfSome, codes};
+ghost use Rattle.certificate_lines.specs.Malformed.{IsFaultOf, IsFaultAt, IsFaultOfLine};
+ghost use Rattle.finite_model.specs.ModelText.{element_in, elements_from, pair_at, pair_in, pair_from, pairs_from, named_in, class_line, role_line, with_class, with_role, with_elements, with_pairs, is_role_line, class_read, role_read, line_read, body_from, size_line, model_of};
+ghost use Rattle.finite_model.specs.Malformed.{malformed_from, first_malformed};
 ghost use Rattle.finite_model.specs.BodyRead.{body_of, class_of, role_of};
 
-use crate::{Interp, NoMemory};
-use certificate_lines::{iri, is_blank, number, words};
+use crate::{Interp, ModelFault};
+use certificate_lines::{first_unblank, iri, number, told, words};
 use shq_terms::Ontology;
-use std::alloc::{AllocError, AllocFailed, Global};
+use std::alloc::Global;
 use std::collections::BTreeSet;
-use thiserror::Error;
-
-/// Why lines are not the text of a model.
-#[derive(Clone, Copy, Debug, PartialEq, Eq, Error)]
-pub enum ModelFault {
-    /// The number of the first line outside the format, where the line `model N` has the number 2. A number above
-    /// 4,294,967,295 is told as 4,294,967,295.
-    #[error("line {0} is malformed")]
-    Malformed(u32),
-    #[error("memory was refused")]
-    NoMemory,
-}
-
-impl From<NoMemory> for ModelFault {
-    ghost use Rattle.std.specs.Prelude.{◌≡◌};
-    ghost use Rattle.finite_model.specs.declared.reading.ModelFault.TheVariants as fault;
-
-    ghost from_gives = { λ _ e. e ≡ fault.NoMemory };
-
-    fn from(_: NoMemory) -> Self {
-        ModelFault::NoMemory
-    }
-}
-
-impl<T: Drop> From<AllocFailed<T>> for ModelFault {
-    ghost use Rattle.std.specs.Prelude.{◌≡◌};
-    ghost use Rattle.finite_model.specs.declared.reading.ModelFault.TheVariants as fault;
-
-    ghost from_gives = { λ _ e. e ≡ fault.NoMemory };
-
-    fn from(_: AllocFailed<T>) -> Self {
-        ModelFault::NoMemory
-    }
-}
 
 /// The model whose text these lines are: `model N`, lines `class NAME X ..` and `role NAME X,Y ..` in any order, the line
 /// `end`, and blank lines. A name is the full IRI of a listed class or role between `<` and `>`, and has one line at most
@@ -96,13 +61,6 @@ pub(crate) struct BodyRead {
     model: Interp,
 }
 
-// The number of a line as it is told.
-fn told(number: usize) -> u32
-    ensures { result ≡ told number }
-{
-    u32::try_from(number).unwrap_or(u32::MAX)
-}
-
 fn read_body(
     alloc: Global,
     lines: &[&[u8]],
@@ -123,20 +81,6 @@ fn read_body(
         read_line(alloc, lines[index], told(index + 3), ontology, &mut body)?;
     }
     Err(ModelFault::Malformed(told(lines.len() + 3)))
-}
-
-// The number of the first line that is not blank, where the first of all has the number that is given.
-fn first_unblank(lines: &[&[u8]], number: usize) -> Option<usize>
-    requires { number + length lines.now < 2 ^ 62 }
-    ensures first { result ≡ first_unblank number (map (λ l. l.now) lines.now) }
-    ensures blank { MatchOption result (list_all is_blank (map (λ l. l.now) lines.now) ≡ true) (λ _. list_all is_blank (map (λ l. l.now) lines.now) ≡ false) }
-{
-    for index in 0..lines.len() {
-        if !is_blank(lines[index]) {
-            return Some(number + index);
-        }
-    }
-    None
 }
 
 // Reads one line more, whose number is given.
@@ -237,7 +181,7 @@ fn put_role_line(body: &mut BodyRead, number: u32, line: &RoleRead) -> Result<()
     put_pairs(&mut body.model, line.role, &line.pairs)
 }
 
-#[tactic(auto, using(crate::proofs::Maps::words_drop))]
+#[tactic(auto, using(certificate_lines::proofs::Borrowed::lines_drop))]
 fn read_class_line(
     alloc: Global,
     words: &[&[u8]],
@@ -256,7 +200,7 @@ fn read_class_line(
     Ok(ClassRead { class, elements })
 }
 
-#[tactic(auto, using(crate::proofs::Maps::words_drop))]
+#[tactic(auto, using(certificate_lines::proofs::Borrowed::lines_drop))]
 fn read_role_line(
     alloc: Global,
     words: &[&[u8]],

@@ -1,4 +1,3 @@
-pub mod Maps
 pub mod Words
 pub mod Shapes
 pub mod Kept
@@ -10,4 +9,5 @@ pub mod ConceptsBack
 pub mod RulesBack
 pub mod TextBack
 pub mod Writable
+pub mod Lengths
 pub mod Normal

@@ -36,7 +36,7 @@ use Rattle.refutation_tree.proofs.Shapes.{shapes_push}
 
 -- ---- options that are there
 
-and_then_some : {A B : Type 0} (f : A → Option B) (o : Option A) (y : B) → option_and_then f o ≡ Some y → (x : A) × (o ≡ Some x) × (f x ≡ Some y)
+pub and_then_some : {A B : Type 0} (f : A → Option B) (o : Option A) (y : B) → option_and_then f o ≡ Some y → (x : A) × (o ≡ Some x) × (f x ≡ Some y)
 and_then_some f None y h = cc
 and_then_some f (Some x) y h = (x, refl, h)
 
@@ -44,7 +44,7 @@ map_some : {A B : Type 0} (f : A → B) (o : Option A) (y : B) → option_map f 
 map_some f None y h = cc
 map_some f (Some x) y h = (x, refl, cc)
 
-when_some : {A : Type 0} (b : Bool) (o : Option A) (y : A) → (if b then o else None) ≡ Some y → (b ≡ true) × (o ≡ Some y)
+pub when_some : {A : Type 0} (b : Bool) (o : Option A) (y : A) → (if b then o else None) ≡ Some y → (b ≡ true) × (o ≡ Some y)
 when_some true o y h = (refl, h)
 when_some false o y h = cc
 

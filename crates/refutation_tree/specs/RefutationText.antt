@@ -1,5 +1,5 @@
 -- The text of a refutation in a certificate, from its line `refutation` on, and what it stands for.
-use Rattle.std.specs.Prelude.{◌≡◌, ℕ, ◌+◌, Bool, true, false, ◌&&◌, nat_eq, nat_lt, nat_le, List, [], ◌∷◌, ◌++◌, length, codes, position, Option, Some, None, option_map, option_and_then, if◌then◌else◌}
+use Rattle.std.specs.Prelude.{ℕ, ◌+◌, Bool, true, false, ◌&&◌, nat_eq, nat_lt, nat_le, List, [], ◌∷◌, ◌++◌, length, codes, position, Option, Some, None, option_map, option_and_then, if◌then◌else◌}
 use Rattle.std.specs.List.{list_all}
 use Rattle.std.specs.Str.{bytes_eq}
 use Rattle.std.specs.FinSet as set
@@ -22,8 +22,6 @@ use Rattle.refutation_tree.specs.declared.keywords.LineKind.{LineKind}
 use Rattle.refutation_tree.specs.declared.keywords.LineKind.TheVariants as L
 use Rattle.refutation_tree.specs.declared.fields.Restriction.{Restriction}
 use Rattle.refutation_tree.specs.declared.fields.Counted.{Counted}
-use Rattle.refutation_tree.specs.declared.reading.CertFault.{CertFault}
-use Rattle.refutation_tree.specs.declared.reading.CertFault.TheVariants.{Malformed, NoMemory}
 
 -- ---- words
 
@@ -222,8 +220,3 @@ is_head line = bytes_eq line (codes "refutation")
 abbrev pub refutation_of : Listed → List (List ℕ) → Option Kept
 refutation_of o [] = None
 refutation_of o (l ∷ ls) = if is_head l then axioms_from o ls else None
-
--- a fault that is told: that there is no text, or that memory was refused
-abbrev pub IsFaultOf : {A : Type 0} → Option A → CertFault → Type 0
-IsFaultOf there NoMemory = Unit {0}
-IsFaultOf there (Malformed line) = there ≡ None

@@ -4,7 +4,7 @@ ghost use Rattle.shape_specs.specs.Shape.Shape.{top, bottom};
 ghost use Rattle.shq_nnf.specs.Kept.{form_of_kept};
 ghost use Rattle.certificate_lines.specs.Lines.{number_in};
 ghost use Rattle.refutation_tree.specs.RefutationText.{is_number, when_none, short_shape, shape_in, concept_in};
-ghost use Rattle.refutation_tree.specs.Malformed.{IsFaultAt};
+ghost use Rattle.certificate_lines.specs.Malformed.{IsFaultAt};
 
 use crate::CertFault;
 use crate::fields::{class_in, counted_in, read_numbers, restriction_in};
@@ -15,7 +15,7 @@ use shq_terms::Ontology;
 use std::alloc::Global;
 
 /// The shape that the words of a concept line say, where the line's concept is to have the number behind `count`.
-#[tactic(auto, using(crate::proofs::Maps::words_drop))]
+#[tactic(auto, using(certificate_lines::proofs::Borrowed::lines_drop))]
 pub(crate) fn read_concept_line(
     alloc: Global,
     words: &[&[u8]],

@@ -1,7 +1,7 @@
 // The fields of a line: numbers, names, and what is made of them.
 ghost use Rattle.std.specs.Prelude.{◌≡◌, map, Some, IfOk, IfErr};
 ghost use Rattle.refutation_tree.specs.RefutationText.{numbers_in, named_in, class_in, restriction_in, counted_in, one_of, two_of, three_of};
-ghost use Rattle.refutation_tree.specs.Malformed.{IsFaultAt};
+ghost use Rattle.certificate_lines.specs.Malformed.{IsFaultAt};
 
 use crate::CertFault;
 use certificate_lines::{iri, number};

@@ -1,57 +1,24 @@
 // The text of a refutation is read.
-ghost use Rattle.std.specs.Prelude.{◌≡◌, ◌<◌, ◌≤◌, ◌+◌, ◌^◌, option_and_then, nat_lt, nat_le, ◌&&◌, IsTrue, [], map, length, true, false, All, Some, None, IfOk, IfErr, OnOk, IfSome, MatchOption, codes, option_map};
+ghost use Rattle.std.specs.Prelude.{◌≡◌, ◌<◌, ◌≤◌, ◌+◌, ◌^◌, option_and_then, nat_lt, nat_le, ◌&&◌, IsTrue, [], map, length, All, Some, IfOk, IfErr, OnOk, IfSome, codes, option_map};
 ghost use Rattle.std.specs.List.{list_all};
-ghost use Rattle.certificate_lines.specs.Lines.{is_blank, words};
+ghost use Rattle.certificate_lines.specs.Lines.{words};
+ghost use Rattle.certificate_lines.specs.Malformed.{IsFaultOf, IsFaultAt, IsFaultOfLine};
 ghost use Rattle.shape_specs.specs.Rows.{is_ascending};
 ghost use Rattle.shq_nnf.specs.Kept.{form_of_kept};
 ghost use Rattle.refutation_tree.specs.RuleLine.{line_of};
-ghost use Rattle.refutation_tree.specs.RefutationText.{are_axiom_numbers, axiom_set, axioms_of, axioms_line, rule_line, with_shape, with_line, concept_read, is_concept_line, line_read, body_from, refutation_of, IsFaultOf};
+ghost use Rattle.refutation_tree.specs.RefutationText.{are_axiom_numbers, axiom_set, axioms_of, axioms_line, rule_line, with_shape, with_line, concept_read, is_concept_line, line_read, body_from, refutation_of};
 ghost use Rattle.refutation_tree.specs.ReadBack.{IsWritable};
-ghost use Rattle.refutation_tree.specs.Malformed.{first_unblank, malformed_from, first_malformed, told, IsFaultAt, IsFaultOfLine};
+ghost use Rattle.refutation_tree.specs.Malformed.{malformed_from, first_malformed};
 
 use crate::concept_lines::read_concept_line;
 use crate::fields::read_numbers;
 use crate::rule_lines::read_rule_line;
-use crate::{Line, NoMemory, Refutation};
+use crate::{CertFault, Line, NoMemory, Refutation};
 use axiom_sets::AxiomSet;
-use certificate_lines::{is_blank, words};
+use certificate_lines::{first_unblank, told, words};
 use shq_nnf::KeptShape;
 use shq_terms::Ontology;
-use std::alloc::{AllocFailed, Global};
-use thiserror::Error;
-
-/// Why lines are not the text of a refutation.
-#[derive(Clone, Copy, Debug, PartialEq, Eq, Error)]
-pub enum CertFault {
-    /// The number of the first line outside the format, where the line `refutation` has the number 2. A number above
-    /// 4,294,967,295 is told as 4,294,967,295.
-    #[error("line {0} is malformed")]
-    Malformed(u32),
-    #[error("memory was refused")]
-    NoMemory,
-}
-
-impl From<NoMemory> for CertFault {
-    ghost use Rattle.std.specs.Prelude.{◌≡◌};
-    ghost use Rattle.refutation_tree.specs.declared.reading.CertFault.TheVariants as fault;
-
-    ghost from_gives = { λ _ e. e ≡ fault.NoMemory };
-
-    fn from(_: NoMemory) -> Self {
-        CertFault::NoMemory
-    }
-}
-
-impl<T: Drop> From<AllocFailed<T>> for CertFault {
-    ghost use Rattle.std.specs.Prelude.{◌≡◌};
-    ghost use Rattle.refutation_tree.specs.declared.reading.CertFault.TheVariants as fault;
-
-    ghost from_gives = { λ _ e. e ≡ fault.NoMemory };
-
-    fn from(_: AllocFailed<T>) -> Self {
-        CertFault::NoMemory
-    }
-}
+use std::alloc::Global;
 
 /// The refutation whose text these lines are: `refutation`, `axioms K ..`, concept lines, rule lines, the line `end`, and
 /// blank lines.
@@ -72,6 +39,7 @@ pub fn read_text(
 ) -> Result<Refutation, CertFault>
     ensures refutation { IfOk result (λ k. refutation_of ontology.now (map (λ l. l.now) lines.now) ≡ Some k) }
     ensures writable { IfOk result (λ k. IsWritable ontology.now k) }
+    ensures lines { IfOk result (λ k. length k.lines ≤ length lines.now) }
     ensures fault { IfErr result (IsFaultOf (refutation_of ontology.now (map (λ l. l.now) lines.now))) }
     ensures line { IfErr result (IsFaultOfLine (first_malformed ontology.now (map (λ l. l.now) lines.now))) }
 {
@@ -84,13 +52,6 @@ pub fn read_text(
     let axioms = read_axioms(alloc, lines[1], ontology)?;
     let refutation = Refutation::new(alloc, axioms);
     read_body(alloc, &lines[2..], ontology, refutation)
-}
-
-// The number of a line as it is told.
-fn told(number: usize) -> u32
-    ensures { result ≡ told number }
-{
-    u32::try_from(number).unwrap_or(u32::MAX)
 }
 
 // Reads the lines behind that of the axioms.
@@ -120,20 +81,6 @@ fn read_body(
         )?;
     }
     Err(CertFault::Malformed(told(lines.len() + 4)))
-}
-
-// The number of the first line that is not blank, where the first of all has the number that is given.
-fn first_unblank(lines: &[&[u8]], number: usize) -> Option<usize>
-    requires { number + length lines.now < 2 ^ 62 }
-    ensures first { result ≡ first_unblank number (map (λ l. l.now) lines.now) }
-    ensures blank { MatchOption result (list_all is_blank (map (λ l. l.now) lines.now) ≡ true) (λ _. list_all is_blank (map (λ l. l.now) lines.now) ≡ false) }
-{
-    for index in 0..lines.len() {
-        if !is_blank(lines[index]) {
-            return Some(number + index);
-        }
-    }
-    None
 }
 
 // Reads one line more, whose number is given.

@@ -1,8 +1,8 @@
 use Rattle.std.proofs.Common.{◌≡◌, ◌+◌, drop, map}
 use Rattle.std.specs.List.{list_all}
 use Rattle.certificate_lines.specs.Lines.{is_blank}
-use Rattle.refutation_tree.specs.Malformed.{first_unblank}
-use Rattle.refutation_tree.proofs.reading.first_unblank.Given as goal
+use Rattle.certificate_lines.specs.Malformed.{first_unblank}
+use Rattle.certificate_lines.proofs.fault.first_unblank.Given as goal
 
 abbrev pub invariant-loop-index : goal.invariant-loop-index
 invariant-loop-index l = record {
