@@ -1,0 +1,9 @@
+pub mod Reading
+pub mod Frames
+pub mod Held
+pub mod Edges
+pub mod Children
+pub mod Nodes
+pub mod TooMany
+pub mod Rows
+pub mod Renumbered

@@ -1,0 +1,19 @@
+use Rattle.std.proofs.Common.{length, ◌∙◌, sym, ap, arith}
+use Rattle.shape_specs.specs.Shape.{has_parts_below}
+use Rattle.shape_specs.specs.Tree.{tree_over, trees_of}
+use Rattle.shq_nnf.proofs.Numbers.{shape_tree}
+use Rattle.refutation_rules.proofs.Held.{parts_more}
+use Rattle.refutation_rules.proofs.rules.Rules.shape.Goals as goal
+
+pub returns-clause-tree : goal.returns-clause-tree
+returns-clause-tree c =
+    let lt = rw (← c.self.view_is) at c.requires in
+    rw (← c.self.view_is)
+    (shape_tree c.self.inside.concepts c.shape.ensures.table c.args.number lt ∙ ap (tree_over (trees_of c.self.inside.concepts)) (sym c.shape.ensures.shape))
+
+pub returns-clause-parts : goal.returns-clause-parts
+returns-clause-parts c =
+    let lt = rw (← c.self.view_is) at c.requires in
+    let long = length c.self.inside.concepts in
+    rw (← c.self.view_is)
+    (ap (has_parts_below long) c.shape.ensures.shape ∙ parts_more c.args.number long _ (omega arith) (c.shape.ensures.table.parts_below c.args.number lt))

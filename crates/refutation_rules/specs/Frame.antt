@@ -1,0 +1,124 @@
+-- What the rule lines of one refutation are read by.
+use Rattle.std.specs.Prelude.{◌≡◌, ℕ, ◌+◌, ◌<◌, ◌&&◌, true, List, [], ◌∷◌, length, Option, Some, None}
+use Rattle.std.specs.List.{list_all}
+use Rattle.shq_base.specs.Concept.{Concept, bottom, name, complement, all_of}
+use Rattle.shq_terms.specs.declared.axioms.Numbered.{Numbered as Axiom}
+use Rattle.shape_specs.specs.Normal.{normal_form, negated_form}
+use Rattle.shape_specs.specs.Shape.{Shape, has_parts_below, is_normal}
+use Rattle.shape_specs.specs.Tree.{tree_over, trees_of, tree_of}
+use Rattle.shape_specs.specs.Rows.{Theory}
+use Rattle.shq_terms.specs.declared.axioms.Query.{Query}
+use Rattle.shq_nnf.specs.Numbers.{IsNumber}
+use Rattle.shq_nnf.specs.Kept.{form_of}
+use Rattle.shq_nnf.specs.declared.shapes.Shape.{Shape as Shown}
+use Rattle.role_box.specs.declared.axioms.RoleAxiom.{RoleAxiom}
+use Rattle.role_box.specs.RoleAxioms.{role_axioms}
+use Rattle.axiom_sets.specs.Sets.{member_list}
+use Rattle.axiom_rows.specs.Rows.{AreInLimit}
+use Rattle.axiom_rows.specs.declared.rows.Row.{Row}
+use Rattle.axiom_rows.specs.declared.rows.RangeRow.{RangeRow}
+use Rattle.refutation_tree.specs.Kept.{Kept}
+use Rattle.branch_facts.specs.Known.{Known as Branch, knows as branch_knows}
+use Rattle.fact_specs.specs.State.{has, has_tree, has_edge}
+use Rattle.fact_specs.specs.declared.Fact.TheVariants.{Has}
+use Rattle.refutation_specs.specs.Line.{Line}
+use Rattle.refutation_specs.specs.Line.Line.{carry_line, choose_line, clash_line}
+use Rattle.refutation_specs.specs.Rules.{Known, knows, when, children_of, at_concept}
+use Rattle.refutation_specs.specs.Rules.{with_facts as known_with}
+use Rattle.refutation_specs.specs.Valid.{concept_at}
+use Rattle.refutation_truth.specs.Theory.{theory_of}
+use Rattle.refutation_rules.specs.declared.outcome.Outcome.{Outcome}
+use Rattle.refutation_rules.specs.Numbers.{AreFirst}
+use Rattle.refutation_rules.specs.Outcomes.{known_of, with_facts, children_after, IsFitIfSome}
+
+-- the axioms of the ontology and the numbers of those that are named, the two sides of the query, the shapes of the
+-- refutation's concepts, and the table by whose numbers branches are kept
+pub record Frame : Type 0 where
+  pub axioms : List Axiom
+  pub named : List ℕ
+  pub sub : Concept
+  pub sup : Concept
+  pub shapes : List Shape
+  pub table : List Shape
+
+abbrev pub theory : Frame → Theory
+theory f = theory_of f.axioms f.named
+
+-- the branches that a line leaves of one
+abbrev pub line_children : Frame → Branch → Line → Option (List Known)
+line_children f k line = children_of (theory f) f.sub f.sup (concept_at f.shapes) (known_of f.table k) line
+
+-- what a line leaves of a branch is what the outcome says, and its facts and nodes fit
+pub record IsOutcome (f : Frame) (k : Branch) (line : Line) (o : Option Outcome) : Type 0 where
+  pub children : line_children f k line ≡ children_after f.table k o
+  pub fit : IsFitIfSome (length f.table) k o
+
+-- the number of the table that stands for the concept, if there is one
+abbrev pub StandsFor : List Shape → Option Concept → Option ℕ → Type 0
+StandsFor table c None = c ≡ None
+StandsFor table c (Some n) = (c ≡ Some (tree_of table n)) × (n < length table)
+
+-- the line goes on from the concept of this shape
+pub record IsHeldShape (f : Frame) (k : Branch) (x c : ℕ) (s : Shape) : Type 0 where
+  pub parts_below : has_parts_below (length f.table) s ≡ true
+  pub normal : is_normal f.table s ≡ true
+  pub goes_on : (answer : Concept → Option (List Known)) → at_concept (known_of f.table k) x (concept_at f.shapes c) answer ≡ answer (tree_over (trees_of f.table) s)
+
+-- the shape of the concept where the node is known and has it
+abbrev pub IsHeld : Frame → Branch → ℕ → ℕ → Option Shown → Type 0
+IsHeld f k x c None = (answer : Concept → Option (List Known)) → at_concept (known_of f.table k) x (concept_at f.shapes c) answer ≡ None
+IsHeld f k x c (Some s) = IsHeldShape f k x c (form_of s)
+
+-- what is left of the branch, where the premises hold, is that the node y is in the concept of the number, if there is one
+abbrev pub Adds : List Shape → Branch → Option (List Known) → ℕ → Option ℕ → Type 0
+Adds table k children y None = children ≡ None
+Adds table k children y (Some n) = (n < length table) × (children ≡ Some (known_of table (with_facts k (Has y n ∷ [])) ∷ []))
+
+abbrev pub AddsIf : Frame → Branch → Line → ℕ → Option ℕ → Type 0
+AddsIf f k line y found = Adds f.table k (line_children f k line) y found
+
+-- and the same for a restriction that a role passes on, by the number of its filler
+abbrev pub PassesOnIf : Frame → Branch → ℕ → ℕ → ℕ → ℕ → Option ℕ → Type 0
+PassesOnIf f k x y t c None = line_children f k (carry_line x y t c) ≡ None
+PassesOnIf f k x y t c (Some e) = (e < length f.table) × (line_children f k (carry_line x y t c) ≡ Some (known_with (known_of f.table k) (Has y (all_of t (tree_of f.table e)) ∷ []) ∷ []))
+
+-- a branch for the concept of the number and one for its complement, if there is a number
+abbrev pub IsChosen : Frame → Branch → ℕ → ℕ → Option ℕ → Type 0
+IsChosen f k y c None = line_children f k (choose_line y c) ≡ None
+IsChosen f k y c (Some n) = (n < length f.table) × (line_children f k (choose_line y c) ≡ Some (known_with (known_of f.table k) (Has y (tree_of f.table n) ∷ []) ∷ known_with (known_of f.table k) (Has y (negated_form (tree_of f.table n)) ∷ []) ∷ []))
+
+-- the branch is closed if the node has the complement of the class, if there is one
+abbrev pub IsClash : Frame → Branch → ℕ → ℕ → Option ℕ → Type 0
+IsClash f k x c None = line_children f k (clash_line x c) ≡ None
+IsClash f k x c (Some a) = line_children f k (clash_line x c) ≡ when (has_tree (known_of f.table k).facts x (complement (name a))) (Some [])
+
+-- ---- rows that are used
+
+-- the concept of the row where the node is known and has each of the premises
+abbrev pub row_used : Branch → ℕ → Option Row → Option ℕ
+row_used k x None = None
+row_used k x (Some r) = when (branch_knows k x && list_all (has k.facts x) r.premises) (Some r.concept)
+
+-- the class of the range where an edge of a role below its own leads from one node to the other
+abbrev pub range_used : Frame → Branch → ℕ → ℕ → Option RangeRow → Option ℕ
+range_used f k x y None = None
+range_used f k x y (Some r) = when (knows (known_of f.table k) x && knows (known_of f.table k) y && has_edge (known_of f.table k).facts (λ q. (theory f).below q r.role) x y) (Some r.concept)
+
+-- what is kept for a refutation of a query: its axioms are in the limits of the ontology, the roles are by those that it
+-- names, and its concepts, the two sides of the query and bottom have their numbers in the table
+pub record IsFrame (axioms : List Axiom) (refutation : Kept) (query : Query) (roles : List RoleAxiom) (table : List Shape) (numbers : List ℕ) (sub not_sup none : ℕ) : Type 0 where
+  pub limit : refutation.axioms.limit ≡ length axioms
+  pub within : AreInLimit axioms
+  pub roles_are : roles ≡ role_axioms axioms (member_list refutation.axioms)
+  pub concepts : AreFirst refutation.shapes table numbers (length refutation.shapes + 1)
+  pub sub_is : IsNumber table sub (normal_form query.sub)
+  pub not_sup_is : IsNumber table not_sup (negated_form query.sup)
+  pub bottom_is : IsNumber table none bottom
+
+-- the same frame over a longer table
+pub record IsSameBut (earlier later : Frame) : Type 0 where
+  pub axioms : later.axioms ≡ earlier.axioms
+  pub named : later.named ≡ earlier.named
+  pub sub : later.sub ≡ earlier.sub
+  pub sup : later.sup ≡ earlier.sup
+  pub shapes : later.shapes ≡ earlier.shapes

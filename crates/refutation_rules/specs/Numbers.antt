@@ -1,0 +1,24 @@
+-- How the concepts of a refutation get their numbers in a table, one after another.
+use Rattle.std.specs.Prelude.{◌≡◌, ℕ, ◌<◌, List, ◌∷◌, map, length, slice_index}
+use Rattle.shape_specs.specs.Shape.{Shape}
+use Rattle.shape_specs.specs.Shape.Shape.{top, bottom, name, not_name, intersection, union, some_of, all_of, at_least, at_most}
+use Rattle.shape_specs.specs.Tree.{tree_of}
+use Rattle.shq_nnf.specs.Numbers.{IsNumber}
+
+-- the first concepts, of which top is number 0, have their numbers in the table
+pub record AreFirst (shapes table : List Shape) (numbers : List ℕ) (count : ℕ) : Type 0 where
+  pub as_many : length numbers ≡ count
+  pub stand_for : (k : ℕ) → k < length numbers → IsNumber table (slice_index numbers k) (tree_of (top ∷ shapes) k)
+
+-- the shape with other numbers for its parts
+abbrev pub renumbered : List ℕ → Shape → Shape
+renumbered numbers top = top
+renumbered numbers bottom = bottom
+renumbered numbers (name a) = name a
+renumbered numbers (not_name a) = not_name a
+renumbered numbers (intersection cs) = intersection (map (slice_index numbers) cs)
+renumbered numbers (union cs) = union (map (slice_index numbers) cs)
+renumbered numbers (some_of r c) = some_of r (slice_index numbers c)
+renumbered numbers (all_of r c) = all_of r (slice_index numbers c)
+renumbered numbers (at_least n r c) = at_least n r (slice_index numbers c)
+renumbered numbers (at_most n r c) = at_most n r (slice_index numbers c)

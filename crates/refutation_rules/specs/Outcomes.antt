@@ -1,0 +1,70 @@
+-- What a rule line does to the branch to which it belongs, over concepts by number.
+use Rattle.std.specs.Prelude.{◌≡◌, ℕ, ◌+◌, ◌^◌, ◌<◌, ◌≤◌, nat_eq, true, false, List, [], ◌∷◌, ◌++◌, map, Option, Some, None}
+use Rattle.std.specs.List.{list_any, range_with_len}
+use Rattle.shape_specs.specs.Shape.{Shape}
+use Rattle.shape_specs.specs.Tree.{tree_of}
+use Rattle.fact_specs.specs.declared.Fact.{Fact}
+use Rattle.fact_specs.specs.declared.Fact.TheVariants.{Has}
+use Rattle.fact_specs.specs.State.{fresh_facts}
+use Rattle.fact_specs.specs.Reading.{read_facts, are_listed}
+use Rattle.branch_facts.specs.Known.{Known as Numbered}
+use Rattle.refutation_specs.specs.Rules.{Known}
+use Rattle.refutation_rules.specs.declared.outcome.Outcome.{Outcome}
+use Rattle.refutation_rules.specs.declared.outcome.Outcome.TheVariants.{Closed, Started, More, Nodes, Branches}
+
+-- a branch whose concepts are numbers of a table
+abbrev pub known_of : List Shape → Numbered → Known
+known_of table k = record { nodes = k.nodes; facts = read_facts (tree_of table) k.facts }
+
+abbrev pub with_facts : Numbered → List (Fact ℕ) → Numbered
+with_facts k fs = record { nodes = k.nodes; facts = k.facts ++ fs }
+
+-- n nodes more, with their facts
+abbrev pub with_nodes : Numbered → ℕ → ℕ → ℕ → ℕ → ℕ → Numbered
+with_nodes k x role c first n = record { nodes = k.nodes ++ range_with_len first n; facts = k.facts ++ fresh_facts x role c first n }
+
+abbrev pub started : ℕ → ℕ → Numbered
+started c d = record { nodes = 0 ∷ []; facts = Has 0 c ∷ Has 0 d ∷ [] }
+
+-- the branches that take the place of the one
+abbrev pub children : Numbered → Outcome → List Numbered
+children k Closed = []
+children k (Started c d) = started c d ∷ []
+children k (More fs) = with_facts k fs.items ∷ []
+children k (Nodes n) = with_nodes k n.from n.role n.concept n.first n.count ∷ []
+children k (Branches fs) = map (λ f. with_facts k (f ∷ [])) fs.items
+
+-- none where the premises of the line do not hold
+abbrev pub children_after : List Shape → Numbered → Option Outcome → Option (List Known)
+children_after table k None = None
+children_after table k (Some o) = Some (map (known_of table) (children k o))
+
+-- what new facts and nodes keep to: concepts are numbers below the bound, and new nodes are new
+abbrev pub IsFit : ℕ → Numbered → Outcome → Type 0
+IsFit bound k Closed = Unit {0}
+IsFit bound k (Started c d) = (k.nodes ≡ []) × (c < bound) × (d < bound)
+IsFit bound k (More fs) = are_listed bound fs.items ≡ true
+IsFit bound k (Nodes n) = (n.concept < bound) × (n.first + n.count ≤ 2 ^ 32) × (list_any (λ z. list_any (λ y. nat_eq y z) k.nodes) (range_with_len n.first n.count) ≡ false)
+IsFit bound k (Branches fs) = are_listed bound fs.items ≡ true
+
+abbrev pub IsFitIfSome : ℕ → Numbered → Option Outcome → Type 0
+IsFitIfSome bound k None = Unit {0}
+IsFitIfSome bound k (Some o) = IsFit bound k o
+
+-- a branch whose concepts are below the bound, and which has no facts before it has nodes
+pub record IsBranch (bound : ℕ) (k : Numbered) : Type 0 where
+  pub listed : are_listed bound k.facts ≡ true
+  pub begun : k.nodes ≡ [] → k.facts ≡ []
+
+-- ---- outcomes with few facts
+
+-- the node in the concept and no more, where there is a concept
+abbrev pub IsMoreIf : ℕ → Option ℕ → Option Outcome → Type 0
+IsMoreIf x None o = o ≡ None
+IsMoreIf x (Some c) (Some (More fs)) = fs.items ≡ Has x c ∷ []
+IsMoreIf x (Some c) _ = ⊥
+
+-- a branch for each of these facts
+abbrev pub AreBranches : List (Fact ℕ) → Option Outcome → Type 0
+AreBranches facts (Some (Branches fs)) = fs.items ≡ facts
+AreBranches facts _ = ⊥

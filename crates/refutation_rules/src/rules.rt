@@ -1,0 +1,311 @@
+// The rules, over one refutation of one query.
+ghost use Rattle.std.specs.Prelude.{◌≡◌, ℕ, ◌≤◌, ◌<◌, ◌==◌, ◌&&◌, [], true, IsTrue, IfOk, length};
+ghost use Rattle.shq_base.specs.Concept.{bottom};
+ghost use Rattle.shape_specs.specs.Normal.{normal_form, negated_form};
+ghost use Rattle.shape_specs.specs.Rows.{part_at};
+ghost use Rattle.shape_specs.specs.Shape.{IsTable, has_parts_below, is_normal};
+ghost use Rattle.shape_specs.specs.Tree.{tree_over, trees_of, tree_of};
+ghost use Rattle.shq_nnf.specs.Counts.{has_counts_within};
+ghost use Rattle.shq_nnf.specs.Kept.{form_of};
+ghost use Rattle.shq_nnf.specs.Numbers.{Extends, IsNumber};
+ghost use Rattle.axiom_sets.specs.Sets.{member_list};
+ghost use Rattle.axiom_rows.specs.Rows.{AreInLimit, row_for, IsRow, range_for, IsRange};
+ghost use Rattle.fact_specs.specs.State.{has_tree};
+ghost use Rattle.refutation_specs.specs.Rules.{knows};
+ghost use Rattle.refutation_specs.specs.Valid.{concept_at};
+ghost use Rattle.refutation_tree.specs.RuleLine.{line_of};
+ghost use Rattle.refutation_rules.specs.Outcomes.{known_of, children_after, IsFitIfSome, IsBranch};
+ghost use Rattle.refutation_rules.specs.Frame.{theory, line_children, IsOutcome, IsSameBut, StandsFor, IsHeld};
+
+use crate::numbering::{intern_complement, number_concepts, roles_of};
+use crate::table::put_shape;
+use crate::{NoMemory, Outcome};
+use axiom_rows::{RangeRow, Row, inclusion_row, range_row};
+use axiom_sets::AxiomSet;
+use branch_facts::BranchFacts;
+use refutation_tree::{Line, Refutation};
+use role_box::RoleBox;
+use shq_nnf::{Concepts, Shape};
+use shq_terms::{Ontology, Query};
+use std::alloc::Global;
+use std::marker::Model;
+
+/// The rules for the lines of one refutation: the axioms that it names, the roles by these, the query, and the numbers of
+/// its concepts in a table of their own.
+#[derive(Drop)]
+pub struct Rules<'a> {
+    pub(crate) alloc: Global,
+    ontology: &'a Ontology,
+    refutation: &'a Refutation,
+    query: &'a Query,
+    roles: RoleBox,
+    concepts: Concepts,
+    numbers: Vec<u32>,
+    sub: u32,
+    not_sup: u32,
+    bottom: u32,
+}
+
+impl<'a> Model for Rules<'a> {
+    ghost use Rattle.std.specs.Coded.{codes};
+    ghost use Rattle.shq_base.specs.Code.{concept_code};
+    ghost use Rattle.axiom_sets.specs.Sets.{member_list};
+    ghost use Rattle.refutation_rules.specs.Frame.{Frame, IsFrame};
+
+    ghost Value = { Frame };
+
+    ghost coded = { Prim.hlevel (codes, concept_code) };
+
+    ghost view = { λ r. record { axioms = r.ontology.now.axioms; named = member_list r.refutation.now.axioms; sub = r.query.now.sub; sup = r.query.now.sup; shapes = r.refutation.now.shapes; table = r.concepts } };
+
+    ghost invariant = { λ r. IsFrame r.ontology.now.axioms r.refutation.now r.query.now r.roles r.concepts r.numbers.items r.sub r.not_sup r.bottom };
+}
+
+impl<'a> Rules<'a> {
+    ghost use Rattle.refutation_rules.specs.Frame.{Frame};
+
+    /// The rules for a refutation of the query, whose axioms are numbers of the ontology's.
+    ///
+    /// # Errors
+    ///
+    /// Want of memory.
+    pub fn new(
+        alloc: Global,
+        ontology: &'a Ontology,
+        query: &'a Query,
+        refutation: &'a Refutation,
+    ) -> Result<Rules<'a>, NoMemory>
+        requires limit { refutation.now.axioms.limit ≡ length ontology.now.axioms }
+        requires within { AreInLimit ontology.now.axioms }
+        requires sub { IsTrue (has_counts_within 100 query.now.sub) }
+        requires sup { IsTrue (has_counts_within 100 query.now.sup) }
+        ensures axioms { IfOk result (λ f. f.axioms ≡ ontology.entry.now.axioms) }
+        ensures named { IfOk result (λ f. f.named ≡ member_list refutation.entry.now.axioms) }
+        ensures sub { IfOk result (λ f. f.sub ≡ query.entry.now.sub) }
+        ensures sup { IfOk result (λ f. f.sup ≡ query.entry.now.sup) }
+        ensures shapes { IfOk result (λ f. f.shapes ≡ refutation.entry.now.shapes) }
+    {
+        let mut concepts = Concepts::new(alloc)?;
+        let numbers = number_concepts(alloc, &mut concepts, refutation)?;
+        let sub = concepts.intern(&query.sub)?;
+        let not_sup = intern_complement(alloc, &mut concepts, &query.sup)?;
+        let bottom = put_shape(&mut concepts, Shape::Bottom)?;
+        let roles = roles_of(alloc, ontology, refutation.axioms_used())?;
+        Ok(Rules {
+            alloc,
+            ontology,
+            refutation,
+            query,
+            roles,
+            concepts,
+            numbers,
+            sub,
+            not_sup,
+            bottom,
+        })
+    }
+
+    /// What the line leaves of its branch. `None` where its premises do not hold there.
+    ///
+    /// # Errors
+    ///
+    /// Want of memory. The table keeps its numbers, and may have gained some.
+    pub fn outcome(
+        &mut self,
+        branch: &BranchFacts,
+        line: &Line,
+    ) -> Result<Option<Outcome>, NoMemory>
+        requires { IsBranch (length self.old.table) branch.now }
+        ensures children { IfOk result (λ o. line_children self.new branch.now (line_of line.now) ≡ children_after self.new.table branch.now o) }
+        ensures fit { IfOk result (λ o. IsFitIfSome (length self.new.table) branch.now o) }
+        ensures kept { Extends self.old.table self.new.table }
+        ensures same { IsSameBut self.old self.new }
+        ensures table { IsTable self.new.table }
+    {
+        let outcome = self.left_by(branch, line);
+        let _count = self.len();
+        outcome
+    }
+
+    // The same, by the kind of the line.
+    fn left_by(&mut self, branch: &BranchFacts, line: &Line) -> Result<Option<Outcome>, NoMemory>
+        requires { IsBranch (length self.old.table) branch.now }
+        ensures outcome { IfOk result (λ o. IsOutcome self.new branch.now (line_of line.now) o) }
+        ensures kept { Extends self.old.table self.new.table }
+        ensures same { IsSameBut self.old self.new }
+    {
+        match line {
+            Line::Start => Ok(self.start(branch)),
+            Line::And(node, concept) => self.and(branch, *node, *concept),
+            Line::Or(node, concept) => self.or(branch, *node, *concept),
+            Line::All(node, end, concept) => self.all(branch, *node, *end, *concept),
+            Line::Carry(node, end, role, concept) => {
+                self.carry(branch, *node, *end, *role, *concept)
+            }
+            Line::Row(node, axiom, part, positions) => {
+                self.row(branch, *node, *axiom, *part, positions.items())
+            }
+            Line::Range(node, end, axiom) => self.range(branch, *node, *end, *axiom),
+            Line::SomeOf(node, first, concept) => Ok(self.some(branch, *node, *first, *concept)),
+            Line::Least(node, first, concept) => Ok(self.least(branch, *node, *first, *concept)),
+            Line::Choose(node, concept) => self.choose(branch, *node, *concept),
+            Line::Pair(first, second) => self.pair(branch, *first, *second),
+            Line::Bottom(node) => Ok(self.nothing(branch, *node)),
+            Line::Clash(node, concept) => self.clash(branch, *node, *concept),
+            Line::Most(node, concept, ends) => {
+                Ok(self.most(branch, *node, *concept, ends.items()))
+            }
+        }
+    }
+
+    // The number of a concept of the refutation in the table.
+    pub(crate) fn number(&self, concept: u32) -> Option<u32>
+        ensures { StandsFor self.now.table (concept_at self.now.shapes concept) result }
+    {
+        if concept == 0 {
+            return None;
+        }
+        self.numbers.get(concept as usize).copied()
+    }
+
+    // The shape of a number.
+    pub(crate) fn shape(&self, number: u32) -> Shape<'_>
+        requires { number < length self.now.table }
+        ensures tree { tree_of self.now.table number ≡ tree_over (trees_of self.now.table) (form_of result) }
+        ensures parts { has_parts_below (length self.now.table) (form_of result) ≡ true }
+        ensures normal { is_normal self.now.table (form_of result) ≡ true }
+    {
+        self.concepts.shape(number)
+    }
+
+    // The shape of a concept of the refutation that a known node has.
+    pub(crate) fn held(&self, branch: &BranchFacts, node: u32, concept: u32) -> Option<Shape<'_>>
+        requires { IsBranch (length self.now.table) branch.now }
+        ensures { IsHeld self.now branch.now node concept result }
+    {
+        let Some(number) = self.number(concept) else {
+            return None
+        };
+        if !self.is_in(branch, node, number) {
+            return None;
+        }
+        Some(self.shape(number))
+    }
+
+    // Whether the node is known and has the concept of this number.
+    pub(crate) fn is_in(&self, branch: &BranchFacts, node: u32, number: u32) -> bool
+        requires branch { IsBranch (length self.now.table) branch.now }
+        requires listed { number < length self.now.table }
+        ensures { result ≡ (knows (known_of self.now.table branch.now) node && has_tree (known_of self.now.table branch.now).facts node (tree_of self.now.table number)) }
+    {
+        branch.knows(node) && self.has(branch, node, number)
+    }
+
+    // Whether the node has the concept of this number.
+    pub(crate) fn has(&self, branch: &BranchFacts, node: u32, number: u32) -> bool
+        requires branch { IsBranch (length self.now.table) branch.now }
+        requires listed { number < length self.now.table }
+        ensures { result ≡ has_tree (known_of self.now.table branch.now).facts node (tree_of self.now.table number) }
+    {
+        let _count = self.len();
+        branch.has(node, number)
+    }
+
+    // How many numbers the table has.
+    pub(crate) fn len(&self) -> u32
+        ensures count { result ≡ length self.now.table }
+        ensures table { IsTable self.now.table }
+    {
+        self.concepts.len()
+    }
+
+    // The numbers of the query's subclass and of the complement of its superclass.
+    pub(crate) fn query_numbers(&self) -> (u32, u32)
+        ensures sub { IsNumber self.now.table result.0 (normal_form self.now.sub) }
+        ensures not_sup { IsNumber self.now.table result.1 (negated_form self.now.sup) }
+    {
+        (self.sub, self.not_sup)
+    }
+
+    pub(crate) fn bottom(&self) -> u32
+        ensures { IsNumber self.now.table result bottom }
+    {
+        self.bottom
+    }
+
+    pub(crate) fn below(&self, lower: u32, upper: u32) -> bool
+        ensures { result ≡ (theory self.now).below lower upper }
+    {
+        self.roles.below(lower, upper)
+    }
+
+    pub(crate) fn is_transitive(&self, role: u32) -> bool
+        ensures { result ≡ (theory self.now).is_transitive role }
+    {
+        self.roles.is_transitive(role)
+    }
+
+    // From this number on each role is below itself alone.
+    pub(crate) fn role_bound(&self) -> u32
+        ensures { (r s : ℕ) → result ≤ r → (theory self.now).below r s ≡ (r == s) }
+    {
+        self.roles.role_bound()
+    }
+
+    // The number of a shape that is normal and has its parts in the table.
+    pub(crate) fn put(&mut self, shape: Shape<'_>) -> Result<u32, NoMemory>
+        requires parts { IsTrue (has_parts_below (length self.old.table) (form_of shape)) }
+        requires normal { IsTrue (is_normal self.old.table (form_of shape)) }
+        ensures number { IfOk result (λ n. IsNumber self.new.table n (tree_over (trees_of self.old.table) (form_of shape.entry))) }
+        ensures kept { Extends self.old.table self.new.table }
+        ensures same { IsSameBut self.old self.new }
+        ensures table { IsTable self.new.table }
+    {
+        put_shape(&mut self.concepts, shape)
+    }
+
+    // The number of the complement of a number.
+    pub(crate) fn negated(&mut self, number: u32) -> Result<u32, NoMemory>
+        requires { number < length self.old.table }
+        ensures number { IfOk result (λ n. IsNumber self.new.table n (negated_form (tree_of self.old.table number))) }
+        ensures kept { Extends self.old.table self.new.table }
+        ensures same { IsSameBut self.old self.new }
+    {
+        self.concepts.negated(number)
+    }
+
+    // The row of a part of an axiom for the conjuncts at these positions.
+    pub(crate) fn inclusion_row(
+        &mut self,
+        axiom: u32,
+        part: u32,
+        positions: &[u32],
+    ) -> Result<Option<Row>, NoMemory>
+        ensures row { IfOk result (λ r. IsRow self.new.table (row_for (part_at (theory self.new) «axiom» part) positions.now) r) }
+        ensures kept { Extends self.old.table self.new.table }
+        ensures same { IsSameBut self.old self.new }
+        ensures table { IsTable self.new.table }
+    {
+        let named = self.refutation.axioms_used();
+        inclusion_row(
+            self.alloc,
+            &mut self.concepts,
+            self.ontology,
+            named,
+            axiom,
+            part,
+            positions,
+        )
+    }
+
+    // The row of a range axiom.
+    pub(crate) fn range_row(&mut self, axiom: u32) -> Result<Option<RangeRow>, NoMemory>
+        ensures row { IfOk result (λ r. IsRange self.new.table (range_for (part_at (theory self.new) «axiom» 1)) r) }
+        ensures kept { Extends self.old.table self.new.table }
+        ensures same { IsSameBut self.old self.new }
+        ensures table { IsTable self.new.table }
+    {
+        let named = self.refutation.axioms_used();
+        range_row(&mut self.concepts, self.ontology, named, axiom)
+    }
+}
