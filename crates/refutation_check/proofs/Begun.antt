@@ -1,0 +1,103 @@
+-- Only the first line finds a branch that knows no node, and every line leaves branches that know some.
+use Rattle.std.proofs.Common.{◌≡◌, ℕ, ◌&&◌, Bool, true, false, List, [], ◌∷◌, map, Option, Some, None, refl, ap, ◌∙◌, sym}
+use Rattle.std.specs.List.{All}
+use Rattle.std.proofs.lemmas.List.Elements.{All-nil, All-cons}
+use Rattle.shq_base.specs.Concept.{Concept}
+use Rattle.shape_specs.specs.Shape.{Shape}
+use Rattle.shape_specs.specs.Rows.{Part, Theory, part_at, are_name_positions}
+use Rattle.shape_specs.specs.Rows.Part.{inclusion, range}
+use Rattle.fact_specs.specs.declared.Fact.{Fact}
+use Rattle.branch_facts.specs.Known.{Known as Branch}
+use Rattle.refutation_specs.specs.Line.{Line}
+use Rattle.refutation_specs.specs.Line.Line.{start_line, and_line, or_line, all_line, carry_line, row_line, range_line, some_line, least_line, choose_line, pair_line, bottom_line, clash_line, most_line}
+use Rattle.refutation_specs.specs.Rules.{Known, when, at_concept, and_children, or_children, all_children, carry_children, row_children, range_children, some_children, least_children, choose_children, clash_children, most_children, started, children_of}
+use Rattle.refutation_rules.specs.declared.outcome.Outcome.{Outcome}
+use Rattle.refutation_rules.specs.declared.outcome.Outcome.TheVariants.{Closed, Started, More, Nodes, Branches}
+use Rattle.refutation_rules.specs.Outcomes.{known_of, with_facts, children}
+
+-- ---- a branch that knows no node
+
+module _ (facts : List (Fact Concept)) where
+  abbrev bare : Known
+  bare = record { nodes = []; facts = facts }
+
+  no_concept : (x : ℕ) (o : Option Concept) (answer : Concept → Option (List Known)) → at_concept bare x o answer ≡ None
+  no_concept x None answer = refl
+  no_concept x (Some c) answer = refl
+
+  none_when : (b c : Bool) (answer : Option (List Known)) → when (b && false && c) answer ≡ None
+  none_when true c answer = refl
+  none_when false c answer = refl
+
+  no_row : (x : ℕ) (positions : List ℕ) (o : Option Part) → row_children bare x positions o ≡ None
+  no_row x positions None = refl
+  no_row x positions (Some (range s d)) = refl
+  no_row x positions (Some (inclusion cs d)) = none_when (are_name_positions cs positions) _ _
+
+  no_range : (theory : Theory) (x y : ℕ) (o : Option Part) → range_children theory bare x y o ≡ None
+  no_range theory x y None = refl
+  no_range theory x y (Some (inclusion cs d)) = refl
+  no_range theory x y (Some (range s d)) = refl
+
+  no_choice : (y : ℕ) (o : Option Concept) → choose_children bare y o ≡ None
+  no_choice y None = refl
+  no_choice y (Some c) = refl
+
+  module _ (theory : Theory) (sub sup : Concept) (concept : ℕ → Option Concept) where
+    abbrev Starts : Option (List Known) → Type 0
+    Starts o = (ks : List Known) → o ≡ Some ks → ks ≡ started sub sup ∷ []
+
+    none_starts : (o : Option (List Known)) → o ≡ None → Starts o
+    none_starts o e ks h = let clash : None ≡ Some ks = sym e ∙ h in cc
+
+    pub only_starts : (line : Line) → Starts (children_of theory sub sup concept bare line)
+    only_starts start_line = λ ks h. cc
+    only_starts (and_line x c) = none_starts _ (no_concept x (concept c) (and_children bare x))
+    only_starts (or_line x c) = none_starts _ (no_concept x (concept c) (or_children bare x))
+    only_starts (all_line x y c) = none_starts _ (no_concept x (concept c) (all_children theory bare x y))
+    only_starts (carry_line x y t c) = none_starts _ (no_concept x (concept c) (carry_children theory bare x y t))
+    only_starts (row_line x a p positions) = none_starts _ (no_row x positions (part_at theory a p))
+    only_starts (range_line x y a) = none_starts _ (no_range theory x y (part_at theory a 1))
+    only_starts (some_line x y c) = none_starts _ (no_concept x (concept c) (some_children bare x y))
+    only_starts (least_line x y c) = none_starts _ (no_concept x (concept c) (least_children bare x y))
+    only_starts (choose_line y c) = none_starts _ (no_choice y (concept c))
+    only_starts (pair_line y z) = none_starts _ refl
+    only_starts (bottom_line x) = none_starts _ refl
+    only_starts (clash_line x c) = none_starts _ (no_concept x (concept c) (clash_children bare x))
+    only_starts (most_line x c ys) = none_starts _ (no_concept x (concept c) (most_children theory bare x ys))
+
+-- ---- what lines leave knows some node
+
+abbrev pub IsBegun : Branch → Type 0
+IsBegun k = k.nodes ≡ [] → ⊥
+
+from_started : (table : List Shape) (sub sup : Concept) (ks : List Branch) → map (known_of table) ks ≡ started sub sup ∷ [] → All IsBegun ks
+from_started table sub sup [] h = cc
+from_started table sub sup (k ∷ []) h =
+    let head : known_of table k ≡ started sub sup = cc in
+    let nodes : k.nodes ≡ 0 ∷ [] = ap (λ (j : Known). j.nodes) head in
+    All-cons IsBegun k [] (λ e. let clash : [] ≡ 0 ∷ [] = sym e ∙ nodes in cc) (All-nil IsBegun)
+from_started table sub sup (k ∷ j ∷ ks) h = cc
+
+not_empty : (k : Branch) (x : ℕ) (xs : List ℕ) → k.nodes ≡ x ∷ xs → IsBegun k
+not_empty k x xs h e = let clash : [] ≡ x ∷ xs = sym e ∙ h in cc
+
+each_more : (k : Branch) (fs : List (Fact ℕ)) → IsBegun k → All IsBegun (map (λ f. with_facts k (f ∷ [])) fs)
+each_more k [] h = All-nil IsBegun
+each_more k (f ∷ fs) h = All-cons IsBegun (with_facts k (f ∷ [])) (map (λ g. with_facts k (g ∷ [])) fs) h (each_more k fs h)
+
+one : (k : Branch) → IsBegun k → All IsBegun (k ∷ [])
+one k h = All-cons IsBegun k [] h (All-nil IsBegun)
+
+from_begun : (x : ℕ) (xs : List ℕ) (facts : List (Fact ℕ)) (o : Outcome) → All IsBegun (children (record { nodes = x ∷ xs; facts = facts }) o)
+from_begun x xs facts Closed = All-nil IsBegun
+from_begun x xs facts (Started c d) = one _ (λ e. cc)
+from_begun x xs facts (More fs) = one _ (λ e. cc)
+from_begun x xs facts (Nodes n) = one _ (λ e. cc)
+from_begun x xs facts (Branches fs) = each_more (record { nodes = x ∷ xs; facts = facts }) fs.items (λ e. cc)
+
+module _ (theory : Theory) (sub sup : Concept) (concept : ℕ → Option Concept) (table : List Shape) (line : Line) (o : Outcome) where
+  pub all_begun : (nodes : List ℕ) (facts : List (Fact ℕ)) → children_of theory sub sup concept (known_of table (record { nodes = nodes; facts = facts })) line ≡ Some (map (known_of table) (children (record { nodes = nodes; facts = facts }) o))
+      → All IsBegun (children (record { nodes = nodes; facts = facts }) o)
+  all_begun [] facts h = from_started table sub sup _ (only_starts (known_of table (record { nodes = []; facts = facts })).facts theory sub sup concept line _ h)
+  all_begun (x ∷ xs) facts h = from_begun x xs facts o

@@ -1,0 +1,102 @@
+-- Several lines, and where they break the rules.
+use Rattle.std.proofs.Common.{◌≡◌, ℕ, suc, ◌+◌, ◌<◌, Bool, true, false, List, [], ◌∷◌, ◌++◌, map, take, drop, length, get_or, Option, Some, None, refl, ap, ◌∙◌, sym, subst, arith, drop-cons}
+use Rattle.std.specs.Option.{option_and_then}
+use Rattle.std.proofs.lemmas.List.{take_more, get_or-map, length-map}
+use Rattle.shq_base.specs.Concept.{Concept}
+use Rattle.shape_specs.specs.Rows.{Theory}
+use Rattle.refutation_tree.specs.RuleLine.{line_of}
+use Rattle.refutation_tree.specs.declared.line.Line.{Line as Kept}
+use Rattle.refutation_specs.specs.Line.{Line}
+use Rattle.refutation_specs.specs.Rules.{Known, nothing_known}
+use Rattle.refutation_specs.specs.Valid.{concept_at, open_after, open_after_all, Breaks}
+use Rattle.refutation_truth.specs.Theory.{theory_of}
+use Rattle.refutation_rules.specs.Frame.{Frame, theory, IsSameBut}
+use Rattle.refutation_check.specs.declared.checking.Verdict.TheVariants.{Rejected}
+use Rattle.refutation_check.specs.Open.{Open, branches, are_known, AreBranches}
+use Rattle.refutation_check.specs.Steps.{left_by, left_by_all, IsLeftIf, IsReadAs}
+
+module _ (theory : Theory) (sub sup : Concept) (concept : ℕ → Option Concept) where
+  abbrev goes_on : List Line → List Known → Option (List Known)
+  goes_on lines ks = open_after_all theory sub sup concept ks lines
+
+  after_one : (one rest both : List Known → Option (List Known)) → ((ks : List Known) → both ks ≡ option_and_then rest (one ks)) → (o : Option (List Known))
+      → option_and_then both o ≡ option_and_then rest (option_and_then one o)
+  after_one one rest both h None = refl
+  after_one one rest both h (Some ks) = h ks
+
+  after_more : (lines rest : List Line) (ks : List Known) → goes_on (lines ++ rest) ks ≡ option_and_then (goes_on rest) (goes_on lines ks)
+  after_more [] rest ks = refl
+  after_more (line ∷ lines) rest ks = after_one (goes_on lines) (goes_on rest) (goes_on (lines ++ rest)) (after_more lines rest) (open_after theory sub sup concept ks line)
+
+  only : (o : Option (List Known)) → option_and_then (goes_on []) o ≡ o
+  only None = refl
+  only (Some ks) = refl
+
+  pub one_more : (lines : List Line) (line : Line) (ks left : List Known) → goes_on lines ks ≡ Some left → goes_on (lines ++ line ∷ []) ks ≡ open_after theory sub sup concept left line
+  one_more lines line ks left e = after_more lines (line ∷ []) ks ∙ ap (option_and_then (goes_on (line ∷ []))) e ∙ only (open_after theory sub sup concept left line)
+
+  pub at_line : (ks : List Known) (line : Line) (lines : List Line) → open_after theory sub sup concept ks line ≡ None → Breaks theory sub sup concept ks (line ∷ lines)
+  at_line [] line lines e = e
+  at_line (k ∷ ks) line lines e = e
+
+-- ---- a frame over a longer table
+
+pub same_twice : (f g h : Frame) → IsSameBut f g → IsSameBut g h → IsSameBut f h
+same_twice f g h a b = record {
+  axioms = b.axioms ∙ a.axioms;
+  named = b.named ∙ a.named;
+  sub = b.sub ∙ a.sub;
+  sup = b.sup ∙ a.sup;
+  shapes = b.shapes ∙ a.shapes;
+}
+
+same_left : (f g : Frame) (o : Open) (line : Line) → IsSameBut f g → left_by g o line ≡ open_after (theory f) f.sub f.sup (concept_at f.shapes) (are_known g.table (branches o)) line
+same_left f g o line same i = open_after (theory_of (same.axioms i) (same.named i)) (same.sub i) (same.sup i) (concept_at (same.shapes i)) (are_known g.table (branches o)) line
+
+-- ---- lines that were read
+
+-- so many lines of a refutation leave the branches that are open now
+pub record IsRead (f g : Frame) (o : Open) (lines : List Line) (count : ℕ) : Type 0 where
+  pub left : left_by_all f (take count lines) ≡ Some (are_known g.table (branches o))
+  pub are : AreBranches (length g.table) (branches o)
+  pub same : IsSameBut f g
+
+module _ (f g : Frame) (o : Open) (lines : List Kept) (place : ℕ) (kept : Kept) where
+  abbrev all : List Line
+  all = map line_of lines
+
+  is_here : kept ≡ get_or lines place kept → place < length lines → line_of kept ≡ get_or all place (line_of kept)
+  is_here is l = ap line_of is ∙ sym (get_or-map line_of lines place kept (line_of kept) l)
+
+  within : place < length lines → place < length all
+  within l = omega (arith, length-map lines line_of)
+
+  pub read_on : (h : Frame) (p : Open) (b : Bool) → kept ≡ get_or lines place kept → place < length lines → IsRead f g o all place → b ≡ true → IsLeftIf b (left_by g o (line_of kept)) h p → IsSameBut g h
+      → IsRead f h p all (place + 1)
+  read_on h p b is l read e moved same =
+      let left = subst (λ (c : Bool). IsLeftIf c (left_by g o (line_of kept)) h p) e moved in
+      let taken = take_more all place (line_of kept) (within l) ∙ ap (λ (m : Line). take place all ++ m ∷ []) (sym (is_here is l)) in
+      let more = one_more (theory f) f.sub f.sup (concept_at f.shapes) (take place all) (line_of kept) (nothing_known ∷ []) (are_known g.table (branches o)) read.left in
+      record {
+        left = ap (left_by_all f) taken ∙ more ∙ sym (same_left f g o (line_of kept) read.same) ∙ left.are;
+        are = left.listed;
+        same = same_twice f g h read.same same;
+      }
+
+  pub broken : (h : Frame) (p : Open) (b : Bool) → kept ≡ get_or lines place kept → place < length lines → IsRead f g o all place → b ≡ false → IsLeftIf b (left_by g o (line_of kept)) h p
+      → IsReadAs f all (Rejected (place + 1))
+  broken h p b is l read e moved =
+      let left = subst (λ (c : Bool). IsLeftIf c (left_by g o (line_of kept)) h p) e moved in
+      let none = sym (same_left f g o (line_of kept) read.same) ∙ left in
+      let rest = drop-cons all place (line_of kept) (within l) ∙ ap (λ (m : Line). m ∷ drop (suc place) all) (sym (is_here is l)) in
+      let known = are_known g.table (branches o) in
+      let breaks = at_line (theory f) f.sub f.sup (concept_at f.shapes) known (line_of kept) (drop (suc place) all) none in
+      let in_all = within l in
+      record {
+        count = place;
+        counts = refl;
+        within = omega arith;
+        left = known;
+        before = read.left;
+        breaks = subst (λ (ls : List Line). Breaks (theory f) f.sub f.sup (concept_at f.shapes) known ls) (sym rest) breaks;
+      }

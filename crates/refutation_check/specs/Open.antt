@@ -1,0 +1,60 @@
+-- The branches that are open: one that is read, and those that wait.
+use Rattle.std.specs.Prelude.{◌≡◌, ℕ, ◌+◌, ◌^◌, ◌≤◌, Bool, true, false, List, [], ◌∷◌, ◌++◌, map, take, reverse, All}
+use Rattle.std.specs.List.{list_any, range_with_len}
+use Rattle.shape_specs.specs.Shape.{Shape}
+use Rattle.branch_facts.specs.Known.{Known as Branch, knows}
+use Rattle.refutation_specs.specs.Rules.{Known}
+use Rattle.fact_specs.specs.declared.Fact.{Fact}
+use Rattle.refutation_rules.specs.declared.outcome.Outcome.{Outcome}
+use Rattle.refutation_rules.specs.declared.outcome.Outcome.TheVariants.{Closed, Started, More, Nodes, Branches}
+use Rattle.refutation_rules.specs.Outcomes.{known_of, with_facts, IsBranch}
+use Rattle.refutation_check.specs.declared.open.Pending.{Pending}
+
+pub record Open : Type 0 where
+  pub branch : Branch
+  pub waiting : List Branch
+  pub closed : Bool
+
+abbrev pub branches_of : Bool → Branch → List Branch → List Branch
+branches_of true k ks = []
+branches_of false k ks = k ∷ ks
+
+-- all open branches
+abbrev pub branches : Open → List Branch
+branches o = branches_of o.closed o.branch o.waiting
+
+abbrev pub are_known : List Shape → List Branch → List Known
+are_known table ks = map (known_of table) ks
+
+abbrev pub AreBranches : ℕ → List Branch → Type 0
+AreBranches bound ks = All (IsBranch bound) ks
+
+-- the branch that is read with nodes more, and with facts more
+abbrev pub knowing_nodes : Open → List ℕ → Open
+knowing_nodes o xs = record { branch = record { nodes = o.branch.nodes ++ xs; facts = o.branch.facts }; waiting = o.waiting; closed = o.closed }
+
+abbrev pub knowing : Open → List (Fact ℕ) → Open
+knowing o fs = record { branch = with_facts o.branch fs; waiting = o.waiting; closed = o.closed }
+
+-- what a line leaves can be put in the place of the branch: only one that knows nothing is started, and new nodes are new
+abbrev pub IsReady : Branch → Outcome → Type 0
+IsReady k Closed = Unit {0}
+IsReady k (Started c d) = (k.nodes ≡ []) × (k.facts ≡ [])
+IsReady k (More fs) = Unit {0}
+IsReady k (Nodes n) = (n.first + n.count ≤ 2 ^ 32) × (list_any (knows k) (range_with_len n.first n.count) ≡ false)
+IsReady k (Branches fs) = Unit {0}
+
+-- ---- how those that wait are kept
+
+-- the branch that begins as the first one did up to a mark, and has a fact of its own there
+abbrev pub branch_at : Branch → Pending → Branch
+branch_at k p = record { nodes = take p.mark.nodes k.nodes; facts = take p.mark.facts k.facts ++ p.fact ∷ [] }
+
+-- the branches that wait, the next one first; the last that was put comes next
+abbrev pub branches_at : Branch → List Pending → List Branch
+branches_at k ps = map (branch_at k) (reverse ps)
+
+-- marks, the latest first, lie within each other
+abbrev pub AreWithin : ℕ → ℕ → List Pending → Type 0
+AreWithin nodes facts [] = Unit {0}
+AreWithin nodes facts (p ∷ ps) = (p.mark.nodes ≤ nodes) × (p.mark.facts ≤ facts) × AreWithin p.mark.nodes p.mark.facts ps

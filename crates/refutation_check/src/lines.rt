@@ -1,0 +1,88 @@
+// Lines in order.
+ghost use Rattle.std.specs.Prelude.{◌≡◌, ◌≤◌, false, [], ◌∷◌, IfOk, length, map};
+ghost use Rattle.refutation_tree.specs.RuleLine.{line_of};
+ghost use Rattle.refutation_rules.specs.Frame.{IsSameBut};
+ghost use Rattle.refutation_check.specs.Open.{branches, AreBranches};
+ghost use Rattle.refutation_check.specs.Steps.{left_by, IsLeftIf, IsPutIf, IsReadAs, IsReadyIf, IsEnd};
+
+use crate::NoMemory;
+use crate::checking::Verdict;
+use crate::open::OpenBranches;
+use refutation_rules::{Outcome, Rules};
+use refutation_tree::Line;
+use std::alloc::Global;
+
+/// The verdict on the lines of a refutation, as far as they alone decide it.
+///
+/// # Errors
+///
+/// Want of memory.
+pub(crate) fn read(
+    alloc: Global,
+    rules: &mut Rules<'_>,
+    lines: &[Line],
+) -> Result<Verdict, NoMemory>
+    requires { length lines.now ≤ 4294967293 }
+    ensures { IfOk result (IsReadAs rules.old (map line_of lines.now)) }
+{
+    let mut stack = OpenBranches::new(alloc);
+    read_on(rules, &mut stack, lines)
+}
+
+// The same from one branch that knows nothing.
+fn read_on(
+    rules: &mut Rules<'_>,
+    stack: &mut OpenBranches,
+    lines: &[Line],
+) -> Result<Verdict, NoMemory>
+    requires lines { length lines.now ≤ 4294967293 }
+    requires stack { branches stack.old ≡ (record { nodes = []; facts = [] }) ∷ [] }
+    ensures { IfOk result (IsReadAs rules.old (map line_of lines.now)) }
+{
+    for place in 0..lines.len() {
+        if !step(rules, stack, &lines[place])? {
+            return Ok(Verdict::Rejected(place as u32 + 1));
+        }
+    }
+    Ok(at_end(stack, lines.len() as u32))
+}
+
+// The verdict after so many lines, all of which could be read.
+fn at_end(stack: &OpenBranches, count: u32) -> Verdict
+    requires { count ≤ 4294967293 }
+    ensures { IsEnd stack.now count result }
+{
+    if stack.is_closed() {
+        Verdict::Accepted
+    } else {
+        Verdict::Rejected(count + 1)
+    }
+}
+
+// Reads one line more. `false` where no branch is open, or where the premises of the line do not hold in the first one.
+fn step(rules: &mut Rules<'_>, stack: &mut OpenBranches, line: &Line) -> Result<bool, NoMemory>
+    requires { AreBranches (length rules.old.table) (branches stack.old) }
+    ensures left { IfOk result (λ taken. IsLeftIf taken (left_by rules.old stack.old (line_of line.now)) rules.new stack.new) }
+    ensures same { IsSameBut rules.old rules.new }
+{
+    if stack.is_closed() {
+        return Ok(false);
+    }
+    let outcome = rules.outcome(stack.branch(), line)?;
+    put(stack, outcome)
+}
+
+// Puts what a line leaves of the branch in its place, if its premises held.
+fn put(stack: &mut OpenBranches, outcome: Option<Outcome>) -> Result<bool, NoMemory>
+    requires open { stack.old.closed ≡ false }
+    requires ready { IsReadyIf stack.old outcome }
+    ensures { IfOk result (λ put. IsPutIf stack.old outcome put stack.new) }
+{
+    match outcome {
+        None => Ok(false),
+        Some(outcome) => {
+            stack.apply(&outcome)?;
+            Ok(true)
+        }
+    }
+}
