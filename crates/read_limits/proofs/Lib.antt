@@ -1,0 +1,4 @@
+pub mod Expressions
+pub mod Axioms
+pub mod Words
+pub mod Texts

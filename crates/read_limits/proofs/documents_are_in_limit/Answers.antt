@@ -1,0 +1,5 @@
+use Rattle.read_limits.proofs.Texts.{documents_in_limit}
+use Rattle.read_limits.proofs.documents_are_in_limit.Goals as goal
+
+pub returns : goal.returns
+returns c = documents_in_limit
