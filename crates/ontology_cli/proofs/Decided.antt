@@ -1,12 +1,16 @@
 -- The words and the input decide the answer.
-use Rattle.std.proofs.Common.{◌≡◌, ℕ, ◌<◌, ◌≤◌, ◌^◌, List, ◌⊎◌, inl, inr, length, drop, true, false, Bool, Option, Some, None, refl, ap, sym, ◌∙◌, subst, arith}
+use Rattle.std.proofs.Common.{◌≡◌, ℕ, ◌<◌, ◌≤◌, ◌^◌, List, ◌⊎◌, inl, inr, length, drop, true, false, Bool, Option, Some, None, Result, Ok, Err, refl, ap, sym, ◌∙◌, subst, arith}
 use Rattle.std.specs.Prelude.{MatchOption, codes, not}
 use Rattle.shq_terms.specs.Listed.{Listed}
 use Rattle.shq_terms.specs.declared.axioms.Query.{Query as Asked}
 use Rattle.shq_meaning.specs.Truth.{refutes_at}
 use Rattle.shq_meaning.specs.Least.{IsFirstBelow}
 use Rattle.shq_meaning.proofs.Below.{all_below-false}
-use Rattle.finite_model.specs.Kept.{meaning}
+use Rattle.finite_model.specs.Kept.{Kept as Model, meaning}
+use Rattle.refutation_specs.specs.Laws.{IsJudged}
+use Rattle.refutation_specs.proofs.Broken.{judged as judged_once}
+use Rattle.refutation_tree.specs.Kept.{Kept as Refutation}
+use Rattle.refutation_check.specs.Verdicts.{named_theory}
 use Rattle.ofn_expressions.specs.Counts.{Counts}
 use Rattle.ofn_reader.specs.Kept.{Kept}
 use Rattle.ofn_reader.specs.Documents.{IsDocument}
@@ -14,56 +18,85 @@ use Rattle.ofn_reader.specs.Queries.{query_start}
 use Rattle.ofn_reader.proofs.OneReason.{document_refusals, query_refusals}
 use Rattle.ofn_reader.proofs.Unique.{documents, documents_not_refused, queries, queries_not_refused}
 use Rattle.ontology_cli.specs.Words.{Job, check, job_of}
-use Rattle.ontology_cli.specs.Certificates.{Certificate, certificate, of_model, refutation, malformed}
-use Rattle.ontology_cli.specs.Checking.{with_names, IsAsked, IsNotAsked, IsVerdict, Reply, judged, refused_document, refused_query, refutation_begun, malformed_line, Shows, Says, no_document, no_query, shown}
+use Rattle.ontology_cli.specs.Certificates.{certificate}
+use Rattle.ontology_cli.specs.Checking.{with_names, IsAsked, IsNotAsked, IsOfModel, IsOfRefutation, IsVerdictOn, line_of_place, Reply, judged, refused_document, refused_query, malformed_line, Shows, Says, no_document, no_query, shown}
 use Rattle.ontology_cli.specs.Answers.{line, Answer, verdict_answer, reply_answer, AnswersJob, Answers}
 use Rattle.ontology_cli.specs.Laws.{IsDecided}
-use Rattle.ontology_cli.specs.declared.checking.Input.{Input}
-use Rattle.ontology_cli.specs.declared.checking.Verdict.{Verdict}
-use Rattle.ontology_cli.specs.declared.checking.Verdict.TheVariants.{Accepted, Axiom, Query}
+use Rattle.ontology_cli.specs.declared.certificate.Certificate.{Certificate}
+use Rattle.ontology_cli.specs.declared.certificate.Certificate.TheVariants as C
+use Rattle.ontology_cli.specs.declared.judging.Verdict.{Verdict}
+use Rattle.ontology_cli.specs.declared.judging.Verdict.TheVariants.{NotEntailed, Entailed, Axiom, Query, Line}
 use Rattle.ontology_cli.specs.declared.status.Status.{Status}
-use Rattle.ontology_cli.specs.declared.status.Status.TheVariants.{Done, Rejected, BadWords, BadText, Outside, Limit, ReadFault, WriteFault, NoMemory, NotBuilt}
+use Rattle.ontology_cli.specs.declared.status.Status.TheVariants.{Done, Rejected, BadWords, BadText, Outside, Limit, ReadFault, WriteFault, NoMemory}
 
 some_same : {A : Type 0} (a b : A) → Some a ≡ Some b → a ≡ b
 some_same a b same = cc same
 
 -- a least element that passes, and none that passes, exclude each other
-none_and_least : (x : Input) (y : ℕ) → IsFirstBelow x.model.size (refutes_at (meaning x.model) x.asked) (Some y) → IsFirstBelow x.model.size (refutes_at (meaning x.model) x.asked) None → ⊥
-none_and_least x y some none =
-    let p : ℕ → Bool = refutes_at (meaning x.model) x.asked in
+none_and_least : (m : Model) (q : Asked) (y : ℕ) → IsFirstBelow m.size (refutes_at (meaning m) q) (Some y) → IsFirstBelow m.size (refutes_at (meaning m) q) None → ⊥
+none_and_least m q y some none =
+    let p : ℕ → Bool = refutes_at (meaning m) q in
     let fails : not (p y) ≡ false = ap not some.passes in
-    let clash : true ≡ false = sym none ∙ all_below-false x.model.size (λ z. not (p z)) y some.below fails in
+    let clash : true ≡ false = sym none ∙ all_below-false m.size (λ z. not (p z)) y some.below fails in
     absurd (cc clash)
 
--- one verdict on an input excludes the others
-same_verdict : (x : Input) (v w : Verdict) → IsVerdict x v → IsVerdict x w → ◌≡◌ {A = Status × List ℕ} (verdict_answer v) (verdict_answer w)
-same_verdict x Accepted Accepted p q = refl
-same_verdict x Accepted (Axiom k) p q = let clash : None ≡ Some k = sym p.0 ∙ q in absurd (cc clash)
-same_verdict x Accepted Query p q = absurd (none_and_least x p.1.0 p.1.1 q.1)
-same_verdict x (Axiom j) Accepted p q = let clash : None ≡ Some j = sym q.0 ∙ p in absurd (cc clash)
-same_verdict x (Axiom j) (Axiom k) p q = let same : j ≡ k = some_same j k (sym p ∙ q) in ap (λ n. verdict_answer (Axiom n)) same
-same_verdict x (Axiom j) Query p q = let clash : None ≡ Some j = sym q.0 ∙ p in absurd (cc clash)
-same_verdict x Query Accepted p q = absurd (none_and_least x q.1.0 q.1.1 p.1)
-same_verdict x Query (Axiom k) p q = let clash : None ≡ Some k = sym p.0 ∙ q in absurd (cc clash)
-same_verdict x Query Query p q = refl
+-- one verdict on a model excludes the others
+module _ (o : Listed) (q : Asked) (m : Model) where
+  same_of_model : (v w : Verdict) → IsOfModel o q m v → IsOfModel o q m w → ◌≡◌ {A = Answer} (verdict_answer v) (verdict_answer w)
+  same_of_model NotEntailed NotEntailed a b = refl
+  same_of_model NotEntailed (Axiom k) a b = let clash : None ≡ Some k = sym a.0 ∙ b in absurd (cc clash)
+  same_of_model NotEntailed Query a b = absurd (none_and_least m q a.1.0 a.1.1 b.1)
+  same_of_model (Axiom j) NotEntailed a b = let clash : None ≡ Some j = sym b.0 ∙ a in absurd (cc clash)
+  same_of_model (Axiom j) (Axiom k) a b = let same : j ≡ k = some_same j k (sym a ∙ b) in ap (λ n. verdict_answer (Axiom n)) same
+  same_of_model (Axiom j) Query a b = let clash : None ≡ Some j = sym b.0 ∙ a in absurd (cc clash)
+  same_of_model Query NotEntailed a b = absurd (none_and_least m q b.1.0 b.1.1 a.1)
+  same_of_model Query (Axiom k) a b = let clash : None ≡ Some k = sym a.0 ∙ b in absurd (cc clash)
+  same_of_model Query Query a b = refl
+  same_of_model NotEntailed Entailed a b = absurd b
+  same_of_model NotEntailed (Line n) a b = absurd b
+  same_of_model (Axiom j) Entailed a b = absurd b
+  same_of_model (Axiom j) (Line n) a b = absurd b
+  same_of_model Query Entailed a b = absurd b
+  same_of_model Query (Line n) a b = absurd b
+  same_of_model Entailed w a b = absurd a
+  same_of_model (Line n) w a b = absurd a
+
+-- and so does one on a refutation
+module _ (o : Listed) (q : Asked) (r : Refutation) where
+  judgement : IsJudged (named_theory o.axioms r) q.sub q.sup r.shapes r.lines
+  judgement = judged_once (named_theory o.axioms r) q.sub q.sup r.shapes r.lines
+
+  same_of_refutation : (v w : Verdict) → IsOfRefutation o q r v → IsOfRefutation o q r w → ◌≡◌ {A = Answer} (verdict_answer v) (verdict_answer w)
+  same_of_refutation Entailed Entailed a b = refl
+  same_of_refutation Entailed (Line n) a b = absurd (judgement.not_both a b.0 b.1)
+  same_of_refutation (Line n) Entailed a b = absurd (judgement.not_both b a.0 a.1)
+  same_of_refutation (Line n) (Line k) a b =
+      let same : n ≡ k = a.2 ∙ ap (line_of_place r) (judgement.only_place a.0 b.0 a.1 b.1) ∙ sym b.2 in
+      ap (λ i. verdict_answer (Line i)) same
+  same_of_refutation Entailed NotEntailed a b = absurd b
+  same_of_refutation Entailed (Axiom k) a b = absurd b
+  same_of_refutation Entailed Query a b = absurd b
+  same_of_refutation (Line n) NotEntailed a b = absurd b
+  same_of_refutation (Line n) (Axiom k) a b = absurd b
+  same_of_refutation (Line n) Query a b = absurd b
+  same_of_refutation NotEntailed w a b = absurd a
+  same_of_refutation (Axiom j) w a b = absurd a
+  same_of_refutation Query w a b = absurd a
+
+same_verdict : (o : Listed) (q : Asked) (c : Certificate) (v w : Verdict) → IsVerdictOn o q c v → IsVerdictOn o q c w → ◌≡◌ {A = Answer} (verdict_answer v) (verdict_answer w)
+same_verdict o q (C.Model m) v w a b = same_of_model o q m v w a b
+same_verdict o q (C.Refutation r) v w a b = same_of_refutation o q r v w a b
 
 -- one certificate for one query has one answer
-same_shows : (o : Listed) (asked : Asked) (c : Certificate) (r q : Reply) → Shows o asked c r → Shows o asked c q → ◌≡◌ {A = Answer} (reply_answer r) (reply_answer q)
-same_shows o asked (of_model m) (judged v) (judged w) p q = same_verdict (record { ontology = o; asked = asked; model = m }) v w p q
-same_shows o asked refutation refutation_begun refutation_begun p q = refl
-same_shows o asked (malformed n) (malformed_line j) (malformed_line k) p q = ap (λ i. reply_answer (malformed_line i)) (sym p ∙ q)
-same_shows o asked (of_model m) (judged v) (refused_document e) p q = absurd q
-same_shows o asked (of_model m) (judged v) (refused_query e) p q = absurd q
-same_shows o asked (of_model m) (judged v) refutation_begun p q = absurd q
-same_shows o asked (of_model m) (judged v) (malformed_line k) p q = absurd q
-same_shows o asked refutation refutation_begun (judged w) p q = absurd q
-same_shows o asked refutation refutation_begun (refused_document e) p q = absurd q
-same_shows o asked refutation refutation_begun (refused_query e) p q = absurd q
-same_shows o asked refutation refutation_begun (malformed_line k) p q = absurd q
-same_shows o asked (malformed n) (malformed_line j) (judged w) p q = absurd q
-same_shows o asked (malformed n) (malformed_line j) (refused_document e) p q = absurd q
-same_shows o asked (malformed n) (malformed_line j) (refused_query e) p q = absurd q
-same_shows o asked (malformed n) (malformed_line j) refutation_begun p q = absurd q
+same_shows : (o : Listed) (asked : Asked) (c : Result Certificate ℕ) (r q : Reply) → Shows o asked c r → Shows o asked c q → ◌≡◌ {A = Answer} (reply_answer r) (reply_answer q)
+same_shows o asked (Ok c) (judged v) (judged w) p q = same_verdict o asked c v w p q
+same_shows o asked (Err n) (malformed_line j) (malformed_line k) p q = ap (λ i. reply_answer (malformed_line i)) (sym p ∙ q)
+same_shows o asked (Ok c) (judged v) (refused_document e) p q = absurd q
+same_shows o asked (Ok c) (judged v) (refused_query e) p q = absurd q
+same_shows o asked (Ok c) (judged v) (malformed_line k) p q = absurd q
+same_shows o asked (Err n) (malformed_line j) (judged w) p q = absurd q
+same_shows o asked (Err n) (malformed_line j) (refused_document e) p q = absurd q
+same_shows o asked (Err n) (malformed_line j) (refused_query e) p q = absurd q
 same_shows o asked c r q p s = absurd p
 
 -- on one document a query is read or refused, and then its answer is one
@@ -123,7 +156,6 @@ outcome query bytes out Limit known answer = by_length query bytes (Limit, out) 
 outcome query bytes out ReadFault known answer = absurd known
 outcome query bytes out WriteFault known answer = absurd known
 outcome query bytes out NoMemory known answer = absurd known
-outcome query bytes out NotBuilt known answer = by_length query bytes (NotBuilt, out) answer
 
 pub answers : (words : List (List ℕ)) (bytes out text : List ℕ) (s t : Status) → IsDecided s → IsDecided t → Answers words bytes out s → Answers words bytes text t → (s ≡ t) × (out ≡ text)
 answers words bytes out text s t known sure = by (job_of words)

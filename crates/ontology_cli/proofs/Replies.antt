@@ -8,19 +8,17 @@ use Rattle.ofn_tree.specs.declared.fault.TextFault.TheVariants as F
 use Rattle.ofn_expressions.specs.declared.refusal.Refusal.{Refusal}
 use Rattle.ofn_expressions.specs.declared.refusal.Refusal.TheVariants as R
 use Rattle.ontology_cli.specs.Words.{check}
-use Rattle.ontology_cli.specs.Checking.{IsInput, IsVerdict, IsUnread, Reply, judged, refused_document, refused_query, refutation_begun, malformed_line, Says}
+use Rattle.ontology_cli.specs.Checking.{IsUnread, Reply, judged, refused_document, refused_query, malformed_line, Says}
 use Rattle.ontology_cli.specs.Complaints.{complaint}
 use Rattle.ontology_cli.specs.Answers.{Answer, complaint_answer, reply_answer, Gives, GivesUnread, Checked, AnswersJob, left_by, LeavesFor}
-use Rattle.ontology_cli.specs.declared.checking.Input.{Input}
-use Rattle.ontology_cli.specs.declared.checking.Verdict.{Verdict}
-use Rattle.ontology_cli.specs.declared.checking.Verdict.TheVariants.{Accepted, Axiom, Query}
+use Rattle.ontology_cli.specs.declared.judging.Verdict.{Verdict}
+use Rattle.ontology_cli.specs.declared.judging.Verdict.TheVariants.{NotEntailed, Entailed, Axiom, Query, Line}
 use Rattle.ontology_cli.specs.declared.complaint.Place.{Place}
 use Rattle.ontology_cli.specs.declared.complaint.Place.TheVariants as P
 use Rattle.ontology_cli.specs.declared.unread.Unread.{Unread}
 use Rattle.ontology_cli.specs.declared.unread.Unread.TheVariants as U
 use Rattle.ontology_cli.specs.declared.status.Status.{Status}
-use Rattle.ontology_cli.specs.declared.status.Status.TheVariants.{Done, Rejected, BadWords, BadText, Outside, Limit, ReadFault, WriteFault, NoMemory, NotBuilt}
-use Rattle.ontology_cli.proofs.Reasons.{verdict_said}
+use Rattle.ontology_cli.specs.declared.status.Status.TheVariants.{Done, Rejected, BadWords, BadText, Outside, Limit, ReadFault, WriteFault, NoMemory}
 
 abbrev is_fault : Status → Bool
 is_fault ReadFault = true
@@ -32,7 +30,6 @@ is_fault Outside = false
 is_fault Limit = false
 is_fault WriteFault = false
 is_fault NoMemory = false
-is_fault NotBuilt = false
 
 -- no reply is that the source failed
 refusal_no_fault : (place : Place) (e : Refusal) → is_fault (complaint_answer place (complaint e)).0 ≡ false
@@ -50,12 +47,13 @@ refusal_no_fault place (R.Limit w line) = refl
 refusal_no_fault place R.NoMemory = refl
 
 reply_no_fault : (r : Reply) → is_fault (reply_answer r).0 ≡ false
-reply_no_fault (judged Accepted) = refl
+reply_no_fault (judged NotEntailed) = refl
+reply_no_fault (judged Entailed) = refl
 reply_no_fault (judged (Axiom k)) = refl
 reply_no_fault (judged Query) = refl
+reply_no_fault (judged (Line n)) = refl
 reply_no_fault (refused_document e) = refusal_no_fault P.Document e
 reply_no_fault (refused_query e) = refusal_no_fault P.Query e
-reply_no_fault refutation_begun = refl
 reply_no_fault (malformed_line n) = refl
 
 -- the answer of a reply is one of the verification
@@ -69,10 +67,9 @@ reply_checked query bytes r out Limit says is = (r, says, is)
 reply_checked query bytes r out ReadFault says is = (r, says, is)
 reply_checked query bytes r out WriteFault says is = (r, says, is)
 reply_checked query bytes r out NoMemory says is = is
-reply_checked query bytes r out NotBuilt says is = (r, says, is)
 
-pub verdict_checked : (query bytes : List ℕ) (x : Input) (v : Verdict) (out : List ℕ) (s : Status) → IsInput query bytes x → IsVerdict x v → Gives (reply_answer (judged v)) out s → Checked query bytes out s
-verdict_checked query bytes x v out s is says gives = reply_checked query bytes (judged v) out s (verdict_said query bytes x v is says) gives
+pub verdict_checked : (query bytes : List ℕ) (v : Verdict) (out : List ℕ) (s : Status) → Says query bytes (judged v) → Gives (reply_answer (judged v)) out s → Checked query bytes out s
+verdict_checked query bytes v out s says gives = reply_checked query bytes (judged v) out s says gives
 
 no_memory_checked : (query bytes out : List ℕ) (s : Status) → s ≡ NoMemory → Checked query bytes out NoMemory → Checked query bytes out s
 no_memory_checked query bytes out s is checked = subst (Checked query bytes out) (sym is) checked
@@ -80,7 +77,6 @@ no_memory_checked query bytes out s is checked = subst (Checked query bytes out)
 pub unread_checked : (query bytes : List ℕ) (u : Unread) (out : List ℕ) (s : Status) → IsUnread query bytes u → GivesUnread u out s → Checked query bytes out s
 unread_checked query bytes (U.Document e) out s why gives = reply_checked query bytes (refused_document e) out s why gives
 unread_checked query bytes (U.Query e) out s why gives = reply_checked query bytes (refused_query e) out s why gives
-unread_checked query bytes U.NotBuilt out s why gives = reply_checked query bytes refutation_begun out s why gives
 unread_checked query bytes (U.Line n) out s why gives = reply_checked query bytes (malformed_line n) out s why gives
 unread_checked query bytes U.NoMemory out s why gives = no_memory_checked query bytes out s gives.0 gives.1
 
@@ -96,7 +92,6 @@ checked_answers query bytes out ReadFault short (r, says, is) =
     let clash : true ≡ false = ap (λ (p : Answer). is_fault p.0) is ∙ reply_no_fault r in absurd (cc clash)
 checked_answers query bytes out WriteFault short checked = inr (short, checked)
 checked_answers query bytes out NoMemory short checked = checked
-checked_answers query bytes out NotBuilt short checked = inr (short, checked)
 
 -- an answer to the bytes that were read whole is one to all that the source held
 pub read_answers : (before now : Option (List ℕ)) (query input given out : List ℕ) (s : Status) → Consumes before now input → IsAtEnd now → length input ≤ 2 ^ 24 → given ≡ input → Checked query given out s → IfSome before (λ bytes. AnswersJob (check query) bytes out s)
@@ -126,7 +121,6 @@ whole_leaves before now query input BadWords taken end short = none_left before 
 whole_leaves before now query input Limit taken end short = none_left before now query input taken end short
 whole_leaves before now query input Outside taken end short = none_left before now query input taken end short
 whole_leaves before now query input BadText taken end short = none_left before now query input taken end short
-whole_leaves before now query input NotBuilt taken end short = none_left before now query input taken end short
 
 drop_taken : (n : ℕ) (taken rest : List ℕ) → length taken ≡ n → drop n (taken ++ rest) ≡ rest
 drop_taken n taken rest count = rw (sym count) (by taken)

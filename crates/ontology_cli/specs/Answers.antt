@@ -3,18 +3,18 @@ use Rattle.std.specs.Prelude.{◌≡◌, ℕ, ◌+◌, ◌<◌, ◌≤◌, ◌^�
 use Rattle.std.specs.Io.KnownBytes.{Appends}
 use Rattle.shq_io.specs.Causes.{TakesFront}
 use Rattle.ontology_cli.specs.Words.{Job, check, job_of}
-use Rattle.ontology_cli.specs.Checking.{Reply, judged, refused_document, refused_query, refutation_begun, malformed_line, Says}
+use Rattle.ontology_cli.specs.Checking.{Reply, judged, refused_document, refused_query, malformed_line, Says}
 use Rattle.ontology_cli.specs.Complaints.{Complaint, sort_status, complaint, complaint_text}
 use Rattle.ontology_cli.specs.declared.complaint.Place.{Place}
 use Rattle.ontology_cli.specs.declared.complaint.Place.TheVariants as P
 use Rattle.ontology_cli.specs.declared.unread.Unread.{Unread}
 use Rattle.ontology_cli.specs.declared.unread.Unread.TheVariants as U
-use Rattle.ontology_cli.specs.declared.checking.Verdict.{Verdict}
-use Rattle.ontology_cli.specs.declared.checking.Verdict.TheVariants.{Accepted, Axiom, Query}
+use Rattle.ontology_cli.specs.declared.judging.Verdict.{Verdict}
+use Rattle.ontology_cli.specs.declared.judging.Verdict.TheVariants.{NotEntailed, Entailed, Axiom, Query, Line}
 use Rattle.ontology_cli.specs.declared.text.Text.{Text}
 use Rattle.ontology_cli.specs.declared.text.Text.TheVariants.{Fixed, Made}
 use Rattle.ontology_cli.specs.declared.status.Status.{Status}
-use Rattle.ontology_cli.specs.declared.status.Status.TheVariants.{Done, Rejected, BadWords, Limit, ReadFault, WriteFault, NoMemory, NotBuilt}
+use Rattle.ontology_cli.specs.declared.status.Status.TheVariants.{Done, Rejected, BadWords, Limit, ReadFault, WriteFault, NoMemory}
 
 -- a line of text
 abbrev pub line : List ℕ → List ℕ
@@ -31,10 +31,16 @@ no_memory = line (codes "no memory")
 abbrev pub Answer : Type 0
 Answer = Status × List ℕ
 
+-- the certificate is wrong on the line of this number
+abbrev pub line_rejected : ℕ → Answer
+line_rejected n = (Rejected, line (codes "rejected line " ++ decimal n))
+
 abbrev pub verdict_answer : Verdict → Answer
-verdict_answer Accepted = (Done, line (codes "accepted not entailed"))
+verdict_answer NotEntailed = (Done, line (codes "accepted not entailed"))
+verdict_answer Entailed = (Done, line (codes "accepted entailed"))
 verdict_answer (Axiom k) = (Rejected, line (codes "rejected axiom " ++ decimal k))
 verdict_answer Query = (Rejected, line (codes "rejected query"))
+verdict_answer (Line n) = line_rejected n
 
 abbrev pub complaint_answer : Place → Option Complaint → Answer
 complaint_answer place None = (NoMemory, no_memory)
@@ -44,8 +50,7 @@ abbrev pub reply_answer : Reply → Answer
 reply_answer (judged v) = verdict_answer v
 reply_answer (refused_document e) = complaint_answer P.Document (complaint e)
 reply_answer (refused_query e) = complaint_answer P.Query (complaint e)
-reply_answer refutation_begun = (NotBuilt, line (codes "not built"))
-reply_answer (malformed_line n) = (Rejected, line (codes "rejected line " ++ decimal n))
+reply_answer (malformed_line n) = line_rejected n
 
 -- this answer, unless memory was refused
 abbrev pub Gives : Answer → List ℕ → Status → Type 0
@@ -56,7 +61,6 @@ Gives answer out s = ◌≡◌ {A = Answer} (s, out) answer
 abbrev pub GivesUnread : Unread → List ℕ → Status → Type 0
 GivesUnread (U.Document e) out s = Gives (reply_answer (refused_document e)) out s
 GivesUnread (U.Query e) out s = Gives (reply_answer (refused_query e)) out s
-GivesUnread U.NotBuilt out s = Gives (reply_answer refutation_begun) out s
 GivesUnread (U.Line n) out s = Gives (reply_answer (malformed_line n)) out s
 GivesUnread U.NoMemory out s = (s ≡ NoMemory) × (out ≡ no_memory)
 

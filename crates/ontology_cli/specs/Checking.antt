@@ -1,21 +1,28 @@
 -- What is verified, and what the verification says.
-use Rattle.std.specs.Prelude.{◌≡◌, ℕ, ◌+◌, List, [], ◌∷◌, Option, Some, None, drop, if◌then◌else◌}
+use Rattle.std.specs.Prelude.{◌≡◌, ℕ, ◌+◌, IsTrue, List, [], ◌∷◌, length, Option, Some, None, Result, Ok, Err, drop, if◌then◌else◌}
 use Rattle.shq_terms.specs.Listed.{Listed}
 use Rattle.shq_terms.specs.declared.axioms.Numbered.{Numbered}
 use Rattle.shq_terms.specs.declared.axioms.Query.{Query as Asked}
 use Rattle.shq_meaning.specs.Truth.{Interpretation, meets, refutes_at}
 use Rattle.shq_meaning.specs.Least.{IsFirstBelow}
-use Rattle.finite_model.specs.Kept.{meaning}
+use Rattle.shq_nnf.specs.Counts.{has_counts_within}
+use Rattle.axiom_rows.specs.Rows.{AreInLimit}
+use Rattle.finite_model.specs.Kept.{Kept as Model, meaning}
+use Rattle.refutation_specs.specs.Valid.{concept_at, IsBrokenAt, IsRefutation}
+use Rattle.refutation_tree.specs.Kept.{Kept as Refutation}
+use Rattle.refutation_check.specs.Verdicts.{named_theory}
 use Rattle.ofn_expressions.specs.Counts.{Counts}
 use Rattle.ofn_expressions.specs.declared.refusal.Refusal.{Refusal}
 use Rattle.ofn_reader.specs.Kept.{Kept}
 use Rattle.ofn_reader.specs.Documents.{IsDocument, IsNoDocument}
 use Rattle.ofn_reader.specs.Queries.{IsQuery, IsNoQuery, query_start}
-use Rattle.ontology_cli.specs.Certificates.{Certificate, certificate, of_model, refutation, malformed}
+use Rattle.ontology_cli.specs.Certificates.{certificate, Fits}
+use Rattle.ontology_cli.specs.declared.certificate.Certificate.{Certificate}
+use Rattle.ontology_cli.specs.declared.certificate.Certificate.TheVariants as C
 use Rattle.ontology_cli.specs.declared.checking.Claim.{Claim}
 use Rattle.ontology_cli.specs.declared.checking.Input.{Input}
-use Rattle.ontology_cli.specs.declared.checking.Verdict.{Verdict}
-use Rattle.ontology_cli.specs.declared.checking.Verdict.TheVariants.{Accepted, Axiom, Query}
+use Rattle.ontology_cli.specs.declared.judging.Verdict.{Verdict}
+use Rattle.ontology_cli.specs.declared.judging.Verdict.TheVariants.{NotEntailed, Entailed, Axiom, Query, Line}
 use Rattle.ontology_cli.specs.declared.unread.Unread.{Unread}
 use Rattle.ontology_cli.specs.declared.unread.Unread.TheVariants as U
 
@@ -31,51 +38,73 @@ IsAsked o kept query behind asked = IsQuery kept.prefixes o.axioms (query_start 
 abbrev pub IsNotAsked : Listed → Kept → List ℕ → Refusal → Type 0
 IsNotAsked o kept query e = IsNoQuery kept.prefixes o.axioms (query_start o kept.nodes) query e
 
--- the query on a document, and the model of what follows the document, over the names of both
+-- the query on a document, and the certificate that follows the document, over the names of both
 pub record IsClaim (o : Listed) (kept : Kept) (query rest : List ℕ) (both : Listed) (claim : Claim) : Type 0 where
   pub behind : Counts
   pub is_query : IsAsked o kept query behind claim.asked
   pub listed : both ≡ with_names o behind
-  pub model : certificate both rest ≡ of_model claim.model
+  pub found : certificate both rest ≡ Ok claim.certificate
 
--- the document, the query and the model that these texts are
+-- the document, the query and the certificate that these texts are
 pub record IsInput (query bytes : List ℕ) (input : Input) : Type 0 where
   pub document : Listed
   pub kept : Kept
   pub end : ℕ
   pub is_document : IsDocument bytes document kept end
-  pub is_claim : IsClaim document kept query (drop end bytes) input.ontology (record { asked = input.asked; model = input.model })
+  pub is_claim : IsClaim document kept query (drop end bytes) input.ontology (record { asked = input.asked; certificate = input.certificate })
+
+-- cardinalities, parts of axioms and lines are few enough to be verified
+pub record IsInLimit (input : Input) : Type 0 where
+  pub axioms : AreInLimit input.ontology.axioms
+  pub sub : IsTrue (has_counts_within 100 input.asked.sub)
+  pub sup : IsTrue (has_counts_within 100 input.asked.sup)
+  pub fits : Fits input.ontology input.certificate
 
 -- the number of the first axiom that is not met, where the first of the list has the number k
 abbrev pub first_unmet : Interpretation → ℕ → List Numbered → Option ℕ
 first_unmet i k [] = None
 first_unmet i k (a ∷ as_) = if meets i a.axiom then first_unmet i (k + 1) as_ else Some k
 
--- The verdict on the model: it meets each axiom and has a counter-element, and then the query does not follow; or some
+-- The verdict on a model: it meets each axiom and has a counter-element, and then the query does not follow; or some
 -- axiom is the first that it does not meet; or it meets each and has no counter-element.
-abbrev pub IsVerdict : Input → Verdict → Type 0
-IsVerdict input Accepted =
-    (first_unmet (meaning input.model) 1 input.ontology.axioms ≡ None)
-    × ((x : ℕ) × IsFirstBelow input.model.size (refutes_at (meaning input.model) input.asked) (Some x))
-IsVerdict input (Axiom k) = first_unmet (meaning input.model) 1 input.ontology.axioms ≡ Some k
-IsVerdict input Query =
-    (first_unmet (meaning input.model) 1 input.ontology.axioms ≡ None)
-    × IsFirstBelow input.model.size (refutes_at (meaning input.model) input.asked) None
+abbrev pub IsOfModel : Listed → Asked → Model → Verdict → Type 0
+IsOfModel o q m NotEntailed = (first_unmet (meaning m) 1 o.axioms ≡ None) × ((x : ℕ) × IsFirstBelow m.size (refutes_at (meaning m) q) (Some x))
+IsOfModel o q m (Axiom k) = first_unmet (meaning m) 1 o.axioms ≡ Some k
+IsOfModel o q m Query = (first_unmet (meaning m) 1 o.axioms ≡ None) × IsFirstBelow m.size (refutes_at (meaning m) q) None
+IsOfModel o q m v = ⊥
 
--- What is replied: the verdict on a model; why the document, or the query, is refused; that the certificate begins like a
--- refutation; or the number of its first malformed line.
+-- The line of the certificate on which the rule line of a place stands, from 1, and behind the last one the line `end`: three
+-- lines begin the text, and each concept has one.
+abbrev pub line_of_place : Refutation → ℕ → ℕ
+line_of_place r place = 3 + length r.shapes + place
+
+-- The verdict on a refutation: its lines refute the query over the axioms that it names, and then the query follows; or
+-- they break the rules first at some place.
+abbrev pub IsOfRefutation : Listed → Asked → Refutation → Verdict → Type 0
+IsOfRefutation o q r Entailed = IsRefutation (named_theory o.axioms r) q.sub q.sup r.shapes r.lines
+IsOfRefutation o q r (Line n) = (place : ℕ) × IsBrokenAt (named_theory o.axioms r) q.sub q.sup (concept_at r.shapes) r.lines place × (n ≡ line_of_place r place)
+IsOfRefutation o q r v = ⊥
+
+abbrev pub IsVerdictOn : Listed → Asked → Certificate → Verdict → Type 0
+IsVerdictOn o q (C.Model m) v = IsOfModel o q m v
+IsVerdictOn o q (C.Refutation r) v = IsOfRefutation o q r v
+
+-- the verdict on what is verified
+abbrev pub IsVerdict : Input → Verdict → Type 0
+IsVerdict input v = IsVerdictOn input.ontology input.asked input.certificate v
+
+-- What is replied: the verdict on the certificate; why the document, or the query, is refused; or the number of the first
+-- malformed line of what should be a certificate.
 pub data Reply : Type 0 where
   judged : Verdict → Reply
   refused_document : Refusal → Reply
   refused_query : Refusal → Reply
-  refutation_begun : Reply
   malformed_line : ℕ → Reply
 
--- what is replied to a certificate for a query on an ontology
-abbrev pub Shows : Listed → Asked → Certificate → Reply → Type 0
-Shows o asked (of_model m) (judged v) = IsVerdict (record { ontology = o; asked = asked; model = m }) v
-Shows o asked refutation refutation_begun = Unit {0}
-Shows o asked (malformed n) (malformed_line k) = n ≡ k
+-- what is replied to a certificate for a query on an ontology, or to lines that are none
+abbrev pub Shows : Listed → Asked → Result Certificate ℕ → Reply → Type 0
+Shows o asked (Ok c) (judged v) = IsVerdictOn o asked c v
+Shows o asked (Err n) (malformed_line k) = n ≡ k
 Shows o asked c r = ⊥
 
 -- What is replied to a query and an input: the document is refused; else the query is; else it is what the certificate
@@ -90,7 +119,6 @@ pub data Says (query bytes : List ℕ) : Reply → Type 0 where
 abbrev pub IsUnread : List ℕ → List ℕ → Unread → Type 0
 IsUnread query bytes (U.Document e) = Says query bytes (refused_document e)
 IsUnread query bytes (U.Query e) = Says query bytes (refused_query e)
-IsUnread query bytes U.NotBuilt = Says query bytes refutation_begun
 IsUnread query bytes (U.Line n) = Says query bytes (malformed_line n)
 IsUnread query bytes U.NoMemory = Unit {0}
 
@@ -106,8 +134,8 @@ IsUnasked o kept query (U.Query e) = IsNotAsked o kept query e
 IsUnasked o kept query U.NoMemory = Unit {0}
 IsUnasked o kept query u = ⊥
 
--- the query is read, and the text behind the document is this certificate
-pub record IsCertified (o : Listed) (kept : Kept) (query rest : List ℕ) (c : Certificate) : Type 0 where
+-- the query is read, and the text behind the document is this certificate, or none
+pub record IsCertified (o : Listed) (kept : Kept) (query rest : List ℕ) (c : Result Certificate ℕ) : Type 0 where
   pub behind : Counts
   pub asked : Asked
   pub is_query : IsAsked o kept query behind asked
@@ -117,6 +145,5 @@ pub record IsCertified (o : Listed) (kept : Kept) (query rest : List ℕ) (c : C
 abbrev pub IsUnclaimed : Listed → Kept → List ℕ → List ℕ → Unread → Type 0
 IsUnclaimed o kept query rest (U.Document e) = ⊥
 IsUnclaimed o kept query rest (U.Query e) = IsNotAsked o kept query e
-IsUnclaimed o kept query rest U.NotBuilt = IsCertified o kept query rest refutation
-IsUnclaimed o kept query rest (U.Line n) = IsCertified o kept query rest (malformed n)
+IsUnclaimed o kept query rest (U.Line n) = IsCertified o kept query rest (Err n)
 IsUnclaimed o kept query rest U.NoMemory = Unit {0}

@@ -1,28 +1,37 @@
 // The certificate that follows a document.
-ghost use Rattle.std.specs.Prelude.{◌≡◌, ◌≤◌, map, length, IfOk, IfErr};
+ghost use Rattle.std.specs.Prelude.{◌≡◌, ◌≤◌, map, length, Ok, IfOk, IfErr};
 ghost use Rattle.std.specs.List.{prefix_len};
 ghost use Rattle.certificate_lines.specs.Lines.{is_blank};
-ghost use Rattle.ontology_cli.specs.Certificates.{is_model_verdict, is_refutation_verdict, of_model, model_behind, refutation_behind, certificate_in, certificate, IsUnreadBy};
+ghost use Rattle.ontology_cli.specs.Certificates.{is_model_verdict, is_refutation_verdict, model_behind, refutation_behind, certificate_in, certificate, IsUnreadBy, Fits};
 
 use crate::unread::Unread;
 use certificate_lines::{is_blank, lines};
-use finite_model::{Interp, ModelFault, read_text};
+use finite_model::{Interp, ModelFault};
+use refutation_tree::{CertFault, Refutation};
 use shq_terms::Ontology;
 use std::alloc::Global;
 
-/// The model of a certificate.
+/// Why a query does not follow, or why it does.
+#[derive(Drop)]
+pub(crate) enum Certificate {
+    Model(Interp),
+    Refutation(Refutation),
+}
+
+/// The certificate that the text is.
 ///
 /// # Errors
 ///
-/// `Line` with the first malformed line exactly where the text is no certificate, `NotBuilt` exactly where it begins like
-/// that of a refutation, and `NoMemory`.
-#[tactic(auto, using(crate::proofs::Blanks::blank_front, crate::proofs::Blanks::lines_drop))]
+/// `Line` with the first malformed line exactly where the text is no certificate, and `NoMemory`.
+#[tactic(auto, using(crate::proofs::Blanks::blank_front, crate::proofs::Blanks::lines_drop, crate::proofs::Blanks::few_lines))]
 pub(crate) fn read_certificate(
     alloc: Global,
     text: &[u8],
     ontology: &Ontology,
-) -> Result<Interp, Unread>
-    ensures model { IfOk result (λ k. certificate ontology.now text.now ≡ of_model k) }
+) -> Result<Certificate, Unread>
+    requires { length text.now ≤ 4294967293 }
+    ensures found { IfOk result (λ c. certificate ontology.now text.now ≡ Ok c) }
+    ensures fits { IfOk result (Fits ontology.now) }
     ensures unread { IfErr result (IsUnreadBy (certificate ontology.now text.now)) }
 {
     let lines = lines(alloc, text)?;
@@ -36,9 +45,11 @@ fn blank_count(lines: &[&[u8]]) -> usize
     lines.iter().take_while(|line| is_blank(line)).count()
 }
 
-// The model of a certificate that begins with its verdict.
-fn read_verdict(alloc: Global, lines: &[&[u8]], ontology: &Ontology) -> Result<Interp, Unread>
-    ensures model { IfOk result (λ k. certificate_in ontology.now (map (λ l. l.now) lines.now) ≡ of_model k) }
+// The certificate that begins with its verdict.
+fn read_verdict(alloc: Global, lines: &[&[u8]], ontology: &Ontology) -> Result<Certificate, Unread>
+    requires { length lines.now ≤ 4294967294 }
+    ensures found { IfOk result (λ c. certificate_in ontology.now (map (λ l. l.now) lines.now) ≡ Ok c) }
+    ensures fits { IfOk result (Fits ontology.now) }
     ensures unread { IfErr result (IsUnreadBy (certificate_in ontology.now (map (λ l. l.now) lines.now))) }
 {
     if lines.is_empty() {
@@ -47,31 +58,38 @@ fn read_verdict(alloc: Global, lines: &[&[u8]], ontology: &Ontology) -> Result<I
     if is_model_verdict(lines[0]) {
         read_model(alloc, &lines[1..], ontology)
     } else if is_refutation_verdict(lines[0]) {
-        Err(without_model(&lines[1..]))
+        read_refutation(alloc, &lines[1..], ontology)
     } else {
         Err(Unread::Line(1))
     }
 }
 
-fn read_model(alloc: Global, lines: &[&[u8]], ontology: &Ontology) -> Result<Interp, Unread>
-    ensures model { IfOk result (λ k. model_behind ontology.now (map (λ l. l.now) lines.now) ≡ of_model k) }
+fn read_model(alloc: Global, lines: &[&[u8]], ontology: &Ontology) -> Result<Certificate, Unread>
+    ensures found { IfOk result (λ c. model_behind ontology.now (map (λ l. l.now) lines.now) ≡ Ok c) }
+    ensures fits { IfOk result (Fits ontology.now) }
     ensures unread { IfErr result (IsUnreadBy (model_behind ontology.now (map (λ l. l.now) lines.now))) }
 {
-    match read_text(alloc, lines, ontology) {
-        Ok(model) => Ok(model),
+    match finite_model::read_text(alloc, lines, ontology) {
+        Ok(model) => Ok(Certificate::Model(model)),
         Err(ModelFault::Malformed(line)) => Err(Unread::Line(line)),
         Err(ModelFault::NoMemory) => Err(Unread::NoMemory),
     }
 }
 
-// What is said of the lines behind the verdict of a refutation.
-fn without_model(lines: &[&[u8]]) -> Unread
-    ensures { IsUnreadBy (refutation_behind (map (λ l. l.now) lines.now)) result }
+fn read_refutation(
+    alloc: Global,
+    lines: &[&[u8]],
+    ontology: &Ontology,
+) -> Result<Certificate, Unread>
+    requires { length lines.now ≤ 4294967293 }
+    ensures found { IfOk result (λ c. refutation_behind ontology.now (map (λ l. l.now) lines.now) ≡ Ok c) }
+    ensures fits { IfOk result (Fits ontology.now) }
+    ensures unread { IfErr result (IsUnreadBy (refutation_behind ontology.now (map (λ l. l.now) lines.now))) }
 {
-    if !lines.is_empty() && lines[0] == b"refutation".as_slice() {
-        Unread::NotBuilt
-    } else {
-        Unread::Line(2)
+    match refutation_tree::read_text(alloc, lines, ontology) {
+        Ok(refutation) => Ok(Certificate::Refutation(refutation)),
+        Err(CertFault::Malformed(line)) => Err(Unread::Line(line)),
+        Err(CertFault::NoMemory) => Err(Unread::NoMemory),
     }
 }
 

@@ -1,66 +1,30 @@
-// The verification of a model.
+// What is verified: a document, a query on it and a certificate.
 ghost use Rattle.std.specs.Prelude.{◌≡◌, ◌≤◌, IfOk, IfErr, length};
 ghost use Rattle.std.specs.Result.{result_map_both};
-ghost use Rattle.finite_model.specs.Kept.{meaning};
 ghost use Rattle.ofn_expressions.specs.Counts.{Counts};
 ghost use Rattle.ofn_reader.specs.Documents.{IsDocument};
-ghost use Rattle.ontology_cli.specs.Checking.{IsInput, IsUnread, IsClaim, IsUnclaimed, IsAsked, IsUnasked, IsUndocumented, IsVerdict, first_unmet, with_names};
+ghost use Rattle.ontology_cli.specs.Certificates.{Fits};
+ghost use Rattle.ontology_cli.specs.Checking.{IsInput, IsInLimit, IsUnread, IsClaim, IsUnclaimed, IsAsked, IsUnasked, IsUndocumented, with_names};
 
-use crate::certificate::read_certificate;
+use crate::certificate::{Certificate, read_certificate};
 use crate::unread::Unread;
-use finite_model::Interp;
 use ofn_reader::{Context, Refusal, read_ontology, read_query};
 use shq_terms::{Ontology, Query};
 use std::alloc::Global;
 
-/// What is verified: the axioms, the query and the model.
+/// What is verified: the axioms, the query and the certificate.
 #[derive(Drop)]
 pub(crate) struct Input {
     pub ontology: Ontology,
     pub asked: Query,
-    pub model: Interp,
-}
-
-/// What a certificate shows.
-#[derive(Clone, Copy, Debug, PartialEq, Eq)]
-pub(crate) enum Verdict {
-    /// Its model meets every axiom and refutes the query.
-    Accepted,
-    /// Its model does not meet the axiom of this number, which is the least.
-    Axiom(u32),
-    /// Its model meets every axiom and does not refute the query.
-    Query,
-}
-
-/// The number of the first axiom that the model does not meet.
-fn first_unmet(model: &Interp, ontology: &Ontology) -> Option<u32>
-    ensures { result ≡ first_unmet (meaning model.now) 1 ontology.now.axioms }
-{
-    for index in 0..ontology.axiom_count() {
-        if !model.meets(&ontology.axiom(index + 1).axiom) {
-            return Some(index + 1);
-        }
-    }
-    None
-}
-
-/// Verifies the model.
-pub(crate) fn judge(input: &Input) -> Verdict
-    ensures { IsVerdict input.now result }
-{
-    if let Some(number) = first_unmet(&input.model, &input.ontology) {
-        return Verdict::Axiom(number);
-    }
-    match input.model.refutes(&input.asked) {
-        Some(_) => Verdict::Accepted,
-        None => Verdict::Query,
-    }
+    pub certificate: Certificate,
 }
 
 /// Reads the document, the query on it and the certificate that follows it.
 pub(crate) fn read_input(alloc: Global, query: &str, bytes: &[u8]) -> Result<Input, Unread>
     requires { length bytes.now ≤ 4294967293 }
     ensures input { IfOk result (IsInput query.now bytes.now) }
+    ensures within { IfOk result IsInLimit }
     ensures unread { IfErr result (IsUnread query.now bytes.now) }
 {
     let (mut ontology, context, end) = document(alloc, bytes)?;
@@ -68,21 +32,21 @@ pub(crate) fn read_input(alloc: Global, query: &str, bytes: &[u8]) -> Result<Inp
     input_of(ontology, claim)
 }
 
-// The query and the model.
+// The query and the certificate.
 #[derive(Drop)]
 pub(crate) struct Claim {
     pub asked: Query,
-    pub model: Interp,
+    pub certificate: Certificate,
 }
 
 fn input_of(ontology: Ontology, claim: Result<Claim, Unread>) -> Result<Input, Unread>
-    ensures { result ≡ result_map_both (λ c. record { ontology = ontology; asked = c.asked; model = c.model }) (λ u. u) claim }
+    ensures { result ≡ result_map_both (λ c. record { ontology = ontology; asked = c.asked; certificate = c.certificate }) (λ u. u) claim }
 {
     match claim {
-        Ok(Claim { asked, model }) => Ok(Input {
+        Ok(Claim { asked, certificate }) => Ok(Input {
             ontology,
             asked,
-            model,
+            certificate,
         }),
         Err(unread) => {
             drop(ontology);
@@ -99,19 +63,21 @@ fn read_claim(
     ontology: &mut Ontology,
     context: &Context,
 ) -> Result<Claim, Unread>
+    requires { length rest.now ≤ 4294967293 }
     ensures claim { IfOk result (IsClaim ontology.old context.now query.now rest.now ontology.new) }
+    ensures fits { IfOk result (λ c. Fits ontology.new c.certificate) }
     ensures unclaimed { IfErr result (IsUnclaimed ontology.old context.now query.now rest.now) }
 {
     let asked = query_on(alloc, query, ontology, context)?;
-    let model = read_certificate(alloc, rest, ontology);
-    claim_of(asked, model)
+    let certificate = read_certificate(alloc, rest, ontology);
+    claim_of(asked, certificate)
 }
 
-fn claim_of(asked: Query, model: Result<Interp, Unread>) -> Result<Claim, Unread>
-    ensures { result ≡ result_map_both (λ m. record { asked = asked; model = m }) (λ u. u) model }
+fn claim_of(asked: Query, certificate: Result<Certificate, Unread>) -> Result<Claim, Unread>
+    ensures { result ≡ result_map_both (λ c. record { asked = asked; certificate = c }) (λ u. u) certificate }
 {
-    match model {
-        Ok(model) => Ok(Claim { asked, model }),
+    match certificate {
+        Ok(certificate) => Ok(Claim { asked, certificate }),
         Err(unread) => {
             drop(asked);
             Err(unread)

@@ -4,6 +4,7 @@
 mod certificate;
 mod checking;
 mod complaint;
+mod judging;
 mod laws;
 mod run;
 mod run_log;
@@ -43,5 +44,7 @@ fn main(rt: HostRuntime) -> ExitCode {
     ExitCode::from(status as u8)
 }
 
+#[cfg(test)]
+mod refutation_tests;
 #[cfg(test)]
 mod tests;

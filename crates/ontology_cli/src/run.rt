@@ -1,11 +1,13 @@
 // The top call.
-ghost use Rattle.std.specs.Prelude.{◌≡◌, ◌≤◌, ◌≢◌, IfSome, Some, None, length};
+ghost use Rattle.std.specs.Prelude.{◌≡◌, ◌≤◌, ◌≢◌, IfSome, IfOk, IfErr, Some, None, length};
 ghost use Rattle.shq_io.specs.Causes.{Rose};
 ghost use Rattle.ontology_cli.specs.Words.{check, job_of, command_job, texts_of};
-ghost use Rattle.ontology_cli.specs.Answers.{AnswersJob, Answers, Answered, Checked, Gives, GivesUnread, verdict_answer, LeavesFor, Leaves, text_bytes};
+ghost use Rattle.ontology_cli.specs.Checking.{judged, Says, IsUnread};
+ghost use Rattle.ontology_cli.specs.Answers.{AnswersJob, Answers, Answered, Checked, Gives, GivesUnread, line_rejected, verdict_answer, LeavesFor, Leaves, text_bytes};
 
-use crate::checking::{Verdict, judge, read_input};
+use crate::checking::read_input;
 use crate::complaint::{Place, refusal_text};
+use crate::judging::{Verdict, judge};
 use crate::run_log::RunLog;
 use crate::status::Status;
 use crate::text::Text;
@@ -81,19 +83,27 @@ fn check_input<S: Source>(alloc: Global, query: &str, source: &mut S) -> (Status
     }
 }
 
-/// Verifies the model certificate that follows the document.
+/// Verifies the certificate that follows the document.
 fn verify(alloc: Global, query: &str, input: &[u8]) -> (Status, Text)
     requires { length input.now ≤ 4294967293 }
     ensures { Checked query.now input.now (text_bytes result.1) result.0 }
 {
-    match read_input(alloc, query, input) {
-        Ok(read) => {
-            let verdict = judge(&read);
-            drop(read);
-            verdict_text(alloc, verdict)
-        }
+    match verdict_on(alloc, query, input) {
+        Ok(verdict) => verdict_text(alloc, verdict),
         Err(unread) => unread_text(alloc, unread),
     }
+}
+
+// The verdict on the certificate, if there is one.
+fn verdict_on(alloc: Global, query: &str, input: &[u8]) -> Result<Verdict, Unread>
+    requires { length input.now ≤ 4294967293 }
+    ensures verdict { IfOk result (λ v. Says query.now input.now (judged v)) }
+    ensures unread { IfErr result (IsUnread query.now input.now) }
+{
+    let read = read_input(alloc, query, input)?;
+    let verdict = judge(alloc, &read);
+    drop(read);
+    Ok(verdict?)
 }
 
 /// The answer to a verdict.
@@ -101,12 +111,24 @@ fn verdict_text(alloc: Global, verdict: Verdict) -> (Status, Text)
     ensures { Gives (verdict_answer verdict) (text_bytes result.1) result.0 }
 {
     match verdict {
-        Verdict::Accepted => (Status::Done, Text::Fixed("accepted not entailed\n")),
+        Verdict::NotEntailed => (Status::Done, Text::Fixed("accepted not entailed\n")),
+        Verdict::Entailed => (Status::Done, Text::Fixed("accepted entailed\n")),
         Verdict::Axiom(number) => match format!(in alloc; "rejected axiom {number}\n") {
             Ok(text) => (Status::Rejected, Text::Made(text)),
             Err(_) => (Status::NoMemory, Text::Fixed("no memory\n")),
         },
         Verdict::Query => (Status::Rejected, Text::Fixed("rejected query\n")),
+        Verdict::Line(number) => line_text(alloc, number),
+    }
+}
+
+// The answer where the certificate is wrong on the line of this number.
+fn line_text(alloc: Global, number: u64) -> (Status, Text)
+    ensures { Gives (line_rejected number) (text_bytes result.1) result.0 }
+{
+    match format!(in alloc; "rejected line {number}\n") {
+        Ok(text) => (Status::Rejected, Text::Made(text)),
+        Err(_) => (Status::NoMemory, Text::Fixed("no memory\n")),
     }
 }
 
@@ -117,11 +139,7 @@ fn unread_text(alloc: Global, unread: Unread) -> (Status, Text)
     match unread {
         Unread::Document(refusal) => refusal_text(alloc, Place::Document, refusal),
         Unread::Query(refusal) => refusal_text(alloc, Place::Query, refusal),
-        Unread::NotBuilt => (Status::NotBuilt, Text::Fixed("not built\n")),
-        Unread::Line(number) => match format!(in alloc; "rejected line {number}\n") {
-            Ok(text) => (Status::Rejected, Text::Made(text)),
-            Err(_) => (Status::NoMemory, Text::Fixed("no memory\n")),
-        },
+        Unread::Line(number) => line_text(alloc, u64::from(number)),
         Unread::NoMemory => (Status::NoMemory, Text::Fixed("no memory\n")),
     }
 }

@@ -21,6 +21,4 @@ pub enum Status {
     WriteFault = 7,
     /// Memory was refused.
     NoMemory = 9,
-    /// What is asked is not built yet.
-    NotBuilt = 10,
 }

@@ -12,7 +12,7 @@ const DOCUMENT: &str = "Ontology(\nSubClassOf(<http://e.org/A> <http://e.org/B>)
 const QUERY: &str = "SubClassOf(<http://e.org/A> <http://e.org/C>)";
 
 // Runs the words on the document and what follows it; the numbers are those of the calls that fail.
-fn run_on(
+pub(crate) fn run_on(
     alloc: Global,
     words: &[&str],
     input: [&str; 2],
@@ -110,8 +110,8 @@ fn verifies_models(rt: HostRuntime) -> Result<(), Fail> {
         ([DOCUMENT, ""], Status::Rejected, "rejected line 1\n"),
         (
             [DOCUMENT, "unsatisfiable\nrefutation\naxioms\n"],
-            Status::NotBuilt,
-            "not built\n",
+            Status::Rejected,
+            "rejected line 4\n",
         ),
     ];
     for (input, status, text) in cases {
@@ -176,7 +176,7 @@ fn verifies_models_of_roles(rt: HostRuntime) -> Result<(), Fail> {
             "not entailed\nmodel 1\nclass <http://e.org/A> 0\nend\n",
             "accepted not entailed\n",
         ),
-        (TWO, "unsatisfiable\nrefutation\n", "not built\n"),
+        (TWO, "unsatisfiable\nrefutation\n", "rejected line 3\n"),
     ];
     for (axioms, certificate, text) in cases {
         let sink = told_of(rt.alloc(), axioms, certificate)?;

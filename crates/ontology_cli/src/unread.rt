@@ -10,8 +10,6 @@ pub(crate) enum Unread {
     Document(Refusal),
     /// Why the query is refused.
     Query(Refusal),
-    /// The certificate begins like a refutation.
-    NotBuilt,
     /// The rest is no certificate, and this is the number of its first malformed line.
     Line(u32),
     NoMemory,

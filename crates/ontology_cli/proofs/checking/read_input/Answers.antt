@@ -2,6 +2,7 @@ use Rattle.std.proofs.Common.{subst}
 use Rattle.std.proofs.lemmas.Result.{err_from_is_err_and}
 use Rattle.ontology_cli.specs.Checking.{IsUnclaimed}
 use Rattle.ontology_cli.proofs.Reasons.{mapped_err, undocumented, unclaimed}
+use Rattle.ontology_cli.proofs.InLimit.{input_in_limit}
 use Rattle.ontology_cli.proofs.checking.read_input.Goals as goal
 
 pub returns-in_err-ontology-clause-unread : goal.returns-in_err-ontology-clause-unread
@@ -16,3 +17,10 @@ returns-clause-unread c =
     let query = c.args.query.now in
     mapped_err _ c.read_claim-claim.result c.input_of.result c.input_of.ensures
     (λ u why. unclaimed query _ o nodes c.in_ok-ontology.end c.in_ok-ontology.ensures.document u (subst (λ rest. IsUnclaimed o nodes query rest u) c.split_at.ensures.back why)) c.read_claim-claim.ensures.unclaimed
+
+pub returns-clause-within : goal.returns-clause-within
+returns-clause-within c =
+    let o = c.in_ok-ontology.ontology in
+    let claim = c.read_claim-claim in
+    input_in_limit c.args.query.now c.args.bytes.now c.split_at.result.1.now o c.in_ok-ontology.context c.in_ok-ontology.end c.in_ok-ontology.ensures.document claim.new.ontology claim.result c.input_of.result c.input_of.ensures
+    claim.ensures.claim claim.ensures.fits

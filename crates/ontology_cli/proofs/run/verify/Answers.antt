@@ -4,4 +4,4 @@ use Rattle.ontology_cli.proofs.run.verify.Goals as goal
 
 pub returns-in-Ok : goal.returns-in-Ok
 returns-in-Ok c =
-    verdict_checked c.args.query.now c.args.input.now c.in-Ok.read c.judge-verdict.result (text_bytes c.verdict_text.result.1) c.verdict_text.result.0 c.in-Ok.ensures.input c.judge-verdict.ensures c.verdict_text.ensures
+    verdict_checked c.args.query.now c.args.input.now c.in-Ok.verdict (text_bytes c.verdict_text.result.1) c.verdict_text.result.0 c.in-Ok.ensures.verdict c.verdict_text.ensures
