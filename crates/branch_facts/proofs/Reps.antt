@@ -10,7 +10,7 @@ use Rattle.fact_specs.proofs.Joined.{by_last, rep-snoc, rep-joined, joined-rep}
 use Rattle.branch_facts.specs.Seen.{Index, renamed, through, linked, joined, after, index_of}
 use Rattle.branch_facts.proofs.Grown.{index_of-snoc}
 
-through-snoc : (ls : List (ℕ × ℕ)) (h l x : ℕ) → through (ls ++ (h, l) ∷ []) x ≡ renamed h l (through ls x)
+pub through-snoc : (ls : List (ℕ × ℕ)) (h l x : ℕ) → through (ls ++ (h, l) ∷ []) x ≡ renamed h l (through ls x)
 through-snoc [] h l x = refl
 through-snoc (k ∷ ks) h l x = through-snoc ks h l (renamed k.0 k.1 x)
 

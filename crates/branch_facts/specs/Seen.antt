@@ -24,6 +24,15 @@ abbrev pub through : List (ℕ × ℕ) → ℕ → ℕ
 through [] x = x
 through (l ∷ ls) x = through ls (renamed l.0 l.1 x)
 
+-- a link leads from a node that the links before it leave as it is, a representative of its time, to a lesser one
+pub record IsLink (before : List (ℕ × ℕ)) (link : ℕ × ℕ) : Type 0 where
+  pub falls : link.1 < link.0
+  pub from_representative : through before link.0 ≡ link.0
+  pub to_representative : through before link.1 ≡ link.1
+
+pub record AreLinks (ls : List (ℕ × ℕ)) : Type 0 where
+  pub each : (p : ℕ) (d : ℕ × ℕ) → p < length ls → IsLink (take p ls) (get_or ls p d)
+
 -- ---- facts
 
 abbrev pub is_same : Seen → Seen → Bool

@@ -4,25 +4,31 @@ ghost use Rattle.branch_facts.specs.declared.seen.Seen.TheVariants.{Has, Edge, A
 ghost use Rattle.branch_facts.specs.Seen.{through, is_seen, with_seen, copied, copied_at, linked, joined, seeing, after, Index as Kept, Begins};
 
 use crate::NoMemory;
-use crate::seen::{Seen, renamed};
+use crate::seen::Seen;
 use fact_specs::Fact;
-use indexmap::IndexSet;
+use indexmap::{IndexMap, IndexSet};
 use std::alloc::Global;
 use std::marker::Model;
 
 /// Facts between representatives, and the links that lead to these.
+///
+/// A join of two representatives makes a link from the higher one to the lower one, which is found by the higher: a node with a
+/// link is no representative any more, and so gets no second one. The representative of a node is reached by its link, if it
+/// has one, then by that of the node reached, and so on. The nodes fall on the way, so that it ends, and each costs one look.
 #[derive(Drop)]
 pub(crate) struct Index {
     seen: IndexSet<Seen>,
-    links: Vec<(u32, u32)>,
+    links: IndexMap<u32, u32>,
 }
 
 impl Model for Index {
-    ghost use Rattle.branch_facts.specs.Seen.{Index as Kept};
+    ghost use Rattle.branch_facts.specs.Seen.{AreLinks, Index as Kept};
 
     ghost Value = { Kept };
 
-    ghost view = { λ i. record { seen = i.seen.keys; links = i.links.items } };
+    ghost view = { λ i. record { seen = i.seen.keys; links = i.links.entries } };
+
+    ghost invariant = { λ i. AreLinks i.links.entries };
 }
 
 impl Index {
@@ -33,7 +39,7 @@ impl Index {
     {
         Index {
             seen: IndexSet::new(alloc),
-            links: Vec::new(alloc),
+            links: IndexMap::new(alloc),
         }
     }
 
@@ -53,13 +59,14 @@ impl Index {
         self.links.truncate(links);
     }
 
-    /// The representative of a node.
+    /// The representative of a node, which is its own.
     pub(crate) fn representative(&self, node: u32) -> u32
-        ensures { result ≡ through self.now.links node }
+        ensures reached { result ≡ through self.now.links node }
+        ensures stays { through self.now.links result ≡ result }
     {
         let mut reached = node;
-        for link in &self.links {
-            reached = renamed(link.0, link.1, reached);
+        while let Some(lower) = self.links.get(&reached) {
+            reached = *lower;
         }
         reached
     }
@@ -111,7 +118,7 @@ impl Index {
             Fact::Apart(x, y) => {
                 self.see(Seen::Apart(self.representative(x), self.representative(y)))
             }
-            Fact::Same(x, y) => self.join(self.representative(x), self.representative(y)),
+            Fact::Same(x, y) => self.join(x, y),
         }
     }
 
@@ -124,10 +131,13 @@ impl Index {
         Ok(())
     }
 
+    // Makes the representatives of two nodes one.
+    #[tactic(auto, using(crate::proofs::Links::greater_is, crate::proofs::Links::lesser_is))]
     fn join(&mut self, x: u32, y: u32) -> Result<(), NoMemory>
-        ensures put { OnOk result (self.new ≡ joined self.old x y) }
+        ensures put { OnOk result (self.new ≡ joined self.old (through self.old.links x) (through self.old.links y)) }
         ensures begins { OnErr result (Begins self.old self.new) }
     {
+        let (x, y) = (self.representative(x), self.representative(y));
         if x == y {
             return Ok(());
         }
@@ -136,11 +146,14 @@ impl Index {
 
     // Says of the lower representative what is said of the higher, and leads from this one to that.
     fn link(&mut self, high: u32, low: u32) -> Result<(), NoMemory>
+        requires falls { low < high }
+        requires from_representative { through self.old.links high ≡ high }
+        requires to_representative { through self.old.links low ≡ low }
         ensures put { OnOk result (self.new ≡ linked self.old high low) }
         ensures begins { OnErr result (Begins self.old self.new) }
     {
         self.copy(high, low)?;
-        self.links.push((high, low))?;
+        self.links.insert(high, low)?;
         Ok(())
     }
 

@@ -59,3 +59,44 @@ fn facts_are_read_through_joined_nodes(rt: HostRuntime) -> Result<(), Fail> {
     assert!(rt; !branch.knows(9) && !branch.has(9, 5));
     Ok(())
 }
+
+fn join_all(branch: &mut BranchFacts, pairs: &[(u32, u32)]) -> Result<(), NoMemory> {
+    for (x, y) in pairs {
+        branch.add(Fact::Same(*x, *y))?;
+    }
+    Ok(())
+}
+
+/// Joins pairs of nodes, looks for the representative of each node of a table, and undoes the joins.
+fn check_joins(
+    rt: &impl Abort,
+    branch: &mut BranchFacts,
+    pairs: &[(u32, u32)],
+    representatives: &[(u32, u32)],
+) -> Result<(), NoMemory> {
+    let mark = branch.mark();
+    join_all(branch, pairs)?;
+    for (node, representative) in representatives {
+        assert_eq!(rt; branch.representative(*node), *representative);
+    }
+    let now = branch.mark();
+    if mark.nodes <= now.nodes && mark.facts <= now.facts {
+        branch.undo_to(mark);
+    }
+    Ok(())
+}
+
+#[test]
+fn joins_in_a_chain_are_followed_to_its_end(rt: HostRuntime) -> Result<(), Fail> {
+    let mut branch = BranchFacts::new(rt.alloc());
+    branch.add(Fact::Same(3, 2))?;
+    check_joins(
+        &rt,
+        &mut branch,
+        &[(2, 1), (0, 3)],
+        &[(1, 0), (2, 0), (3, 0)],
+    )?;
+    check_joins(&rt, &mut branch, &[], &[(1, 1), (3, 2)])?;
+    check_joins(&rt, &mut branch, &[(3, 0), (1, 2)], &[(1, 0), (3, 0)])?;
+    Ok(())
+}
