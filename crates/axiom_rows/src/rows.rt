@@ -37,14 +37,31 @@ pub struct RangeRow {
     pub concept: u32,
 }
 
-/// The row of a part of a named axiom for the name conjuncts at these positions, from 1. `None` where the axiom is not
-/// named or has no such part, where the part is a range, and where the positions do not ascend or one of them is not
-/// that of a name.
-///
-/// # Errors
-///
-/// Want of memory. The table keeps its numbers, and may have gained some.
-pub fn inclusion_row(
+impl Row {
+    // The row once more.
+    pub(crate) fn try_clone(&self, alloc: Global) -> Result<Row, NoMemory>
+        ensures { IfOk result (λ r. r ≡ self.now) }
+    {
+        let premises = number_list(alloc, self.premises.items())?;
+        Ok(Row {
+            premises,
+            concept: self.concept,
+        })
+    }
+}
+
+pub(crate) fn number_list(alloc: Global, numbers: &[u32]) -> Result<NumberList, NoMemory>
+    ensures { IfOk result (λ list. list ≡ numbers.now) }
+{
+    let mut list = NumberList::new(alloc);
+    for number in numbers {
+        list.push(*number)?;
+    }
+    Ok(list)
+}
+
+// The row of a part of an axiom for the name conjuncts at these positions, from 1.
+pub(crate) fn inclusion_row(
     alloc: Global,
     concepts: &mut Concepts,
     ontology: &Ontology,
@@ -69,12 +86,8 @@ pub fn inclusion_row(
     }
 }
 
-/// The row of a range axiom that is named. `None` where the axiom is not named or of another kind.
-///
-/// # Errors
-///
-/// Want of memory. The table keeps its numbers, and may have gained some.
-pub fn range_row(
+// The row of a range axiom that is named.
+pub(crate) fn range_row(
     concepts: &mut Concepts,
     ontology: &Ontology,
     named: &AxiomSet,

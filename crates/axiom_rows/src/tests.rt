@@ -5,7 +5,7 @@ ghost use Rattle.shq_terms.specs.Uses.{axiom_uses_listed};
 ghost use Rattle.shq_nnf.specs.Parts.{axiom_parts, axiom_has_counts_within};
 ghost use Rattle.axiom_rows.specs.Rows.{AreInLimit};
 
-use crate::{NoMemory, RangeRow, Row, inclusion_row, range_row};
+use crate::{NoMemory, RangeRow, Row, RowTable};
 use axiom_sets::AxiomSet;
 use shq_nnf::{Concepts, Shape};
 use shq_terms::{Axiom, Concept, ConceptList, Node, Ontology};
@@ -167,6 +167,17 @@ fn is_right(concepts: &Concepts, row: &Option<Row>, wanted: Option<(&[u32], Shap
     }
 }
 
+// Whether the row that is told is as it should be.
+fn tells(
+    rows: &mut RowTable<'_>,
+    numbers: (u32, u32),
+    positions: &[u32],
+    wanted: Option<(&[u32], Shape<'_>)>,
+) -> Result<bool, NoMemory> {
+    let row = rows.inclusion_row(numbers.0, numbers.1, positions)?;
+    Ok(is_right(rows.concepts(), &row, wanted))
+}
+
 fn ask_row(
     alloc: Global,
     kind: Kind,
@@ -177,17 +188,8 @@ fn ask_row(
 ) -> Result<bool, Fail> {
     let ontology = ontology_of(alloc, kind)?;
     let named = named_of(alloc, &ontology, named)?;
-    let mut concepts = table(alloc)?;
-    let row = inclusion_row(
-        alloc,
-        &mut concepts,
-        &ontology,
-        &named,
-        numbers.0,
-        numbers.1,
-        positions,
-    )?;
-    Ok(is_right(&concepts, &row, wanted))
+    let mut rows = RowTable::new(alloc, &ontology, &named, table(alloc)?);
+    Ok(tells(&mut rows, numbers, positions, wanted)?)
 }
 
 #[test]
@@ -256,17 +258,54 @@ fn rows_of_inclusions(rt: HostRuntime) -> Result<(), Fail> {
     Ok(())
 }
 
+// One table is asked for rows of two parts in turn, for the same positions and for others.
+fn ask_in_turn(rows: &mut RowTable<'_>) -> Result<bool, NoMemory> {
+    let cases: [(u32, &[u32], Option<(&[u32], Shape<'_>)>); 7] = [
+        (3, &[1], Some((&[2], Shape::NotName(2)))),
+        (3, &[], Some((&[], Shape::Or(&[6, 8])))),
+        (2, &[], Some((&[], Shape::Or(&[5, 8])))),
+        (3, &[], Some((&[], Shape::Or(&[6, 8])))),
+        (3, &[2], None),
+        (3, &[1], Some((&[2], Shape::NotName(2)))),
+        (2, &[1], Some((&[1], Shape::NotName(2)))),
+    ];
+    let mut right = true;
+    for (part, positions, wanted) in cases {
+        let told = tells(rows, (1, part), positions, wanted)?;
+        right = right && told;
+    }
+    Ok(right)
+}
+
+#[test]
+fn rows_in_turn(rt: HostRuntime) -> Result<(), Fail> {
+    let ontology = ontology_of(rt.alloc(), Kind::Disjoint)?;
+    let named = named_of(rt.alloc(), &ontology, true)?;
+    let mut rows = RowTable::new(rt.alloc(), &ontology, &named, table(rt.alloc())?);
+    assert!(rt; ask_in_turn(&mut rows)?);
+    Ok(())
+}
+
+fn tell_range(
+    rows: &mut RowTable<'_>,
+    number: u32,
+) -> Result<(Option<RangeRow>, Option<RangeRow>), NoMemory> {
+    let first = rows.range_row(number)?;
+    let second = rows.range_row(number)?;
+    Ok((first, second))
+}
+
+// What is told the first time and the second time.
 fn ask_range(
     alloc: Global,
     kind: Kind,
     named: bool,
     number: u32,
-) -> Result<Option<RangeRow>, Fail> {
+) -> Result<(Option<RangeRow>, Option<RangeRow>), Fail> {
     let ontology = ontology_of(alloc, kind)?;
     let named = named_of(alloc, &ontology, named)?;
-    let mut concepts = table(alloc)?;
-    let row = range_row(&mut concepts, &ontology, &named, number)?;
-    Ok(row)
+    let mut rows = RowTable::new(alloc, &ontology, &named, table(alloc)?);
+    Ok(tell_range(&mut rows, number)?)
 }
 
 #[test]
@@ -282,7 +321,10 @@ fn rows_of_ranges(rt: HostRuntime) -> Result<(), Fail> {
         (Kind::Range, true, 2, None),
         (Kind::Domain, true, 1, None),
     ] {
-        assert_eq!(rt; ask_range(rt.alloc(), kind, named, number)?, wanted);
+        assert_eq!(rt;
+            ask_range(rt.alloc(), kind, named, number)?,
+            (wanted, wanted)
+        );
     }
     Ok(())
 }

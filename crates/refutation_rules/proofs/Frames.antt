@@ -1,16 +1,16 @@
 -- A longer table serves the same frame, and lines read the same by it.
-use Rattle.std.proofs.Common.{◌≡◌, ℕ, ◌+◌, true, List, length}
+use Rattle.std.proofs.Common.{◌≡◌, ℕ, ◌+◌, true, List, length, sym, ◌∙◌}
 use Rattle.shq_base.specs.Concept.{bottom}
-use Rattle.shq_terms.specs.declared.axioms.Numbered.{Numbered as Axiom}
 use Rattle.shq_terms.specs.declared.axioms.Query.{Query}
 use Rattle.shape_specs.specs.Normal.{normal_form, negated_form}
 use Rattle.shape_specs.specs.Shape.{Shape}
 use Rattle.shq_nnf.specs.Numbers.{Extends}
 use Rattle.shq_nnf.proofs.Numbers.{number_stays}
 use Rattle.role_box.specs.declared.axioms.RoleAxiom.{RoleAxiom}
+use Rattle.role_box.specs.RoleAxioms.{role_axioms}
+use Rattle.axiom_rows.specs.Kept.{RowFrame, IsOver}
 use Rattle.fact_specs.specs.Reading.{are_listed}
 use Rattle.branch_facts.specs.Known.{Known as Branch}
-use Rattle.refutation_tree.specs.Kept.{Kept}
 use Rattle.refutation_specs.specs.Line.{Line}
 use Rattle.refutation_specs.specs.Rules.{children_of}
 use Rattle.refutation_specs.specs.Valid.{concept_at}
@@ -19,16 +19,14 @@ use Rattle.refutation_rules.specs.Frame.{Frame, IsFrame, IsSameBut, line_childre
 use Rattle.refutation_rules.proofs.Reading.{known_stays}
 use Rattle.refutation_rules.proofs.Renumbered.{first_stays}
 
-pub frame_stays : (axioms : List Axiom) (r : Kept) (q : Query) (roles : List RoleAxiom) (a b : List Shape) (numbers : List ℕ) (sub not_sup none : ℕ)
-    → IsFrame axioms r q roles a numbers sub not_sup none → Extends a b → IsFrame axioms r q roles b numbers sub not_sup none
-frame_stays axioms r q roles a b numbers sub not_sup none f e = record {
-  limit = f.limit;
-  within = f.within;
-  roles_are = f.roles_are;
-  concepts = first_stays r.shapes a b numbers (length r.shapes + 1) f.concepts e;
-  sub_is = number_stays a b sub (normal_form q.sub) e f.sub_is;
-  not_sup_is = number_stays a b not_sup (negated_form q.sup) e f.not_sup_is;
-  bottom_is = number_stays a b none bottom e f.bottom_is;
+pub frame_stays : (f g : RowFrame) (shapes : List Shape) (q : Query) (roles : List RoleAxiom) (numbers : List ℕ) (sub not_sup none : ℕ)
+    → IsFrame f shapes q roles numbers sub not_sup none → Extends f.table g.table → IsOver f g → IsFrame g shapes q roles numbers sub not_sup none
+frame_stays f g shapes q roles numbers sub not_sup none is e over = record {
+  roles_are = is.roles_are ∙ sym (λ i. role_axioms (over.axioms i) (over.named i));
+  concepts = first_stays shapes f.table g.table numbers (length shapes + 1) is.concepts e;
+  sub_is = number_stays f.table g.table sub (normal_form q.sub) e is.sub_is;
+  not_sup_is = number_stays f.table g.table not_sup (negated_form q.sup) e is.not_sup_is;
+  bottom_is = number_stays f.table g.table none bottom e is.bottom_is;
 }
 
 pub line_stays : (f g : Frame) (k : Branch) (line : Line) → IsSameBut f g → Extends f.table g.table → are_listed (length f.table) k.facts ≡ true → line_children g k line ≡ line_children f k line

@@ -13,11 +13,9 @@ use Rattle.shq_nnf.specs.Kept.{form_of}
 use Rattle.shq_nnf.specs.declared.shapes.Shape.{Shape as Shown}
 use Rattle.role_box.specs.declared.axioms.RoleAxiom.{RoleAxiom}
 use Rattle.role_box.specs.RoleAxioms.{role_axioms}
-use Rattle.axiom_sets.specs.Sets.{member_list}
-use Rattle.axiom_rows.specs.Rows.{AreInLimit}
+use Rattle.axiom_rows.specs.Kept.{RowFrame}
 use Rattle.axiom_rows.specs.declared.rows.Row.{Row}
 use Rattle.axiom_rows.specs.declared.rows.RangeRow.{RangeRow}
-use Rattle.refutation_tree.specs.Kept.{Kept}
 use Rattle.branch_facts.specs.Known.{Known as Branch, knows as branch_knows}
 use Rattle.fact_specs.specs.State.{has, has_tree, has_edge}
 use Rattle.fact_specs.specs.declared.Fact.TheVariants.{Has}
@@ -104,16 +102,14 @@ abbrev pub range_used : Frame → Branch → ℕ → ℕ → Option RangeRow →
 range_used f k x y None = None
 range_used f k x y (Some r) = when (knows (known_of f.table k) x && knows (known_of f.table k) y && has_edge (known_of f.table k).facts (λ q. (theory f).below q r.role) x y) (Some r.concept)
 
--- what is kept for a refutation of a query: its axioms are in the limits of the ontology, the roles are by those that it
--- names, and its concepts, the two sides of the query and bottom have their numbers in the table
-pub record IsFrame (axioms : List Axiom) (refutation : Kept) (query : Query) (roles : List RoleAxiom) (table : List Shape) (numbers : List ℕ) (sub not_sup none : ℕ) : Type 0 where
-  pub limit : refutation.axioms.limit ≡ length axioms
-  pub within : AreInLimit axioms
-  pub roles_are : roles ≡ role_axioms axioms (member_list refutation.axioms)
-  pub concepts : AreFirst refutation.shapes table numbers (length refutation.shapes + 1)
-  pub sub_is : IsNumber table sub (normal_form query.sub)
-  pub not_sup_is : IsNumber table not_sup (negated_form query.sup)
-  pub bottom_is : IsNumber table none bottom
+-- what is kept for a refutation of a query: the roles are by the axioms that it names, and its concepts, the two sides of
+-- the query and bottom have their numbers in the table
+pub record IsFrame (rows : RowFrame) (shapes : List Shape) (query : Query) (roles : List RoleAxiom) (numbers : List ℕ) (sub not_sup none : ℕ) : Type 0 where
+  pub roles_are : roles ≡ role_axioms rows.axioms rows.named
+  pub concepts : AreFirst shapes rows.table numbers (length shapes + 1)
+  pub sub_is : IsNumber rows.table sub (normal_form query.sub)
+  pub not_sup_is : IsNumber rows.table not_sup (negated_form query.sup)
+  pub bottom_is : IsNumber rows.table none bottom
 
 -- the same frame over a longer table
 pub record IsSameBut (earlier later : Frame) : Type 0 where

@@ -20,7 +20,7 @@ ghost use Rattle.refutation_rules.specs.Frame.{theory, line_children, IsOutcome,
 use crate::numbering::{intern_complement, number_concepts, roles_of};
 use crate::table::put_shape;
 use crate::{NoMemory, Outcome};
-use axiom_rows::{RangeRow, Row, inclusion_row, range_row};
+use axiom_rows::{RangeRow, Row, RowTable};
 use axiom_sets::AxiomSet;
 use branch_facts::BranchFacts;
 use refutation_tree::{Line, Refutation};
@@ -31,15 +31,14 @@ use std::alloc::Global;
 use std::marker::Model;
 
 /// The rules for the lines of one refutation: the axioms that it names, the roles by these, the query, and the numbers of
-/// its concepts in a table of their own.
+/// its concepts in a table of their own, which keeps the rows that lines use.
 #[derive(Drop)]
 pub struct Rules<'a> {
     pub(crate) alloc: Global,
-    ontology: &'a Ontology,
     refutation: &'a Refutation,
     query: &'a Query,
     roles: RoleBox,
-    concepts: Concepts,
+    rows: RowTable<'a>,
     numbers: Vec<u32>,
     sub: u32,
     not_sup: u32,
@@ -49,16 +48,15 @@ pub struct Rules<'a> {
 impl<'a> Model for Rules<'a> {
     ghost use Rattle.std.specs.Coded.{codes};
     ghost use Rattle.shq_base.specs.Code.{concept_code};
-    ghost use Rattle.axiom_sets.specs.Sets.{member_list};
     ghost use Rattle.refutation_rules.specs.Frame.{Frame, IsFrame};
 
     ghost Value = { Frame };
 
     ghost coded = { Prim.hlevel (codes, concept_code) };
 
-    ghost view = { λ r. record { axioms = r.ontology.now.axioms; named = member_list r.refutation.now.axioms; sub = r.query.now.sub; sup = r.query.now.sup; shapes = r.refutation.now.shapes; table = r.concepts } };
+    ghost view = { λ r. record { axioms = r.rows.axioms; named = r.rows.named; sub = r.query.now.sub; sup = r.query.now.sup; shapes = r.refutation.now.shapes; table = r.rows.table } };
 
-    ghost invariant = { λ r. IsFrame r.ontology.now.axioms r.refutation.now r.query.now r.roles r.concepts r.numbers.items r.sub r.not_sup r.bottom };
+    ghost invariant = { λ r. IsFrame r.rows r.refutation.now.shapes r.query.now r.roles r.numbers.items r.sub r.not_sup r.bottom };
 }
 
 impl<'a> Rules<'a> {
@@ -90,14 +88,15 @@ impl<'a> Rules<'a> {
         let sub = concepts.intern(&query.sub)?;
         let not_sup = intern_complement(alloc, &mut concepts, &query.sup)?;
         let bottom = put_shape(&mut concepts, Shape::Bottom)?;
-        let roles = roles_of(alloc, ontology, refutation.axioms_used())?;
+        let named = refutation.axioms_used();
+        let roles = roles_of(alloc, ontology, named)?;
+        let rows = RowTable::new(alloc, ontology, named, concepts);
         Ok(Rules {
             alloc,
-            ontology,
             refutation,
             query,
             roles,
-            concepts,
+            rows,
             numbers,
             sub,
             not_sup,
@@ -175,7 +174,7 @@ impl<'a> Rules<'a> {
         ensures parts { has_parts_below (length self.now.table) (form_of result) ≡ true }
         ensures normal { is_normal self.now.table (form_of result) ≡ true }
     {
-        self.concepts.shape(number)
+        self.rows.concepts().shape(number)
     }
 
     // The shape of a concept of the refutation that a known node has.
@@ -216,7 +215,7 @@ impl<'a> Rules<'a> {
         ensures count { result ≡ length self.now.table }
         ensures table { IsTable self.now.table }
     {
-        self.concepts.len()
+        self.rows.concepts().len()
     }
 
     // The numbers of the query's subclass and of the complement of its superclass.
@@ -261,7 +260,7 @@ impl<'a> Rules<'a> {
         ensures same { IsSameBut self.old self.new }
         ensures table { IsTable self.new.table }
     {
-        put_shape(&mut self.concepts, shape)
+        self.rows.put(shape)
     }
 
     // The number of the complement of a number.
@@ -271,7 +270,7 @@ impl<'a> Rules<'a> {
         ensures kept { Extends self.old.table self.new.table }
         ensures same { IsSameBut self.old self.new }
     {
-        self.concepts.negated(number)
+        self.rows.negated(number)
     }
 
     // The row of a part of an axiom for the conjuncts at these positions.
@@ -286,16 +285,7 @@ impl<'a> Rules<'a> {
         ensures same { IsSameBut self.old self.new }
         ensures table { IsTable self.new.table }
     {
-        let named = self.refutation.axioms_used();
-        inclusion_row(
-            self.alloc,
-            &mut self.concepts,
-            self.ontology,
-            named,
-            axiom,
-            part,
-            positions,
-        )
+        self.rows.inclusion_row(axiom, part, positions)
     }
 
     // The row of a range axiom.
@@ -305,7 +295,6 @@ impl<'a> Rules<'a> {
         ensures same { IsSameBut self.old self.new }
         ensures table { IsTable self.new.table }
     {
-        let named = self.refutation.axioms_used();
-        range_row(&mut self.concepts, self.ontology, named, axiom)
+        self.rows.range_row(axiom)
     }
 }
