@@ -5,10 +5,10 @@ use Rattle.std.specs.FinSet as sets
 use Rattle.std.proofs.lemmas.Bool.{leb-true, ne_eqb, cases_eq, cases_lt, cases_Bool, false≢true, le-leb, lt-leb, eqb-true, and_parts, or_cases}
 use Rattle.std.proofs.lemmas.List.{get_or_past, get_or-replicate, length-replicate, length-set}
 use Rattle.std.proofs.lemmas.Nat.Bits.{bit_at-zero, bit_at_ones, bit_at_ones_above, ones_shr}
-use Rattle.word_sets.specs.Sets.{NumberSet, IsPart, DoMeet, has_bit, number_set, passing, members_below}
-use Rattle.word_sets.proofs.Ranges.{passing_from, passing_upto, length-passing-le}
-use Rattle.word_sets.proofs.Bits.{has_bit-is, has_bit-set, contains-number_set, contains_insert, contains_remove}
-use Rattle.word_sets.proofs.Vectors.{whole_back, has_bit-zeros}
+use Rattle.lane_sieve.specs.Sets.{NumberSet, IsPart, DoMeet, has_bit, number_set, passing, members_below}
+use Rattle.lane_sieve.proofs.Ranges.{passing_from, passing_upto, length-passing-le}
+use Rattle.lane_sieve.proofs.Bits.{has_bit-is, has_bit-set, contains-number_set, contains_insert, contains_remove}
+use Rattle.lane_sieve.proofs.Vectors.{whole_back, has_bit-zeros}
 use Rattle.axiom_sets.specs.Sets.{IsWithin, IsKept}
 
 pub kept_short : (limit : ℕ) (words : List ℕ) → IsKept limit words → length words ≤ 2 ^ 26

@@ -1,7 +1,7 @@
 -- The ascending list of a set's members, for callers that go over it.
 use Rattle.std.proofs.Common.{◌≡◌, ℕ, ◌+◌, ◌<◌, ◌≤◌, true, length, get_or, arith}
 use Rattle.std.specs.FinSet as sets
-use Rattle.word_sets.proofs.Ranges.{passing-at, passing-place, passing-ascends}
+use Rattle.lane_sieve.proofs.Ranges.{passing-at, passing-place, passing-ascends}
 use Rattle.axiom_sets.specs.Sets.{Limited, IsWithin, member_list}
 
 -- what stands in the list is a member

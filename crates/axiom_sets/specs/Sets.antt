@@ -5,7 +5,7 @@ use Rattle.std.specs.Coded.{Coded, code_by, coded×, coded_ℕ}
 use Rattle.std.specs.Ordering.{nat_cmp}
 use Rattle.std.specs.Cmp.Lexicographic.{slice_cmp}
 use Rattle.std.specs.declared.cmp.Ordering.{Ordering}
-use Rattle.word_sets.specs.Sets.{NumberSet, number_set, members_below}
+use Rattle.lane_sieve.specs.Sets.{NumberSet, number_set, members_below}
 
 -- a set of numbers beside the greatest number that may be in it
 pub record Limited : Type 0 where

@@ -2,8 +2,6 @@
 #![tactic(auto)]
 
 mod numbered;
-#[cfg(test)]
-mod tests;
 
 pub use numbered::AxiomSet;
-pub use word_sets::Numbers;
+pub use lane_sieve::Numbers;

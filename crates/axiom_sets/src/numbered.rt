@@ -2,14 +2,14 @@
 
 ghost use Rattle.std.specs.Prelude.{◌≡◌, ℕ, ◌+◌, ◌&&◌, ◌/◌, ◌<◌, ◌≤◌, ◌==◌, ◌↔◌, IsTrue, IfOk, length, nat_le};
 ghost use Rattle.std.specs.FinSet as set;
-ghost use Rattle.word_sets.specs.Sets.{number_set, IsPart, DoMeet};
+ghost use Rattle.lane_sieve.specs.Sets.{number_set, IsPart, DoMeet};
 ghost use Rattle.axiom_sets.specs.Sets.{IsWithin, member_list, list_cmp};
 
 use shq_base::NoMemory;
 use std::alloc::Global;
 use std::cmp::Ordering;
 use std::marker::Model;
-use word_sets::{
+use lane_sieve::{
     Numbers, compare_numbers, count_numbers, do_meet, has_number, is_part, put_number, repeat_word,
     take_number,
 };
@@ -23,7 +23,7 @@ pub struct AxiomSet {
 
 impl Model for AxiomSet {
     ghost use Rattle.axiom_sets.specs.Sets.{Limited, limited_code, IsKept};
-    ghost use Rattle.word_sets.specs.Sets.{number_set};
+    ghost use Rattle.lane_sieve.specs.Sets.{number_set};
 
     ghost Value = { Limited };
 

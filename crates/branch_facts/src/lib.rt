@@ -11,6 +11,3 @@ mod seen;
 pub use fact_specs::Fact;
 pub use facts::{BranchFacts, Mark};
 pub use shq_base::NoMemory;
-
-#[cfg(test)]
-mod tests;

@@ -33,10 +33,10 @@ IsFaultAt n there NoMemory = Unit {0}
 IsFaultAt n there (Malformed line) = (there ≡ None) × (line ≡ n)
 
 -- the number of a line as it is told, which is at most the greatest of 32 bits
-abbrev pub told : ℕ → ℕ
-told n = min n (2 ^ 32 - 1)
+abbrev pub clamped_line : ℕ → ℕ
+clamped_line n = min n (2 ^ 32 - 1)
 
 -- the fault is that of the malformed line
 abbrev pub IsFaultOfLine : Option ℕ → LineFault → Type 0
 IsFaultOfLine malformed NoMemory = Unit {0}
-IsFaultOfLine malformed (Malformed line) = option_map told malformed ≡ Some line
+IsFaultOfLine malformed (Malformed line) = option_map clamped_line malformed ≡ Some line

@@ -2,7 +2,7 @@
 ghost use Rattle.std.specs.Prelude.{◌≡◌, ◌+◌, ◌<◌, ◌^◌, map, length, true, false, MatchOption};
 ghost use Rattle.std.specs.List.{list_all};
 ghost use Rattle.certificate_lines.specs.Lines.{is_blank};
-ghost use Rattle.certificate_lines.specs.Malformed.{first_unblank, told};
+ghost use Rattle.certificate_lines.specs.Malformed.{first_unblank, clamped_line};
 
 use crate::is_blank;
 use shq_base::NoMemory;
@@ -53,8 +53,8 @@ impl<T: Drop> From<AllocFailed<T>> for LineFault {
 }
 
 /// The number of a line as it is told: itself, or 4,294,967,295 where it is above that.
-pub fn told(number: usize) -> u32
-    ensures { result ≡ told number }
+pub fn clamped_line(number: usize) -> u32
+    ensures { result ≡ clamped_line number }
 {
     u32::try_from(number).unwrap_or(u32::MAX)
 }

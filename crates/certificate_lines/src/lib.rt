@@ -10,7 +10,7 @@ ghost use Rattle.certificate_lines.specs.Lines.{lines, is_space, is_blank, words
 mod fault;
 mod laws;
 
-pub use fault::{LineFault, first_unblank, told};
+pub use fault::{LineFault, first_unblank, clamped_line};
 pub use laws::{
     iris_are_read_back, lines_are_read_back, numbers_are_read_back, words_are_read_back,
 };
@@ -112,6 +112,3 @@ pub fn iri(word: &[u8]) -> Option<&[u8]>
     }
     None
 }
-
-#[cfg(test)]
-mod tests;

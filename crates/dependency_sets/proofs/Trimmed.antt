@@ -10,10 +10,10 @@ use Rattle.std.proofs.lemmas.Bool.{ne_eqb, cases_eq, cases_lt, cases_Bool, false
 use Rattle.std.proofs.lemmas.List.{get_or-set_same, get_or-take, length-take-le, length-replicate}
 use Rattle.std.proofs.lemmas.Nat.{and_le_l}
 use Rattle.std.proofs.lemmas.Nat.Bits.{bit_at-zero, bit_at-trailing_zeros}
-use Rattle.word_sets.specs.Sets.{NumberSet, number_set}
-use Rattle.word_sets.proofs.Bits.{has_bit-is, has_bit-past, has_bit-within, contains-number_set, number_set_same, number_set-take, contains_insert, contains_remove}
-use Rattle.word_sets.proofs.Next.{contains-past, word-member}
-use Rattle.word_sets.proofs.Vectors.{number_set-zeros}
+use Rattle.lane_sieve.specs.Sets.{NumberSet, number_set}
+use Rattle.lane_sieve.proofs.Bits.{has_bit-is, has_bit-past, has_bit-within, contains-number_set, number_set_same, number_set-take, contains_insert, contains_remove}
+use Rattle.lane_sieve.proofs.Next.{contains-past, word-member}
+use Rattle.lane_sieve.proofs.Vectors.{number_set-zeros}
 use Rattle.dependency_sets.specs.Marks.{IsTrimmed}
 
 -- ---- a member, and the word that it stands in

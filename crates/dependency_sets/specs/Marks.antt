@@ -1,7 +1,7 @@
 -- Sets of marks.
 use Rattle.std.specs.Prelude.{◌≡◌, ℕ, ◌-◌, ◌^◌, ◌<◌, ◌≤◌, true, false, List, [], length, slice_index, Option, Some, None}
 use Rattle.std.specs.FinSet as set
-use Rattle.word_sets.specs.Sets.{NumberSet}
+use Rattle.lane_sieve.specs.Sets.{NumberSet}
 
 -- the words that may be there, and no word where they are not
 abbrev pub words_or_none : {V : Type 0} → (V → List ℕ) → Option V → List ℕ

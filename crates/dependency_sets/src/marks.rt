@@ -3,13 +3,13 @@
 ghost use Rattle.std.specs.Prelude.{◌≡◌, ℕ, ◌+◌, ◌-◌, ◌*◌, ◌/◌, ◌<◌, ◌≤◌, ◌↔◌, true, IsNone, IfSome, IfOk, length};
 ghost use Rattle.std.specs.Bool.{MatchBool};
 ghost use Rattle.std.specs.FinSet as set;
-ghost use Rattle.word_sets.specs.Sets.{number_set};
+ghost use Rattle.lane_sieve.specs.Sets.{number_set};
 ghost use Rattle.dependency_sets.specs.Marks.{IsTrimmed, IsGreatest};
 
 use shq_base::NoMemory;
 use std::alloc::Global;
 use std::marker::Model;
-use word_sets::{copy_words, has_number, last_number, put_number, repeat_word, take_number, unite};
+use lane_sieve::{copy_words, has_number, last_number, put_number, repeat_word, take_number, unite};
 
 /// A set of marks, which contracts see as a set of numbers. It takes one bit for each mark up to its greatest.
 #[derive(Drop)]
@@ -20,7 +20,7 @@ pub struct Deps {
 impl Model for Deps {
     ghost use Rattle.std.specs.Coded.{coded_ℕ};
     ghost use Rattle.std.specs.FinSet as set;
-    ghost use Rattle.word_sets.specs.Sets.{NumberSet, number_set};
+    ghost use Rattle.lane_sieve.specs.Sets.{NumberSet, number_set};
     ghost use Rattle.dependency_sets.specs.Marks.{words_or_none, IsTrimmed};
 
     ghost Value = { NumberSet };

@@ -7,7 +7,7 @@ use Rattle.shq_terms.specs.declared.axioms.Query.{Query}
 use Rattle.shq_base.specs.Concept.{Concept, some_of, at_least, exactly, parts_of}
 use Rattle.shq_meaning.specs.Truth.{Interpretation, holds, hold_any, implies, same, none_twice, refutes_at, out_degree, successors}
 use Rattle.std.proofs.lemmas.Bool.Decides.{nat_tests}
-use Rattle.finite_model.specs.Kept.{Kept, meaning, begins, is_from, is_link}
+use Rattle.finite_model.specs.ModelLists.{ModelLists, meaning, begins, is_from, is_link}
 
 or_parts : (a b : Bool) → (a || b) ≡ false → (a ≡ false) × (b ≡ false)
 or_parts true b h = let clash : true ≡ false = h in absurd (cc clash)
@@ -28,7 +28,7 @@ pub count_of_none : (n : ℕ) (b : ℕ → Bool) → ((y : ℕ) → b y ≡ fals
 count_of_none zero b none = refl
 count_of_none (suc n) b none = let rest = count_of_none n b none in rw (none n, rest)
 
-module _ (k : Kept) (r x : ℕ) (none : begins k r x ≡ false) where
+module _ (k : ModelLists) (r x : ℕ) (none : begins k r x ≡ false) where
   pub no_pair : (y : ℕ) → (meaning k).in_role r x y ≡ false
   no_pair = no_link r x k.links none
 
@@ -56,7 +56,7 @@ module _ (k : Kept) (r x : ℕ) (none : begins k r x ≡ false) where
   count_of_no_successor : (n : ℕ) (c : Concept) → nat_eq n 0 ≡ false → holds (meaning k) (exactly n r c) x ≡ false
   count_of_no_successor n c more = let other : eqb 0 n ≡ false = grind (arith, nat_tests) in ap (λ m. eqb m n) (successors_of_none (holds (meaning k) c)) ∙ other
 
-module _ (k : Kept) (n r x : ℕ) (c : Concept) (none : (nat_eq n 0 || begins k r x) ≡ false) where
+module _ (k : ModelLists) (n r x : ℕ) (c : Concept) (none : (nat_eq n 0 || begins k r x) ≡ false) where
   pub fails_at_least : holds (meaning k) (at_least n r c) x ≡ false
   fails_at_least = let both = or_parts (nat_eq n 0) (begins k r x) none in least_of_none k r x both.1 n c both.0
 

@@ -6,7 +6,7 @@ use Rattle.certificate_lines.specs.Lines.{is_blank, words}
 use Rattle.certificate_lines.specs.Malformed.{first_unblank, BeginsText, IsFirstMalformed}
 use Rattle.certificate_lines.proofs.FirstLine.{IsFirstIn, first_of_none, first_here, first_behind, first_in_text, blank_end, first_of_blanks, blank_all}
 use Rattle.shq_terms.specs.Listed.{Listed}
-use Rattle.finite_model.specs.Kept.{Kept}
+use Rattle.finite_model.specs.ModelLists.{ModelLists}
 use Rattle.finite_model.specs.ModelText.{Body, body_from, line_read, is_end, size_line, empty_body, model_of}
 use Rattle.finite_model.specs.Malformed.{malformed_from, first_malformed}
 
@@ -51,15 +51,15 @@ body_first o b n m (l ∷ ls) is = by_end (λ next. body_first o next (n + 1) m 
             let more = behind next (sym (malformed_line o n b l ls (Some next) goes good) ∙ is) in
             (suc more.0, omega (arith, more.1), first_behind (body_from o b) (body_from o next) l ls more.0 (λ rest. body_line o b l rest (Some next) goes good) more.2)
 
-body_is_text : (o : Listed) (b : Body) (n : ℕ) (ls : List (List ℕ)) → malformed_from o n b ls ≡ None → (k : Kept) × (body_from o b ls ≡ Some k)
+body_is_text : (o : Listed) (b : Body) (n : ℕ) (ls : List (List ℕ)) → malformed_from o n b ls ≡ None → (k : ModelLists) × (body_from o b ls ≡ Some k)
 body_is_text o b n [] is = let clash : ◌≡◌ {A = Option ℕ} (Some n) None = is in absurd (cc clash)
 body_is_text o b n (l ∷ ls) is = by_end (λ next. body_is_text o next (n + 1) ls) (is_end l) refl
   where
-    by_end : ((next : Body) → malformed_from o (n + 1) next ls ≡ None → (k : Kept) × (body_from o next ls ≡ Some k)) → (e : Bool) → is_end l ≡ e → (k : Kept) × (body_from o b (l ∷ ls) ≡ Some k)
+    by_end : ((next : Body) → malformed_from o (n + 1) next ls ≡ None → (k : ModelLists) × (body_from o next ls ≡ Some k)) → (e : Bool) → is_end l ≡ e → (k : ModelLists) × (body_from o b (l ∷ ls) ≡ Some k)
     by_end behind true ends = (b.model, body_end o b l ls ends ∙ ap (λ (v : Bool). if v then Some b.model else None) (blank_all (n + 1) ls (sym (malformed_end o n b l ls ends) ∙ is)))
     by_end behind false goes = by_line (line_read o b l) refl
       where
-        by_line : (read : Option Body) → line_read o b l ≡ read → (k : Kept) × (body_from o b (l ∷ ls) ≡ Some k)
+        by_line : (read : Option Body) → line_read o b l ≡ read → (k : ModelLists) × (body_from o b (l ∷ ls) ≡ Some k)
         by_line None bad = let clash : ◌≡◌ {A = Option ℕ} (Some n) None = sym (malformed_line o n b l ls None goes bad) ∙ is in absurd (cc clash)
         by_line (Some next) good =
             let more = behind next (sym (malformed_line o n b l ls (Some next) goes good) ∙ is) in
@@ -91,11 +91,11 @@ malformed_is_first o (l ∷ ls) n is = by (size_line (words l)) refl
         let more = body_first o (empty_body size) 3 n ls (sym (malformed_first o l ls (Some size) good) ∙ is) in
         first_in_text (model_of o) (l ∷ ls) (suc more.0) n (omega (arith, more.1)) (first_behind (model_of o) (body_from o (empty_body size)) l ls more.0 (λ rest. model_line o l rest (Some size) good) more.2)
 
-pub unless_malformed : (o : Listed) (lines : List (List ℕ)) → first_malformed o lines ≡ None → (k : Kept) × (model_of o lines ≡ Some k)
+pub unless_malformed : (o : Listed) (lines : List (List ℕ)) → first_malformed o lines ≡ None → (k : ModelLists) × (model_of o lines ≡ Some k)
 unless_malformed o [] is = let clash : ◌≡◌ {A = Option ℕ} (Some 2) None = is in absurd (cc clash)
 unless_malformed o (l ∷ ls) is = by (size_line (words l)) refl
   where
-    by : (size : Option ℕ) → size_line (words l) ≡ size → (k : Kept) × (model_of o (l ∷ ls) ≡ Some k)
+    by : (size : Option ℕ) → size_line (words l) ≡ size → (k : ModelLists) × (model_of o (l ∷ ls) ≡ Some k)
     by None bad = let clash : ◌≡◌ {A = Option ℕ} (Some 2) None = sym (malformed_first o l ls None bad) ∙ is in absurd (cc clash)
     by (Some size) good =
         let more = body_is_text o (empty_body size) 3 ls (sym (malformed_first o l ls (Some size) good) ∙ is) in

@@ -12,7 +12,7 @@ use Rattle.std.proofs.lemmas.Bool.Decides.{nat_tests}
 use Rattle.shq_terms.specs.Listed.{Listed}
 use Rattle.finite_model.specs.Written.{is_listed}
 use Rattle.finite_model.specs.ReadBack.{IsKept}
-use Rattle.finite_model.specs.Kept.{Kept, IsDomain, member_cmp, link_cmp, tuple_cmp, members_below, links_below}
+use Rattle.finite_model.specs.ModelLists.{ModelLists, IsDomain, member_cmp, link_cmp, tuple_cmp, members_below, links_below}
 
 both : (a b : Bool) → a ≡ true → b ≡ true → (a && b) ≡ true
 both a b f g = rw (f, g)
@@ -41,7 +41,7 @@ link_put size r x y ms ls inside from to =
     record { some = inside.some; members_inside = inside.members_inside; links_inside = all_inserted tuple_cmp (λ l. nat_lt l.1 size && nat_lt l.2 size) ls (r, x, y) inside.links_inside (both (nat_lt x size) (nat_lt y size) is_from is_to) }
 
 -- what is kept of an interpretation whose classes and roles are listed
-pub is_kept : (o : Listed) (k : Kept) → IsTrue (is_listed o k) → IsDomain k.size k.members k.links → k.size < 2 ^ 32 → IsStrictlySortedBy member_cmp k.members → IsStrictlySortedBy link_cmp k.links → IsKept o k
+pub is_kept : (o : Listed) (k : ModelLists) → IsTrue (is_listed o k) → IsDomain k.size k.members k.links → k.size < 2 ^ 32 → IsStrictlySortedBy member_cmp k.members → IsStrictlySortedBy link_cmp k.links → IsKept o k
 is_kept o k listed inside small members links = record {
   some = inside.some;
   small = small;

@@ -10,7 +10,7 @@ use Rattle.std.specs.BTreeMap.Range.{range_contains}
 use Rattle.std.proofs.lemmas.Bool.Decides.{nat_tests}
 use Rattle.std.specs.Option.{MatchOption, option_copied}
 use denote.Ref.{Bor}
-use Rattle.finite_model.specs.Kept.{is_member, is_link, is_from, member_cmp, tuple_cmp}
+use Rattle.finite_model.specs.ModelLists.{is_member, is_link, is_from, member_cmp, tuple_cmp}
 use Rattle.finite_model.specs.Next.{IsNext, within}
 use Rattle.finite_model.proofs.First.{none_selected, first_selected_is_least, first_is_selected, first_is_among}
 

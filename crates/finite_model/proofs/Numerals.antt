@@ -12,7 +12,7 @@ use Rattle.std.proofs.Math.Seq.{drop-append-add}
 use Rattle.std.proofs.lemmas.Fmt.{digits_decimal}
 use Rattle.certificate_lines.proofs.Digits.{own, digits_all}
 use Rattle.certificate_lines.proofs.ReadBack.{number_read}
-use Rattle.finite_model.specs.Kept.{member_cmp, link_cmp}
+use Rattle.finite_model.specs.ModelLists.{member_cmp, link_cmp}
 use Rattle.finite_model.specs.ModelText.{element_in, elements_from, pair_at, pair_in, is_at_least, pair_from, pairs_from}
 use Rattle.finite_model.specs.Written.{elements_of, pairs_of}
 use Rattle.finite_model.specs.declared.reading.Pair.{Pair}

@@ -5,7 +5,7 @@ use Rattle.std.specs.List.{filter}
 use Rattle.std.specs.declared.ops.Bound.TheVariants.{Included, Excluded}
 use Rattle.std.specs.BTreeMap.Range.{range_contains}
 use Rattle.std.proofs.lemmas.Bool.Decides.{nat_tests}
-use Rattle.finite_model.specs.Kept.{member_cmp, link_cmp}
+use Rattle.finite_model.specs.ModelLists.{member_cmp, link_cmp}
 
 member_between : (a : ℕ) (m : ℕ × ℕ) → range_contains member_cmp (Included (a, 0)) (Excluded (a + 1, 0)) m ≡ nat_eq m.0 a
 member_between a m = grind (arith, nat_tests)

@@ -8,7 +8,7 @@ use Rattle.std.specs.BTreeMap.Range.{range_contains}
 use Rattle.std.proofs.lemmas.Bool.Decides.{nat_tests}
 use Rattle.shq_meaning.specs.Below.{all_below}
 use Rattle.shq_meaning.specs.Truth.{implies}
-use Rattle.finite_model.specs.Kept.{is_link, is_from, tuple_cmp}
+use Rattle.finite_model.specs.ModelLists.{is_link, is_from, tuple_cmp}
 
 -- the part of a set of triples that begin with r and x
 abbrev pub row_of : ℕ → ℕ → List (ℕ × ℕ × ℕ) → List (ℕ × ℕ × ℕ)

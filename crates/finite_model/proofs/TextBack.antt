@@ -10,7 +10,7 @@ use Rattle.certificate_lines.specs.Lines.{lines, words}
 use Rattle.certificate_lines.specs.Written.{is_line}
 use Rattle.certificate_lines.proofs.ReadBack.{words_read, lines_read, number_read}
 use Rattle.shq_terms.specs.Listed.{Listed}
-use Rattle.finite_model.specs.Kept.{Kept, member_cmp, link_cmp}
+use Rattle.finite_model.specs.ModelLists.{ModelLists, member_cmp, link_cmp}
 use Rattle.finite_model.specs.ModelText.{with_elements, with_pairs, body_from, size_line, empty_body, model_of}
 use Rattle.finite_model.specs.Written.{elements_of, pairs_of, model_text}
 use Rattle.finite_model.specs.ReadBack.{is_plain, AreNames, IsKept}
@@ -22,11 +22,11 @@ use Rattle.finite_model.proofs.TextRead.{both, plain_decimals, plain_pairs, row_
 
 -- ---- what is put in is what is kept
 
-with_elements_is : (a : ℕ) (xs : List ℕ) (k : Kept) → with_elements a xs k ≡ record k { members = insert_each member_cmp k.members (map (λ x. (a, x)) xs) }
+with_elements_is : (a : ℕ) (xs : List ℕ) (k : ModelLists) → with_elements a xs k ≡ record k { members = insert_each member_cmp k.members (map (λ x. (a, x)) xs) }
 with_elements_is a [] k = refl
 with_elements_is a (x ∷ xs) k = with_elements_is a xs (record k { members = insert_each member_cmp k.members ((a, x) ∷ []) })
 
-with_pairs_is : (r : ℕ) (ps : List Pair) (k : Kept) → with_pairs r ps k ≡ record k { links = insert_each link_cmp k.links (map (λ p. (r, p.from, p.to)) ps) }
+with_pairs_is : (r : ℕ) (ps : List Pair) (k : ModelLists) → with_pairs r ps k ≡ record k { links = insert_each link_cmp k.links (map (λ p. (r, p.from, p.to)) ps) }
 with_pairs_is r [] k = refl
 with_pairs_is r (p ∷ ps) k = with_pairs_is r ps (record k { links = insert_each link_cmp k.links ((r, p.from, p.to) ∷ []) })
 
@@ -49,14 +49,14 @@ pairs_again r (l ∷ ls) = by (nat_eq l.0 r) refl (pairs_again r ls)
     by true h rest = let same = same_number l.0 r h in λ i. (sym same i, l.1, l.2) ∷ rest i
     by false h rest = rest
 
-with_classes_is : (ns : List (List ℕ)) (a : ℕ) (ms : List (ℕ × ℕ)) (k : Kept) → with_classes a ns ms k ≡ record k { members = insert_each member_cmp k.members (groups (λ m. m.0) a ns ms) }
+with_classes_is : (ns : List (List ℕ)) (a : ℕ) (ms : List (ℕ × ℕ)) (k : ModelLists) → with_classes a ns ms k ≡ record k { members = insert_each member_cmp k.members (groups (λ m. m.0) a ns ms) }
 with_classes_is [] a ms k = refl
 with_classes_is (n ∷ ns) a ms k =
     ap (with_classes (a + 1) ns ms) (with_elements_is a (elements_of a ms) k ∙ ap (λ us. record k { members = insert_each member_cmp k.members us }) (elements_again a ms))
     ∙ with_classes_is ns (a + 1) ms (record k { members = insert_each member_cmp k.members (filter (λ m. nat_eq m.0 a) ms) })
     ∙ ap (λ us. record k { members = us }) (sym (insert_each-append member_cmp (filter (λ m. nat_eq m.0 a) ms) (groups (λ m. m.0) (a + 1) ns ms) k.members))
 
-with_roles_is : (ns : List (List ℕ)) (r : ℕ) (ls : List (ℕ × ℕ × ℕ)) (k : Kept) → with_roles r ns ls k ≡ record k { links = insert_each link_cmp k.links (groups (λ l. l.0) r ns ls) }
+with_roles_is : (ns : List (List ℕ)) (r : ℕ) (ls : List (ℕ × ℕ × ℕ)) (k : ModelLists) → with_roles r ns ls k ≡ record k { links = insert_each link_cmp k.links (groups (λ l. l.0) r ns ls) }
 with_roles_is [] r ls k = refl
 with_roles_is (n ∷ ns) r ls k =
     ap (with_roles (r + 1) ns ls) (with_pairs_is r (map pair_of (pairs_of r ls)) k ∙ ap (λ us. record k { links = insert_each link_cmp k.links us }) (pairs_again r ls))
@@ -100,7 +100,7 @@ role_rows_lines size small ls sorted below (n ∷ ns) r plain =
 size_plain : (n : ℕ) → n < 2 ^ 32 → list_all (list_all is_plain) (codes "model" ∷ decimal n ∷ []) ≡ true
 size_plain n small = both (list_all is_plain (codes "model")) (list_all (list_all is_plain) (decimal n ∷ [])) refl (both (list_all is_plain (decimal n)) true (plain_decimal n small) refl)
 
-module _ (o : Listed) (k : Kept) (classes : AreNames o.classes) (roles : AreNames o.roles) (kept : IsKept o k) where
+module _ (o : Listed) (k : ModelLists) (classes : AreNames o.classes) (roles : AreNames o.roles) (kept : IsKept o k) where
   all_lines : list_all is_line (model_rows o k) ≡ true
   all_lines =
       let first = line_of_plain (codes "model") (decimal k.size ∷ []) (size_plain k.size kept.small) in

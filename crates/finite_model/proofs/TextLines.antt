@@ -10,7 +10,7 @@ use Rattle.std.proofs.lemmas.List.Folds.{list_all-append}
 use Rattle.std.proofs.lemmas.List.Sums.{AllPass-from_list_all}
 use Rattle.certificate_lines.specs.Written.{line_of, text_of, is_word, is_line}
 use Rattle.shq_terms.specs.Listed.{Listed}
-use Rattle.finite_model.specs.Kept.{Kept}
+use Rattle.finite_model.specs.ModelLists.{ModelLists}
 use Rattle.finite_model.specs.Written.{elements_of, pairs_of, element_text, pair_text, line_text, class_text, role_text, class_texts, role_texts, model_text}
 use Rattle.finite_model.specs.ReadBack.{is_plain}
 use Rattle.finite_model.proofs.Numerals.{pair_word, digits}
@@ -45,7 +45,7 @@ role_rows r (n ∷ ns) ls = rows_of_role n (pairs_of r ls) ++ role_rows (r + 1) 
 abbrev pub size_row : ℕ → List ℕ
 size_row n = line_of (codes "model") (decimal n ∷ [])
 
-abbrev pub model_rows : Listed → Kept → List (List ℕ)
+abbrev pub model_rows : Listed → ModelLists → List (List ℕ)
 model_rows o k = size_row k.size ∷ class_rows 0 o.classes k.members ++ role_rows 0 o.roles k.links ++ codes "end" ∷ []
 
 -- ---- the text is that of these lines
@@ -93,7 +93,7 @@ role_texts_same r (n ∷ ns) ls =
 joined : (begin blank d feed cs rs end : List ℕ) → begin ++ blank ++ d ++ feed ++ cs ++ rs ++ end ++ feed ≡ begin ++ (blank ++ d ++ []) ++ feed ++ cs ++ rs ++ (end ++ feed ++ [])
 joined begin blank d feed cs rs end = simp (append_assoc, append-nil)
 
-pub model_text_same : (o : Listed) (k : Kept) → model_text o k ≡ text_of (model_rows o k)
+pub model_text_same : (o : Listed) (k : ModelLists) → model_text o k ≡ text_of (model_rows o k)
 model_text_same o k =
     let begin = codes "model " ++ decimal k.size ++ 10 ∷ [] in
     let cs = class_rows 0 o.classes k.members in

@@ -17,7 +17,7 @@ use Rattle.certificate_lines.proofs.ReadBack.{words_read, iri_read}
 use Rattle.shq_terms.specs.Listed.{Listed}
 use Rattle.shq_terms.specs.Distinct.{AreDistinct}
 use Rattle.shq_terms.proofs.Distinct.{place_is_number}
-use Rattle.finite_model.specs.Kept.{Kept, member_cmp, link_cmp}
+use Rattle.finite_model.specs.ModelLists.{ModelLists, member_cmp, link_cmp}
 use Rattle.finite_model.specs.ModelText.{elements_from, pairs_from, named_in, class_line, role_line, with_elements, with_pairs, Body, with_class, with_role, words_read as read_words, line_read, is_end, body_from}
 use Rattle.finite_model.specs.Written.{elements_of, pairs_of}
 use Rattle.finite_model.specs.ReadBack.{is_plain}
@@ -98,25 +98,25 @@ body_step o b next l ls more read =
 
 -- ---- all lines
 
-pub record IsRead (o : Listed) (b : Body) (rows rest : List (List ℕ)) (model : Kept) : Type 0 where
+pub record IsRead (o : Listed) (b : Body) (rows rest : List (List ℕ)) (model : ModelLists) : Type 0 where
   pub next : Body
   pub reads : body_from o b (rows ++ rest) ≡ body_from o next rest
   pub same_roles : next.roles ≡ b.roles
   pub becomes : next.model ≡ model
 
-abbrev pub with_classes : ℕ → List (List ℕ) → List (ℕ × ℕ) → Kept → Kept
+abbrev pub with_classes : ℕ → List (List ℕ) → List (ℕ × ℕ) → ModelLists → ModelLists
 with_classes a [] ms k = k
 with_classes a (n ∷ ns) ms k = with_classes (a + 1) ns ms (with_elements a (elements_of a ms) k)
 
-abbrev pub with_roles : ℕ → List (List ℕ) → List (ℕ × ℕ × ℕ) → Kept → Kept
+abbrev pub with_roles : ℕ → List (List ℕ) → List (ℕ × ℕ × ℕ) → ModelLists → ModelLists
 with_roles r [] ls k = k
 with_roles r (n ∷ ns) ls k = with_roles (r + 1) ns ls (with_pairs r (map pair_of (pairs_of r ls)) k)
 
-same_size : (a : ℕ) (xs : List ℕ) (k : Kept) → (with_elements a xs k).size ≡ k.size
+same_size : (a : ℕ) (xs : List ℕ) (k : ModelLists) → (with_elements a xs k).size ≡ k.size
 same_size a [] k = refl
 same_size a (x ∷ xs) k = same_size a xs (record k { members = insert_key member_cmp k.members (a, x) })
 
-same_size_pairs : (r : ℕ) (ps : List Pair) (k : Kept) → (with_pairs r ps k).size ≡ k.size
+same_size_pairs : (r : ℕ) (ps : List Pair) (k : ModelLists) → (with_pairs r ps k).size ≡ k.size
 same_size_pairs r [] k = refl
 same_size_pairs r (p ∷ ps) k = same_size_pairs r ps (record k { links = insert_key link_cmp k.links (r, p.from, p.to) })
 

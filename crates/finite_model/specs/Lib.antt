@@ -1,4 +1,4 @@
-pub mod Kept
+pub mod ModelLists
 pub mod Next
 pub mod ModelText
 pub mod Malformed

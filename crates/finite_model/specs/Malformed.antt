@@ -3,7 +3,7 @@ use Rattle.std.specs.Prelude.{◌≡◌, ℕ, ◌+◌, true, false, List, [], �
 use Rattle.certificate_lines.specs.Lines.{words}
 use Rattle.certificate_lines.specs.Malformed.{first_unblank, IsFirstMalformed}
 use Rattle.shq_terms.specs.Listed.{Listed}
-use Rattle.finite_model.specs.Kept.{Kept}
+use Rattle.finite_model.specs.ModelLists.{ModelLists}
 use Rattle.finite_model.specs.ModelText.{Body, line_read, is_end, size_line, empty_body, model_of}
 
 -- the number of the first malformed line behind the first line of a text
@@ -23,4 +23,4 @@ abbrev pub MalformedIsFirst : Type 0
 MalformedIsFirst = (o : Listed) (lines : List (List ℕ)) (n : ℕ) → first_malformed o lines ≡ Some n → IsFirstMalformed (model_of o) lines n
 
 abbrev pub UnlessMalformed : Type 0
-UnlessMalformed = (o : Listed) (lines : List (List ℕ)) → first_malformed o lines ≡ None → (k : Kept) × (model_of o lines ≡ Some k)
+UnlessMalformed = (o : Listed) (lines : List (List ℕ)) → first_malformed o lines ≡ None → (k : ModelLists) × (model_of o lines ≡ Some k)

@@ -6,7 +6,7 @@ use Rattle.std.specs.BTreeSet.{insert_key}
 use Rattle.std.specs.Str.{bytes_eq}
 use Rattle.certificate_lines.specs.Lines.{words, is_blank, number_in, iri_in}
 use Rattle.shq_terms.specs.Listed.{Listed}
-use Rattle.finite_model.specs.Kept.{Kept, member_cmp, link_cmp}
+use Rattle.finite_model.specs.ModelLists.{ModelLists, member_cmp, link_cmp}
 use Rattle.finite_model.specs.declared.reading.Pair.{Pair}
 
 -- the number of a word, where it is at least low and below the size
@@ -59,11 +59,11 @@ pub record RoleLine : Type 0 where
 abbrev pub role_line : Listed → ℕ → List (List ℕ) → Option RoleLine
 role_line o size ws = option_and_then (λ r. option_map (λ ps. record { role = r; pairs = ps }) (pairs_from (record { from = 0; to = 0 }) size (drop 2 ws))) (named_in (codes "role") o.roles ws)
 
-abbrev pub with_elements : ℕ → List ℕ → Kept → Kept
+abbrev pub with_elements : ℕ → List ℕ → ModelLists → ModelLists
 with_elements a [] k = k
 with_elements a (x ∷ xs) k = with_elements a xs (record k { members = insert_key member_cmp k.members (a, x) })
 
-abbrev pub with_pairs : ℕ → List Pair → Kept → Kept
+abbrev pub with_pairs : ℕ → List Pair → ModelLists → ModelLists
 with_pairs r [] k = k
 with_pairs r (p ∷ ps) k = with_pairs r ps (record k { links = insert_key link_cmp k.links (r, p.from, p.to) })
 
@@ -71,7 +71,7 @@ with_pairs r (p ∷ ps) k = with_pairs r ps (record k { links = insert_key link_
 pub record Body : Type 0 where
   pub classes : List ℕ
   pub roles : List ℕ
-  pub model : Kept
+  pub model : ModelLists
 
 -- one line more, of a class that had none
 abbrev pub with_class : Body → ClassLine → Option Body
@@ -105,7 +105,7 @@ abbrev pub is_end : List ℕ → Bool
 is_end line = bytes_eq line (codes "end")
 
 -- the lines behind the first: lines of classes and roles, then the line `end`, and then blank lines
-abbrev pub body_from : Listed → Body → List (List ℕ) → Option Kept
+abbrev pub body_from : Listed → Body → List (List ℕ) → Option ModelLists
 body_from o b [] = None
 body_from o b (l ∷ ls) = elim (is_end l) [
   | true ↦ if list_all is_blank ls then Some b.model else None
@@ -122,6 +122,6 @@ abbrev pub empty_body : ℕ → Body
 empty_body n = record { classes = []; roles = []; model = record { size = n; members = []; links = [] } }
 
 -- the model that the lines stand for, where they are the text of one
-abbrev pub model_of : Listed → List (List ℕ) → Option Kept
+abbrev pub model_of : Listed → List (List ℕ) → Option ModelLists
 model_of o [] = None
 model_of o (l ∷ ls) = option_and_then (λ n. body_from o (empty_body n) ls) (size_line (words l))

@@ -5,7 +5,7 @@ use Rattle.std.specs.List.Sorted.{IsStrictlySortedBy}
 use Rattle.certificate_lines.specs.Lines.{lines}
 use Rattle.shq_terms.specs.Listed.{Listed}
 use Rattle.shq_terms.specs.Distinct.{AreDistinct}
-use Rattle.finite_model.specs.Kept.{Kept, members_below, links_below, member_cmp, link_cmp}
+use Rattle.finite_model.specs.ModelLists.{ModelLists, members_below, links_below, member_cmp, link_cmp}
 use Rattle.finite_model.specs.ModelText.{model_of}
 use Rattle.finite_model.specs.Written.{is_listed, model_text}
 
@@ -19,7 +19,7 @@ pub record AreNames (names : List (List ℕ)) : Type 0 where
   pub plain : IsTrue (list_all (list_all is_plain) names)
 
 -- an interpretation of listed classes and roles, as its members and pairs are kept
-pub record IsKept (o : Listed) (k : Kept) : Type 0 where
+pub record IsKept (o : Listed) (k : ModelLists) : Type 0 where
   pub some : 1 ≤ k.size
   pub small : k.size < 2 ^ 32
   pub listed : IsTrue (is_listed o k)
@@ -30,4 +30,4 @@ pub record IsKept (o : Listed) (k : Kept) : Type 0 where
 
 -- the lines of a model's text stand for this model
 abbrev pub ModelsAreReadBack : Type 0
-ModelsAreReadBack = (o : Listed) (k : Kept) → AreNames o.classes → AreNames o.roles → IsKept o k → model_of o (lines (model_text o k)) ≡ Some k
+ModelsAreReadBack = (o : Listed) (k : ModelLists) → AreNames o.classes → AreNames o.roles → IsKept o k → model_of o (lines (model_text o k)) ≡ Some k

@@ -2,7 +2,7 @@
 use Rattle.std.specs.Prelude.{ℕ, ◌+◌, Bool, ◌&&◌, List, [], ◌∷◌, ◌++◌, map, length, codes, decimal, nat_eq, nat_lt}
 use Rattle.std.specs.List.{filter, flat_map, list_all}
 use Rattle.shq_terms.specs.Listed.{Listed}
-use Rattle.finite_model.specs.Kept.{Kept}
+use Rattle.finite_model.specs.ModelLists.{ModelLists}
 
 -- the elements of a class, ascending
 abbrev pub elements_of : ℕ → List (ℕ × ℕ) → List ℕ
@@ -45,10 +45,10 @@ role_texts r [] links = []
 role_texts r (name ∷ names) links = role_text name (pairs_of r links) ++ role_texts (r + 1) names links
 
 -- the line of the size, the lines of classes, the lines of roles, and the line `end`
-abbrev pub model_text : Listed → Kept → List ℕ
+abbrev pub model_text : Listed → ModelLists → List ℕ
 model_text o k =
     codes "model " ++ decimal k.size ++ 10 ∷ [] ++ class_texts 0 o.classes k.members ++ role_texts 0 o.roles k.links ++ codes "end" ++ 10 ∷ []
 
 -- each class and each role of which something was put is listed
-abbrev pub is_listed : Listed → Kept → Bool
+abbrev pub is_listed : Listed → ModelLists → Bool
 is_listed o k = list_all (λ m. nat_lt m.0 (length o.classes)) k.members && list_all (λ l. nat_lt l.0 (length o.roles)) k.links

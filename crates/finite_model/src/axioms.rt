@@ -2,7 +2,7 @@
 ghost use Rattle.std.specs.Prelude.{◌≡◌, ◌<◌, ◌||◌, ◌&&◌, nat_le};
 ghost use Rattle.shq_base.specs.Concept.{parts_of};
 ghost use Rattle.shq_meaning.specs.Truth.{holds, hold_any, implies, same, all_same, none_twice, included, roles_equal, out_degree, meets};
-ghost use Rattle.finite_model.specs.Kept.{meaning};
+ghost use Rattle.finite_model.specs.ModelLists.{meaning};
 ghost use Rattle.finite_model.specs.Next.{IsNext};
 
 use crate::Interp;

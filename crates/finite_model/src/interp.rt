@@ -8,7 +8,7 @@ ghost use Rattle.std.specs.Ordering.{is_gt};
 ghost use Rattle.std.specs.declared.ops.Bound.TheVariants.{Included};
 ghost use Rattle.shq_meaning.specs.Below.{all_below};
 ghost use Rattle.shq_meaning.specs.Truth.{implies};
-ghost use Rattle.finite_model.specs.Kept.{meaning, begins, IsDomain, member_cmp, link_cmp, tuple_cmp};
+ghost use Rattle.finite_model.specs.ModelLists.{meaning, begins, IsDomain, member_cmp, link_cmp, tuple_cmp};
 ghost use Rattle.finite_model.specs.Next.{IsNext, within};
 ghost use Rattle.finite_model.specs.Written.{elements_of, pairs_of};
 
@@ -27,9 +27,9 @@ pub struct Interp {
 }
 
 impl Model for Interp {
-    ghost use Rattle.finite_model.specs.Kept.{Kept, IsDomain};
+    ghost use Rattle.finite_model.specs.ModelLists.{ModelLists, IsDomain};
 
-    ghost Value = { Kept };
+    ghost Value = { ModelLists };
 
     ghost view = { λ i. record { size = i.size; members = i.members.keys; links = i.links.keys } };
 
@@ -37,7 +37,7 @@ impl Model for Interp {
 }
 
 impl Interp {
-    ghost use Rattle.finite_model.specs.Kept.{Kept};
+    ghost use Rattle.finite_model.specs.ModelLists.{ModelLists};
 
     /// An interpretation of that many elements, at least one, in which each class and each role is empty.
     pub fn new(alloc: Global, size: u32) -> Interp

@@ -14,6 +14,3 @@ pub use interp::Interp;
 pub use laws::{a_text_has_no_malformed_line, malformed_line_is_the_first, models_are_read_back};
 pub use reading::read_text;
 pub use shq_base::NoMemory;
-
-#[cfg(test)]
-mod tests;

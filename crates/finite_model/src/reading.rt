@@ -6,7 +6,7 @@ ghost use Rattle.finite_model.specs.Malformed.{malformed_from, first_malformed};
 ghost use Rattle.finite_model.specs.BodyRead.{body_of, class_of, role_of};
 
 use crate::{Interp, ModelFault};
-use certificate_lines::{first_unblank, iri, number, told, words};
+use certificate_lines::{first_unblank, iri, number, clamped_line, words};
 use shq_terms::Ontology;
 use std::alloc::Global;
 use std::collections::BTreeSet;
@@ -75,12 +75,12 @@ fn read_body(
         if lines[index] == b"end".as_slice() {
             return match first_unblank(&lines[index + 1..], index + 4) {
                 None => Ok(body.model),
-                Some(number) => Err(ModelFault::Malformed(told(number))),
+                Some(number) => Err(ModelFault::Malformed(clamped_line(number))),
             };
         }
-        read_line(alloc, lines[index], told(index + 3), ontology, &mut body)?;
+        read_line(alloc, lines[index], clamped_line(index + 3), ontology, &mut body)?;
     }
-    Err(ModelFault::Malformed(told(lines.len() + 3)))
+    Err(ModelFault::Malformed(clamped_line(lines.len() + 3)))
 }
 
 // Reads one line more, whose number is given.

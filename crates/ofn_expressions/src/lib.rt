@@ -18,6 +18,3 @@ pub use prefixes::Prefixes;
 pub use reading::{MAX_AXIOMS, MAX_NODES, Reading};
 pub use refusal::{Refusal, Which};
 pub use roles::{declare_role, read_role, read_roles};
-
-#[cfg(test)]
-mod tests;

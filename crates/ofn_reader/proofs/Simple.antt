@@ -7,7 +7,7 @@ use Rattle.std.specs.Option.{option_map}
 use Rattle.shq_terms.specs.Listed.{Listed}
 use Rattle.shq_terms.specs.declared.axioms.Numbered.{Numbered}
 use Rattle.role_box.specs.declared.axioms.RoleAxiom.{RoleAxiom}
-use Rattle.simple_roles.specs.Simple.{are_simple, counts_simple, first_not_simple, all_role_axioms}
+use Rattle.role_box.specs.Simple.{are_simple, counts_simple, first_not_simple, all_role_axioms}
 use Rattle.ofn_tree.specs.Items.{Item}
 use Rattle.ofn_expressions.specs.Counts.{Counts, State, Grows}
 use Rattle.ofn_expressions.specs.Walk.{Test, simple, after_all, outcomes, first_failing, verdict, walked, Judged}

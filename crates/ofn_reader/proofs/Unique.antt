@@ -14,7 +14,7 @@ use Rattle.ofn_expressions.specs.Walk.{Test, walked}
 use Rattle.ofn_expressions.specs.Names.{Prefix, predeclared}
 use Rattle.ofn_expressions.specs.declared.refusal.Refusal.{Refusal}
 use Rattle.ofn_expressions.specs.declared.refusal.Refusal.TheVariants.{Text, BadShape, UnknownPrefix, PrefixClash, Outside, NotSimple, Limit, NoMemory}
-use Rattle.ofn_reader.specs.Kept.{Kept}
+use Rattle.ofn_reader.specs.DocumentContext.{DocumentContext}
 use Rattle.ofn_reader.specs.Texts.{tree_fault, fault_or_else, text_fault, HasItems, Fails, IsRefusedBy}
 use Rattle.ofn_reader.specs.Documents.{start, document_tests, document_axioms, document_prefixes, IsDocument, IsNoDocument}
 use Rattle.ofn_reader.specs.Queries.{query_tests, class_query_tests, first_query, first_class, IsQuery, IsClass, IsNoQuery, IsNoClass, long, refused}
@@ -68,7 +68,7 @@ module _ (tests : List Item → List Test) (s : Counts) where
 abbrev all_tests : List ℕ → List Item → List Test
 all_tests text is = document_tests predeclared (end_line text) is
 
-pub documents : (text : List ℕ) (o p : Listed) (j k : Kept) (d e : ℕ) → IsDocument text o j d → IsDocument text p k e → (o ≡ p) × (j ≡ k) × (d ≡ e)
+pub documents : (text : List ℕ) (o p : Listed) (j k : DocumentContext) (d e : ℕ) → IsDocument text o j d → IsDocument text p k e → (o ≡ p) × (j ≡ k) × (d ≡ e)
 documents text o p j k d e a b =
     let same = same_items text a.items b.items d e a.made b.made in
     let behind = same_walk (all_tests text) start a.items b.items a.behind b.behind same a.holds b.holds in
@@ -76,7 +76,7 @@ documents text o p j k d e a b =
     let taken : j ≡ k = a.takes ∙ (λ i. record { prefixes = document_prefixes predeclared (same i); nodes = (behind i).nodes }) ∙ sym b.takes in
     (listed, taken, same_end text a.items b.items d e a.made b.made)
 
-pub documents_not_refused : (text : List ℕ) (o : Listed) (k : Kept) (d : ℕ) (e : Refusal) → IsDocument text o k d → IsNoDocument text e → ⊥
+pub documents_not_refused : (text : List ℕ) (o : Listed) (k : DocumentContext) (d : ℕ) (e : Refusal) → IsDocument text o k d → IsNoDocument text e → ⊥
 documents_not_refused text o k d e a why = not_refused (all_tests text) start text a.items d a.behind a.made a.holds e why
 
 module _ (ps : List Prefix) (axioms : List Numbered) (s : Counts) (text : List ℕ) (a b : Counts) where

@@ -6,7 +6,7 @@ use Rattle.ofn_tree.specs.Items.{Item}
 use Rattle.shq_terms.specs.Listed.{Listed}
 use Rattle.shq_terms.specs.declared.axioms.Numbered.{Numbered}
 use Rattle.role_box.specs.declared.axioms.RoleAxiom.{RoleAxiom}
-use Rattle.simple_roles.specs.Simple.{counts_simple, all_role_axioms}
+use Rattle.role_box.specs.Simple.{counts_simple, all_role_axioms}
 use Rattle.ofn_expressions.specs.Counts.{Counts}
 use Rattle.ofn_expressions.specs.Walk.{Test, shape, simple, after_all, walked}
 use Rattle.ofn_expressions.specs.Names.{Prefix, item_line, predeclared}
@@ -14,7 +14,7 @@ use Rattle.ofn_expressions.specs.declared.refusal.Refusal.{Refusal}
 use Rattle.ofn_reader.specs.Groups.{is_group, inner_items, axiom_items}
 use Rattle.ofn_reader.specs.Prefixes.{prefixes_tests, prefixes_behind}
 use Rattle.ofn_reader.specs.Axioms.{axioms_tests, axioms_in}
-use Rattle.ofn_reader.specs.Kept.{Kept}
+use Rattle.ofn_reader.specs.DocumentContext.{DocumentContext}
 use Rattle.ofn_reader.specs.Texts.{HasItems, IsRefusedBy}
 
 -- nothing was counted or listed
@@ -67,7 +67,7 @@ document_tests ps end is = form_tests ps end is ++ all_simple_tests (document_ax
 
 -- The text up to the end is a document, no test of which fails. It lists the axioms and names of o. A query on it takes over
 -- its prefixes, and the count of the nodes of its expressions.
-pub record IsDocument (text : List ℕ) (o : Listed) (kept : Kept) (end : ℕ) : Type 0 where
+pub record IsDocument (text : List ℕ) (o : Listed) (kept : DocumentContext) (end : ℕ) : Type 0 where
   pub items : List Item
   pub made : HasItems text items end
   pub behind : Counts

@@ -7,17 +7,17 @@ use Rattle.shq_terms.specs.declared.axioms.Query.{Query}
 use Rattle.ofn_expressions.specs.Counts.{Counts}
 use Rattle.ofn_expressions.specs.Names.{Prefix}
 use Rattle.ofn_expressions.specs.declared.refusal.Refusal.{Refusal}
-use Rattle.ofn_reader.specs.Kept.{Kept}
+use Rattle.ofn_reader.specs.DocumentContext.{DocumentContext}
 use Rattle.ofn_reader.specs.Documents.{IsDocument, IsNoDocument}
 use Rattle.ofn_reader.specs.Queries.{IsQuery, IsNoQuery, IsClass, IsNoClass}
 
 -- the ontology of a document, what queries take over, and its end
 abbrev pub DocumentsAreUnique : Type 0
 DocumentsAreUnique =
-    (text : List ℕ) (o p : Listed) (j k : Kept) (d e : ℕ) → IsDocument text o j d → IsDocument text p k e → (o ≡ p) × (j ≡ k) × (d ≡ e)
+    (text : List ℕ) (o p : Listed) (j k : DocumentContext) (d e : ℕ) → IsDocument text o j d → IsDocument text p k e → (o ≡ p) × (j ≡ k) × (d ≡ e)
 
 abbrev pub DocumentsAreNotRefused : Type 0
-DocumentsAreNotRefused = (text : List ℕ) (o : Listed) (k : Kept) (d : ℕ) (e : Refusal) → IsDocument text o k d → IsNoDocument text e → ⊥
+DocumentsAreNotRefused = (text : List ℕ) (o : Listed) (k : DocumentContext) (d : ℕ) (e : Refusal) → IsDocument text o k d → IsNoDocument text e → ⊥
 
 -- the counts behind a query, and its two expressions
 abbrev pub QueriesAreUnique : Type 0

@@ -3,7 +3,7 @@ pub mod Groups
 pub mod Axioms
 pub mod Declarations
 pub mod Prefixes
-pub mod Kept
+pub mod DocumentContext
 pub mod Texts
 pub mod Documents
 pub mod Queries

@@ -4,8 +4,8 @@ use Rattle.shq_base.specs.Concept.{Concept}
 use Rattle.shq_terms.specs.Listed.{Listed}
 use Rattle.shq_terms.specs.declared.axioms.Numbered.{Numbered}
 use Rattle.shq_terms.specs.declared.axioms.Query.{Query}
-use Rattle.simple_roles.specs.Counted.{counted_roles, counted_by_query}
-use Rattle.simple_roles.specs.Simple.{are_simple, all_role_axioms}
+use Rattle.role_box.specs.Counted.{counted_roles, counted_by_query}
+use Rattle.role_box.specs.Simple.{are_simple, all_role_axioms}
 use Rattle.ofn_tree.specs.Lexemes.{end_line}
 use Rattle.ofn_tree.specs.Items.{Item, name_item, iri_item, literal_item, sign_item, group_item, Items, item}
 use Rattle.ofn_expressions.specs.Counts.{Counts}

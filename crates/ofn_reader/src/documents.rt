@@ -14,7 +14,7 @@ use crate::texts::read_items;
 use ofn_expressions::{MAX_NODES, Prefixes, Reading, Refusal, item_line};
 use ofn_tree::{Tree, end_line};
 use shq_terms::Ontology;
-use simple_roles::first_not_simple;
+use role_box::first_not_simple;
 use std::alloc::Global;
 use std::marker::Model;
 
@@ -28,9 +28,9 @@ pub struct Context {
 
 impl Model for Context {
     ghost use Rattle.std.specs.Prelude.{◌≤◌};
-    ghost use Rattle.ofn_reader.specs.Kept.{Kept};
+    ghost use Rattle.ofn_reader.specs.DocumentContext.{DocumentContext};
 
-    ghost Value = { Kept };
+    ghost Value = { DocumentContext };
 
     ghost view = { λ c. record { prefixes = c.prefixes; nodes = c.nodes } };
 

@@ -16,7 +16,7 @@ use crate::{Context, Prefixes, Refusal, Which};
 use ofn_expressions::{MAX_NODES, Reading, item_line};
 use ofn_tree::{Form, Tree, end_line};
 use shq_terms::{Concept, Ontology, Query};
-use simple_roles::{class_is_simple, query_is_simple};
+use role_box::{class_is_simple, query_is_simple};
 use std::alloc::Global;
 use std::mem;
 

@@ -18,6 +18,3 @@ pub use lexer::{
 };
 pub use parser::{tree, trees_are_unique};
 pub use token::{Kind, Token};
-
-#[cfg(test)]
-mod tests;

@@ -12,6 +12,3 @@ pub use concepts::concept_text;
 pub use laws::examples_hold;
 pub use ontologies::ontology_text;
 pub use shq_base::NoMemory;
-
-#[cfg(test)]
-mod tests;

@@ -7,11 +7,11 @@ use Rattle.shq_terms.specs.declared.axioms.Axiom.{Axiom as SomeAxiom}
 use Rattle.shq_terms.specs.declared.axioms.Numbered.{Numbered}
 use Rattle.shq_terms.specs.declared.axioms.Query.{Query as Asked}
 use Rattle.shq_meaning.specs.Truth.{Interpretation, meets, meets_all, refutes_at, Entails}
-use Rattle.finite_model.specs.Kept.{meaning}
+use Rattle.finite_model.specs.ModelLists.{meaning}
 use Rattle.refutation_truth.proofs.Entailed.{entailed_by_all}
 use Rattle.ontology_cli.specs.Words.{check}
 use Rattle.ontology_cli.specs.Certificates.{certificate}
-use Rattle.ontology_cli.specs.Checking.{with_names, IsVerdictOn, first_unmet, Reply, judged, refused_document, refused_query, malformed_line, Shows, Says, no_document, no_query, shown}
+use Rattle.ontology_cli.specs.Checking.{with_names, IsVerdictOn, first_unmet, Reply, judged, refused_document, refused_query, malformed_line, Shows, IsReply, no_document, no_query, shown}
 use Rattle.ontology_cli.specs.Complaints.{Complaint, sort_status, complaint}
 use Rattle.ontology_cli.specs.Answers.{line, Answer, complaint_answer, reply_answer, AnswersJob}
 use Rattle.ontology_cli.specs.Laws.{HaveRead}
@@ -79,7 +79,7 @@ done_by (malformed_line n) out is = let clash = ap (λ (a : Answer). a.0) is in 
 module _ (query bytes : List ℕ) where
   -- a verdict is one on a certificate behind a document with a query
   judged_on : (holds : List SomeAxiom → Asked → Type 0) (v : Verdict) → ((o : Listed) (q : Asked) (c : Certificate) → IsVerdictOn o q c v → holds (map (λ n. n.axiom) o.axioms) q)
-      → (r : Reply) → r ≡ judged v → Says query bytes r → HaveRead holds query bytes
+      → (r : Reply) → r ≡ judged v → IsReply query bytes r → HaveRead holds query bytes
   judged_on holds v so _ is (no_document e why) = absurd (cc is)
   judged_on holds v so _ is (no_query o kept end e found why) = absurd (cc is)
   judged_on holds v so _ is (shown o kept end behind q r found asked shows) = by (certificate (with_names o behind) (drop end bytes)) (subst (Shows (with_names o behind) q (certificate (with_names o behind) (drop end bytes))) is shows)
@@ -89,14 +89,14 @@ module _ (query bytes : List ℕ) where
       by (Err n) none = absurd none
 
   -- the reply of an answer that was done
-  reply_of : (out : List ℕ) → AnswersJob (check query) bytes out Done → (r : Reply) × Says query bytes r × (◌≡◌ {A = Answer} (Done, out) (reply_answer r))
+  reply_of : (out : List ℕ) → AnswersJob (check query) bytes out Done → (r : Reply) × IsReply query bytes r × (◌≡◌ {A = Answer} (Done, out) (reply_answer r))
   reply_of out (inl (long, is)) = let clash = ap (λ (a : Answer). a.0) is in absurd (cc clash)
   reply_of out (inr (short, reply)) = reply
 
   pub follows : AnswersJob (check query) bytes (line (codes "accepted entailed")) Done → HaveRead Entails query bytes
   follows answer = by (reply_of (line (codes "accepted entailed")) answer)
     where
-      by : ((r : Reply) × Says query bytes r × (◌≡◌ {A = Answer} (Done, line (codes "accepted entailed")) (reply_answer r))) → HaveRead Entails query bytes
+      by : ((r : Reply) × IsReply query bytes r × (◌≡◌ {A = Answer} (Done, line (codes "accepted entailed")) (reply_answer r))) → HaveRead Entails query bytes
       by (r, says, is) = elim (done_by r (line (codes "accepted entailed")) is) [
         | inl (entailed, long) ↦ judged_on Entails Entailed followed r entailed says
         | inr (not_entailed, long) ↦ absurd (omega (arith, long))
@@ -105,7 +105,7 @@ module _ (query bytes : List ℕ) where
   pub does_not_follow : AnswersJob (check query) bytes (line (codes "accepted not entailed")) Done → HaveRead (λ axioms q. Entails axioms q → ⊥) query bytes
   does_not_follow answer = by (reply_of (line (codes "accepted not entailed")) answer)
     where
-      by : ((r : Reply) × Says query bytes r × (◌≡◌ {A = Answer} (Done, line (codes "accepted not entailed")) (reply_answer r))) → HaveRead (λ axioms q. Entails axioms q → ⊥) query bytes
+      by : ((r : Reply) × IsReply query bytes r × (◌≡◌ {A = Answer} (Done, line (codes "accepted not entailed")) (reply_answer r))) → HaveRead (λ axioms q. Entails axioms q → ⊥) query bytes
       by (r, says, is) = elim (done_by r (line (codes "accepted not entailed")) is) [
         | inl (entailed, long) ↦ absurd (omega (arith, long))
         | inr (not_entailed, long) ↦ judged_on (λ axioms q. Entails axioms q → ⊥) NotEntailed not_followed r not_entailed says

@@ -6,20 +6,20 @@ use Rattle.shq_terms.specs.declared.axioms.Query.{Query as Asked}
 use Rattle.shq_meaning.specs.Truth.{refutes_at}
 use Rattle.shq_meaning.specs.Least.{IsFirstBelow}
 use Rattle.shq_meaning.proofs.Below.{all_below-false}
-use Rattle.finite_model.specs.Kept.{Kept as Model, meaning}
+use Rattle.finite_model.specs.ModelLists.{ModelLists as Model, meaning}
 use Rattle.refutation_specs.specs.Laws.{IsJudged}
 use Rattle.refutation_specs.proofs.Broken.{judged as judged_once}
-use Rattle.refutation_tree.specs.Kept.{Kept as Refutation}
+use Rattle.refutation_tree.specs.RefutationLists.{RefutationLists as Refutation}
 use Rattle.refutation_check.specs.Verdicts.{named_theory}
 use Rattle.ofn_expressions.specs.Counts.{Counts}
-use Rattle.ofn_reader.specs.Kept.{Kept}
+use Rattle.ofn_reader.specs.DocumentContext.{DocumentContext}
 use Rattle.ofn_reader.specs.Documents.{IsDocument}
 use Rattle.ofn_reader.specs.Queries.{query_start}
 use Rattle.ofn_reader.proofs.OneReason.{document_refusals, query_refusals}
 use Rattle.ofn_reader.proofs.Unique.{documents, documents_not_refused, queries, queries_not_refused}
 use Rattle.ontology_cli.specs.Words.{Job, check, job_of}
 use Rattle.ontology_cli.specs.Certificates.{certificate}
-use Rattle.ontology_cli.specs.Checking.{with_names, IsAsked, IsNotAsked, IsOfModel, IsOfRefutation, IsVerdictOn, line_of_place, Reply, judged, refused_document, refused_query, malformed_line, Shows, Says, no_document, no_query, shown}
+use Rattle.ontology_cli.specs.Checking.{with_names, IsAsked, IsNotAsked, IsOfModel, IsOfRefutation, IsVerdictOn, line_of_place, Reply, judged, refused_document, refused_query, malformed_line, Shows, IsReply, no_document, no_query, shown}
 use Rattle.ontology_cli.specs.Answers.{line, Answer, verdict_answer, reply_answer, AnswersJob, Answers}
 use Rattle.ontology_cli.specs.Laws.{IsDecided}
 use Rattle.ontology_cli.specs.declared.certificate.Certificate.{Certificate}
@@ -100,7 +100,7 @@ same_shows o asked (Err n) (malformed_line j) (refused_query e) p q = absurd q
 same_shows o asked c r q p s = absurd p
 
 -- on one document a query is read or refused, and then its answer is one
-module _ (query bytes : List ℕ) (o : Listed) (kept : Kept) (end : ℕ) where
+module _ (query bytes : List ℕ) (o : Listed) (kept : DocumentContext) (end : ℕ) where
   same_asked : (a b : Counts) (x y : Asked) (r q : Reply) → IsAsked o kept query a x → IsAsked o kept query b y → Shows (with_names o a) x (certificate (with_names o a) (drop end bytes)) r
       → Shows (with_names o b) y (certificate (with_names o b) (drop end bytes)) q → ◌≡◌ {A = Answer} (reply_answer r) (reply_answer q)
   same_asked a b x y r q p s shows tells =
@@ -109,12 +109,12 @@ module _ (query bytes : List ℕ) (o : Listed) (kept : Kept) (end : ℕ) where
       (subst (λ z. Shows (with_names o b) z (certificate (with_names o b) (drop end bytes)) r) same.1 (subst (λ d. Shows (with_names o d) x (certificate (with_names o d) (drop end bytes)) r) same.0 shows)) tells
 
 -- what was read as one document was read as each other
-moved : (P : Listed → Kept → ℕ → Type 0) (bytes : List ℕ) (o p : Listed) (j k : Kept) (d e : ℕ) → IsDocument bytes o j d → IsDocument bytes p k e → P o j d → P p k e
+moved : (P : Listed → DocumentContext → ℕ → Type 0) (bytes : List ℕ) (o p : Listed) (j k : DocumentContext) (d e : ℕ) → IsDocument bytes o j d → IsDocument bytes p k e → P o j d → P p k e
 moved P bytes o p j k d e first second holds =
     let same = documents bytes o p j k d e first second in
     subst (λ i. P p k i) same.2 (subst (λ l. P p l d) same.1 (subst (λ l. P l j d) same.0 holds))
 
-same_said : (query bytes : List ℕ) (r q : Reply) → Says query bytes r → Says query bytes q → ◌≡◌ {A = Answer} (reply_answer r) (reply_answer q)
+same_said : (query bytes : List ℕ) (r q : Reply) → IsReply query bytes r → IsReply query bytes q → ◌≡◌ {A = Answer} (reply_answer r) (reply_answer q)
 same_said query bytes _ _ (no_document e why) (no_document f because) = ap (λ x. reply_answer (refused_document x)) (document_refusals bytes e f why because)
 same_said query bytes _ _ (no_document e why) (no_query o k d f is because) = absurd (documents_not_refused bytes o k d e is why)
 same_said query bytes _ _ (no_document e why) (shown o k d b x q is asked shows) = absurd (documents_not_refused bytes o k d e is why)
@@ -133,7 +133,7 @@ same_said query bytes _ _ (shown o k d b x r is asked shows) (shown p j c a y q 
 -- the two answers of a verification, each with what holds then
 data Outcome (query bytes : List ℕ) (a : Answer) : Type 0 where
   too_long : 2 ^ 24 < length bytes → ◌≡◌ {A = Answer} a (Limit, line (codes "limit text")) → Outcome query bytes a
-  replied : length bytes ≤ 2 ^ 24 → (r : Reply) → Says query bytes r → ◌≡◌ {A = Answer} a (reply_answer r) → Outcome query bytes a
+  replied : length bytes ≤ 2 ^ 24 → (r : Reply) → IsReply query bytes r → ◌≡◌ {A = Answer} a (reply_answer r) → Outcome query bytes a
 
 same_outcome : (query bytes : List ℕ) (a b : Answer) → Outcome query bytes a → Outcome query bytes b → ◌≡◌ {A = Answer} a b
 same_outcome query bytes a b (too_long long p) (too_long more q) = p ∙ sym q
@@ -142,7 +142,7 @@ same_outcome query bytes a b (replied short r is p) (too_long long q) = absurd (
 same_outcome query bytes a b (replied short r is p) (replied less s are q) = p ∙ same_said query bytes r s is are ∙ sym q
 
 -- which of the two an answer is
-by_length : (query bytes : List ℕ) (a : Answer) → ((2 ^ 24 < length bytes) × (◌≡◌ {A = Answer} a (Limit, line (codes "limit text")))) ⊎ ((length bytes ≤ 2 ^ 24) × ((r : Reply) × Says query bytes r × (◌≡◌ {A = Answer} a (reply_answer r)))) → Outcome query bytes a
+by_length : (query bytes : List ℕ) (a : Answer) → ((2 ^ 24 < length bytes) × (◌≡◌ {A = Answer} a (Limit, line (codes "limit text")))) ⊎ ((length bytes ≤ 2 ^ 24) × ((r : Reply) × IsReply query bytes r × (◌≡◌ {A = Answer} a (reply_answer r)))) → Outcome query bytes a
 by_length query bytes a (inl (long, is)) = too_long long is
 by_length query bytes a (inr (short, (r, says, is))) = replied short r says is
 

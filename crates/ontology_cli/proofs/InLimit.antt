@@ -3,8 +3,8 @@ use Rattle.std.proofs.Common.{◌≡◌, ℕ, List, Result, Ok, Err, sym, subst}
 use Rattle.std.specs.Prelude.{IfOk}
 use Rattle.std.specs.Result.{result_map_both}
 use Rattle.shq_terms.specs.Listed.{Listed}
-use Rattle.axiom_rows.specs.Rows.{AreInLimit}
-use Rattle.ofn_reader.specs.Kept.{Kept}
+use Rattle.row_cache.specs.Rows.{AreInLimit}
+use Rattle.ofn_reader.specs.DocumentContext.{DocumentContext}
 use Rattle.ofn_reader.specs.Documents.{IsDocument}
 use Rattle.ofn_reader.specs.Queries.{query_start}
 use Rattle.read_limits.proofs.Texts.{documents_in_limit, queries_in_limit}
@@ -14,7 +14,7 @@ use Rattle.ontology_cli.specs.declared.checking.Claim.{Claim}
 use Rattle.ontology_cli.specs.declared.checking.Input.{Input}
 use Rattle.ontology_cli.specs.declared.unread.Unread.{Unread}
 
-module _ (query bytes rest : List ℕ) (o : Listed) (kept : Kept) (end : ℕ) (document : IsDocument bytes o kept end) (both : Listed) where
+module _ (query bytes rest : List ℕ) (o : Listed) (kept : DocumentContext) (end : ℕ) (document : IsDocument bytes o kept end) (both : Listed) where
   abbrev input : Claim → Input
   input c = record { ontology = both; asked = c.asked; certificate = c.certificate }
 

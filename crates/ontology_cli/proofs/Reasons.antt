@@ -5,10 +5,10 @@ use Rattle.std.specs.Result.{result_map_both}
 use Rattle.shq_terms.specs.Listed.{Listed}
 use Rattle.shq_terms.specs.declared.axioms.Query.{Query as Asked}
 use Rattle.ofn_expressions.specs.Counts.{Counts}
-use Rattle.ofn_reader.specs.Kept.{Kept}
+use Rattle.ofn_reader.specs.DocumentContext.{DocumentContext}
 use Rattle.ofn_reader.specs.Documents.{IsDocument}
 use Rattle.ontology_cli.specs.Certificates.{certificate, IsUnreadBy}
-use Rattle.ontology_cli.specs.Checking.{with_names, IsAsked, IsInput, IsVerdict, IsVerdictOn, judged, malformed_line, Shows, Says, no_document, no_query, shown, IsUndocumented, IsUnasked, IsUnclaimed, IsUnread}
+use Rattle.ontology_cli.specs.Checking.{with_names, IsAsked, IsInput, IsVerdict, IsVerdictOn, judged, malformed_line, Shows, IsReply, no_document, no_query, shown, IsUndocumented, IsUnasked, IsUnclaimed, IsUnread}
 use Rattle.ontology_cli.specs.declared.checking.Input.{Input}
 use Rattle.ontology_cli.specs.declared.judging.Verdict.{Verdict}
 use Rattle.ontology_cli.specs.declared.unread.Unread.{Unread}
@@ -24,20 +24,20 @@ undocumented query bytes (Query e) why = absurd why
 undocumented query bytes (Line n) why = absurd why
 undocumented query bytes NoMemory why = tt
 
-pub unasked : (o : Listed) (kept : Kept) (query rest : List ℕ) (u : Unread) → IsUnasked o kept query u → IsUnclaimed o kept query rest u
+pub unasked : (o : Listed) (kept : DocumentContext) (query rest : List ℕ) (u : Unread) → IsUnasked o kept query u → IsUnclaimed o kept query rest u
 unasked o kept query rest (Document e) why = absurd why
 unasked o kept query rest (Query e) why = why
 unasked o kept query rest (Line n) why = absurd why
 unasked o kept query rest NoMemory why = tt
 
-pub uncertified : (o : Listed) (kept : Kept) (query rest : List ℕ) (behind : Counts) (q : Asked) (both : Listed) → IsAsked o kept query behind q → both ≡ with_names o behind
+pub uncertified : (o : Listed) (kept : DocumentContext) (query rest : List ℕ) (behind : Counts) (q : Asked) (both : Listed) → IsAsked o kept query behind q → both ≡ with_names o behind
     → (u : Unread) → IsUnreadBy (certificate both rest) u → IsUnclaimed o kept query rest u
 uncertified o kept query rest behind q both is_query names (Document e) why = absurd why
 uncertified o kept query rest behind q both is_query names (Query e) why = absurd why
 uncertified o kept query rest behind q both is_query names (Line n) why = record { behind = behind; asked = q; is_query = is_query; found = ap (λ l. certificate l rest) (sym names) ∙ why }
 uncertified o kept query rest behind q both is_query names NoMemory why = tt
 
-pub unclaimed : (query bytes : List ℕ) (o : Listed) (kept : Kept) (end : ℕ) → IsDocument bytes o kept end → (u : Unread) → IsUnclaimed o kept query (drop end bytes) u → IsUnread query bytes u
+pub unclaimed : (query bytes : List ℕ) (o : Listed) (kept : DocumentContext) (end : ℕ) → IsDocument bytes o kept end → (u : Unread) → IsUnclaimed o kept query (drop end bytes) u → IsUnread query bytes u
 unclaimed query bytes o kept end is_document (Document e) why = absurd why
 unclaimed query bytes o kept end is_document (Query e) why = no_query o kept end e is_document why
 unclaimed query bytes o kept end is_document (Line n) why =
@@ -45,7 +45,7 @@ unclaimed query bytes o kept end is_document (Line n) why =
 unclaimed query bytes o kept end is_document NoMemory why = tt
 
 -- the verdict on an input that was read is what is replied
-pub verdict_said : (query bytes : List ℕ) (x : Input) (v : Verdict) → IsInput query bytes x → IsVerdict x v → Says query bytes (judged v)
+pub verdict_said : (query bytes : List ℕ) (x : Input) (v : Verdict) → IsInput query bytes x → IsVerdict x v → IsReply query bytes (judged v)
 verdict_said query bytes x v is says =
     let c = is.is_claim in
     let both = with_names is.document c.behind in

@@ -8,7 +8,7 @@ use Rattle.ofn_tree.specs.declared.fault.TextFault.TheVariants as F
 use Rattle.ofn_expressions.specs.declared.refusal.Refusal.{Refusal}
 use Rattle.ofn_expressions.specs.declared.refusal.Refusal.TheVariants as R
 use Rattle.ontology_cli.specs.Words.{check}
-use Rattle.ontology_cli.specs.Checking.{IsUnread, Reply, judged, refused_document, refused_query, malformed_line, Says}
+use Rattle.ontology_cli.specs.Checking.{IsUnread, Reply, judged, refused_document, refused_query, malformed_line, IsReply}
 use Rattle.ontology_cli.specs.Complaints.{complaint}
 use Rattle.ontology_cli.specs.Answers.{Answer, complaint_answer, reply_answer, Gives, GivesUnread, Checked, AnswersJob, left_by, LeavesFor}
 use Rattle.ontology_cli.specs.declared.judging.Verdict.{Verdict}
@@ -57,7 +57,7 @@ reply_no_fault (refused_query e) = refusal_no_fault P.Query e
 reply_no_fault (malformed_line n) = refl
 
 -- the answer of a reply is one of the verification
-reply_checked : (query bytes : List ℕ) (r : Reply) (out : List ℕ) (s : Status) → Says query bytes r → Gives (reply_answer r) out s → Checked query bytes out s
+reply_checked : (query bytes : List ℕ) (r : Reply) (out : List ℕ) (s : Status) → IsReply query bytes r → Gives (reply_answer r) out s → Checked query bytes out s
 reply_checked query bytes r out Done says is = (r, says, is)
 reply_checked query bytes r out Rejected says is = (r, says, is)
 reply_checked query bytes r out BadWords says is = (r, says, is)
@@ -68,7 +68,7 @@ reply_checked query bytes r out ReadFault says is = (r, says, is)
 reply_checked query bytes r out WriteFault says is = (r, says, is)
 reply_checked query bytes r out NoMemory says is = is
 
-pub verdict_checked : (query bytes : List ℕ) (v : Verdict) (out : List ℕ) (s : Status) → Says query bytes (judged v) → Gives (reply_answer (judged v)) out s → Checked query bytes out s
+pub verdict_checked : (query bytes : List ℕ) (v : Verdict) (out : List ℕ) (s : Status) → IsReply query bytes (judged v) → Gives (reply_answer (judged v)) out s → Checked query bytes out s
 verdict_checked query bytes v out s says gives = reply_checked query bytes (judged v) out s says gives
 
 no_memory_checked : (query bytes out : List ℕ) (s : Status) → s ≡ NoMemory → Checked query bytes out NoMemory → Checked query bytes out s

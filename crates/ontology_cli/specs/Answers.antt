@@ -3,7 +3,7 @@ use Rattle.std.specs.Prelude.{◌≡◌, ℕ, ◌+◌, ◌<◌, ◌≤◌, ◌^�
 use Rattle.std.specs.Io.KnownBytes.{Appends}
 use Rattle.shq_io.specs.Causes.{TakesFront}
 use Rattle.ontology_cli.specs.Words.{Job, check, job_of}
-use Rattle.ontology_cli.specs.Checking.{Reply, judged, refused_document, refused_query, malformed_line, Says}
+use Rattle.ontology_cli.specs.Checking.{Reply, judged, refused_document, refused_query, malformed_line, IsReply}
 use Rattle.ontology_cli.specs.Complaints.{Complaint, sort_status, complaint, complaint_text}
 use Rattle.ontology_cli.specs.declared.complaint.Place.{Place}
 use Rattle.ontology_cli.specs.declared.complaint.Place.TheVariants as P
@@ -67,7 +67,7 @@ GivesUnread U.NoMemory out s = (s ≡ NoMemory) × (out ≡ no_memory)
 -- the answer of a verification
 abbrev pub Checked : List ℕ → List ℕ → List ℕ → Status → Type 0
 Checked query bytes out NoMemory = out ≡ no_memory
-Checked query bytes out s = (r : Reply) × Says query bytes r × (◌≡◌ {A = Answer} (s, out) (reply_answer r))
+Checked query bytes out s = (r : Reply) × IsReply query bytes r × (◌≡◌ {A = Answer} (s, out) (reply_answer r))
 
 -- the answer to an input that is too long
 abbrev pub IsTooLong : List ℕ → List ℕ → Status → Type 0

@@ -3,7 +3,7 @@ use Rattle.std.specs.Prelude.{◌≡◌, ℕ, Bool, ◌||◌, ◌≤◌, List, [
 use Rattle.std.specs.List.{prefix_len}
 use Rattle.std.specs.Str.{bytes_eq}
 use Rattle.certificate_lines.specs.Lines.{lines, is_blank}
-use Rattle.certificate_lines.specs.Malformed.{told}
+use Rattle.certificate_lines.specs.Malformed.{clamped_line}
 use Rattle.shq_terms.specs.Listed.{Listed}
 use Rattle.finite_model.specs.ModelText.{model_of}
 use Rattle.finite_model.specs.Malformed as model
@@ -35,10 +35,10 @@ or_no_line (Some n) = n
 -- What lines behind a verdict are: the text of a model, or that of a refutation; or none, with the number of the first
 -- malformed line. Lines of which none is malformed are a text.
 abbrev pub model_behind : Listed → List (List ℕ) → Result Certificate ℕ
-model_behind o ls = elim (model_of o ls) [ None ↦ Err (or_no_line (option_map told (model.first_malformed o ls))) | Some k ↦ Ok (Model k) ]
+model_behind o ls = elim (model_of o ls) [ None ↦ Err (or_no_line (option_map clamped_line (model.first_malformed o ls))) | Some k ↦ Ok (Model k) ]
 
 abbrev pub refutation_behind : Listed → List (List ℕ) → Result Certificate ℕ
-refutation_behind o ls = elim (refutation_of o ls) [ None ↦ Err (or_no_line (option_map told (refutation.first_malformed o ls))) | Some k ↦ Ok (Refutation k) ]
+refutation_behind o ls = elim (refutation_of o ls) [ None ↦ Err (or_no_line (option_map clamped_line (refutation.first_malformed o ls))) | Some k ↦ Ok (Refutation k) ]
 
 -- What lines are that begin with a verdict: a certificate, or none, with the number of the first malformed line, from 1.
 abbrev pub certificate_in : Listed → List (List ℕ) → Result Certificate ℕ

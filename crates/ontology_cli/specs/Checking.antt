@@ -6,14 +6,14 @@ use Rattle.shq_terms.specs.declared.axioms.Query.{Query as Asked}
 use Rattle.shq_meaning.specs.Truth.{Interpretation, meets, refutes_at}
 use Rattle.shq_meaning.specs.Least.{IsFirstBelow}
 use Rattle.shq_nnf.specs.Counts.{has_counts_within}
-use Rattle.axiom_rows.specs.Rows.{AreInLimit}
-use Rattle.finite_model.specs.Kept.{Kept as Model, meaning}
+use Rattle.row_cache.specs.Rows.{AreInLimit}
+use Rattle.finite_model.specs.ModelLists.{ModelLists as Model, meaning}
 use Rattle.refutation_specs.specs.Valid.{concept_at, IsBrokenAt, IsRefutation}
-use Rattle.refutation_tree.specs.Kept.{Kept as Refutation}
+use Rattle.refutation_tree.specs.RefutationLists.{RefutationLists as Refutation}
 use Rattle.refutation_check.specs.Verdicts.{named_theory}
 use Rattle.ofn_expressions.specs.Counts.{Counts}
 use Rattle.ofn_expressions.specs.declared.refusal.Refusal.{Refusal}
-use Rattle.ofn_reader.specs.Kept.{Kept}
+use Rattle.ofn_reader.specs.DocumentContext.{DocumentContext}
 use Rattle.ofn_reader.specs.Documents.{IsDocument, IsNoDocument}
 use Rattle.ofn_reader.specs.Queries.{IsQuery, IsNoQuery, query_start}
 use Rattle.ontology_cli.specs.Certificates.{certificate, Fits}
@@ -31,15 +31,15 @@ abbrev pub with_names : Listed → Counts → Listed
 with_names o behind = record o { classes = behind.classes; roles = behind.roles }
 
 -- the text is this query on a document, and they list these counts together
-abbrev pub IsAsked : Listed → Kept → List ℕ → Counts → Asked → Type 0
+abbrev pub IsAsked : Listed → DocumentContext → List ℕ → Counts → Asked → Type 0
 IsAsked o kept query behind asked = IsQuery kept.prefixes o.axioms (query_start o kept.nodes) query behind asked
 
 -- why the text is no query on a document
-abbrev pub IsNotAsked : Listed → Kept → List ℕ → Refusal → Type 0
+abbrev pub IsNotAsked : Listed → DocumentContext → List ℕ → Refusal → Type 0
 IsNotAsked o kept query e = IsNoQuery kept.prefixes o.axioms (query_start o kept.nodes) query e
 
 -- the query on a document, and the certificate that follows the document, over the names of both
-pub record IsClaim (o : Listed) (kept : Kept) (query rest : List ℕ) (both : Listed) (claim : Claim) : Type 0 where
+pub record IsClaim (o : Listed) (kept : DocumentContext) (query rest : List ℕ) (both : Listed) (claim : Claim) : Type 0 where
   pub behind : Counts
   pub is_query : IsAsked o kept query behind claim.asked
   pub listed : both ≡ with_names o behind
@@ -48,7 +48,7 @@ pub record IsClaim (o : Listed) (kept : Kept) (query rest : List ℕ) (both : Li
 -- the document, the query and the certificate that these texts are
 pub record IsInput (query bytes : List ℕ) (input : Input) : Type 0 where
   pub document : Listed
-  pub kept : Kept
+  pub kept : DocumentContext
   pub end : ℕ
   pub is_document : IsDocument bytes document kept end
   pub is_claim : IsClaim document kept query (drop end bytes) input.ontology (record { asked = input.asked; certificate = input.certificate })
@@ -109,17 +109,17 @@ Shows o asked c r = ⊥
 
 -- What is replied to a query and an input: the document is refused; else the query is; else it is what the certificate
 -- shows that follows the document.
-pub data Says (query bytes : List ℕ) : Reply → Type 0 where
-  no_document : (e : Refusal) → IsNoDocument bytes e → Says query bytes (refused_document e)
-  no_query : (o : Listed) (kept : Kept) (end : ℕ) (e : Refusal) → IsDocument bytes o kept end → IsNotAsked o kept query e → Says query bytes (refused_query e)
-  shown : (o : Listed) (kept : Kept) (end : ℕ) (behind : Counts) (asked : Asked) (r : Reply) → IsDocument bytes o kept end → IsAsked o kept query behind asked
-      → Shows (with_names o behind) asked (certificate (with_names o behind) (drop end bytes)) r → Says query bytes r
+pub data IsReply (query bytes : List ℕ) : Reply → Type 0 where
+  no_document : (e : Refusal) → IsNoDocument bytes e → IsReply query bytes (refused_document e)
+  no_query : (o : Listed) (kept : DocumentContext) (end : ℕ) (e : Refusal) → IsDocument bytes o kept end → IsNotAsked o kept query e → IsReply query bytes (refused_query e)
+  shown : (o : Listed) (kept : DocumentContext) (end : ℕ) (behind : Counts) (asked : Asked) (r : Reply) → IsDocument bytes o kept end → IsAsked o kept query behind asked
+      → Shows (with_names o behind) asked (certificate (with_names o behind) (drop end bytes)) r → IsReply query bytes r
 
 -- why there is nothing to verify, unless memory was refused
 abbrev pub IsUnread : List ℕ → List ℕ → Unread → Type 0
-IsUnread query bytes (U.Document e) = Says query bytes (refused_document e)
-IsUnread query bytes (U.Query e) = Says query bytes (refused_query e)
-IsUnread query bytes (U.Line n) = Says query bytes (malformed_line n)
+IsUnread query bytes (U.Document e) = IsReply query bytes (refused_document e)
+IsUnread query bytes (U.Query e) = IsReply query bytes (refused_query e)
+IsUnread query bytes (U.Line n) = IsReply query bytes (malformed_line n)
 IsUnread query bytes U.NoMemory = Unit {0}
 
 -- why a document is not read, unless memory was refused
@@ -129,20 +129,20 @@ IsUndocumented bytes U.NoMemory = Unit {0}
 IsUndocumented bytes u = ⊥
 
 -- why a query is not read, unless memory was refused
-abbrev pub IsUnasked : Listed → Kept → List ℕ → Unread → Type 0
+abbrev pub IsUnasked : Listed → DocumentContext → List ℕ → Unread → Type 0
 IsUnasked o kept query (U.Query e) = IsNotAsked o kept query e
 IsUnasked o kept query U.NoMemory = Unit {0}
 IsUnasked o kept query u = ⊥
 
 -- the query is read, and the text behind the document is this certificate, or none
-pub record IsCertified (o : Listed) (kept : Kept) (query rest : List ℕ) (c : Result Certificate ℕ) : Type 0 where
+pub record IsCertified (o : Listed) (kept : DocumentContext) (query rest : List ℕ) (c : Result Certificate ℕ) : Type 0 where
   pub behind : Counts
   pub asked : Asked
   pub is_query : IsAsked o kept query behind asked
   pub found : certificate (with_names o behind) rest ≡ c
 
 -- why there is no claim on a document, unless memory was refused
-abbrev pub IsUnclaimed : Listed → Kept → List ℕ → List ℕ → Unread → Type 0
+abbrev pub IsUnclaimed : Listed → DocumentContext → List ℕ → List ℕ → Unread → Type 0
 IsUnclaimed o kept query rest (U.Document e) = ⊥
 IsUnclaimed o kept query rest (U.Query e) = IsNotAsked o kept query e
 IsUnclaimed o kept query rest (U.Line n) = IsCertified o kept query rest (Err n)

@@ -5,7 +5,7 @@ use Rattle.shq_terms.specs.Listed.{Listed}
 use Rattle.shq_terms.specs.declared.axioms.Query.{Query as Asked}
 use Rattle.shq_meaning.specs.Truth.{Entails}
 use Rattle.ofn_expressions.specs.Counts.{Counts}
-use Rattle.ofn_reader.specs.Kept.{Kept}
+use Rattle.ofn_reader.specs.DocumentContext.{DocumentContext}
 use Rattle.ofn_reader.specs.Documents.{IsDocument}
 use Rattle.ontology_cli.specs.Words.{check}
 use Rattle.ontology_cli.specs.Checking.{IsAsked}
@@ -32,7 +32,7 @@ AnswersAreUnique =
 -- the document and the query on it that texts are, and what holds of the axioms and the query
 pub record HaveRead (holds : List Axiom → Asked → Type 0) (query bytes : List ℕ) : Type 0 where
   pub document : Listed
-  pub kept : Kept
+  pub kept : DocumentContext
   pub end : ℕ
   pub behind : Counts
   pub asked : Asked

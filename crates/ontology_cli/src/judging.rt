@@ -1,8 +1,8 @@
 // The verdict on a certificate.
 ghost use Rattle.std.specs.Prelude.{◌≡◌, ◌≤◌, IsTrue, IfOk, length};
 ghost use Rattle.shq_nnf.specs.Counts.{has_counts_within};
-ghost use Rattle.axiom_rows.specs.Rows.{AreInLimit};
-ghost use Rattle.finite_model.specs.Kept.{meaning};
+ghost use Rattle.row_cache.specs.Rows.{AreInLimit};
+ghost use Rattle.finite_model.specs.ModelLists.{meaning};
 ghost use Rattle.refutation_tree.specs.ReadBack.{IsWritable};
 ghost use Rattle.ontology_cli.specs.Checking.{IsInLimit, IsVerdict, IsOfModel, IsOfRefutation, first_unmet, line_of_place};
 

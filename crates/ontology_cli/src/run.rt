@@ -2,7 +2,7 @@
 ghost use Rattle.std.specs.Prelude.{◌≡◌, ◌≤◌, ◌≢◌, IfSome, IfOk, IfErr, Some, None, length};
 ghost use Rattle.shq_io.specs.Causes.{Rose};
 ghost use Rattle.ontology_cli.specs.Words.{check, job_of, command_job, texts_of};
-ghost use Rattle.ontology_cli.specs.Checking.{judged, Says, IsUnread};
+ghost use Rattle.ontology_cli.specs.Checking.{judged, IsReply, IsUnread};
 ghost use Rattle.ontology_cli.specs.Answers.{AnswersJob, Answers, Answered, Checked, Gives, GivesUnread, line_rejected, verdict_answer, LeavesFor, Leaves, text_bytes};
 
 use crate::checking::read_input;
@@ -97,7 +97,7 @@ fn verify(alloc: Global, query: &str, input: &[u8]) -> (Status, Text)
 // The verdict on the certificate, if there is one.
 fn verdict_on(alloc: Global, query: &str, input: &[u8]) -> Result<Verdict, Unread>
     requires { length input.now ≤ 4294967293 }
-    ensures verdict { IfOk result (λ v. Says query.now input.now (judged v)) }
+    ensures verdict { IfOk result (λ v. IsReply query.now input.now (judged v)) }
     ensures unread { IfErr result (IsUnread query.now input.now) }
 {
     let read = read_input(alloc, query, input)?;

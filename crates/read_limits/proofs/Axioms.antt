@@ -8,7 +8,7 @@ use Rattle.shq_terms.specs.declared.axioms.Axiom.TheVariants as A
 use Rattle.shq_terms.specs.declared.axioms.Numbered.{Numbered}
 use Rattle.shq_nnf.specs.Counts.{has_counts_within, have_counts_within}
 use Rattle.shq_nnf.specs.Parts.{axiom_parts, axiom_has_counts_within}
-use Rattle.axiom_rows.specs.Rows.{AreInLimit}
+use Rattle.row_cache.specs.Rows.{AreInLimit}
 use Rattle.ofn_tree.specs.Items.{Item, name_item, iri_item, literal_item, sign_item, group_item, Items, no_items, item}
 use Rattle.ofn_expressions.specs.Counts.{Counts}
 use Rattle.ofn_expressions.specs.Walk.{Test, shape, numbered, parts, after, walked}

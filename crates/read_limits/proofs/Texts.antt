@@ -5,7 +5,7 @@ use Rattle.shq_base.specs.Concept.{Concept}
 use Rattle.shq_terms.specs.Listed.{Listed}
 use Rattle.shq_terms.specs.declared.axioms.Query.{Query}
 use Rattle.shq_nnf.specs.Counts.{has_counts_within, have_counts_within}
-use Rattle.axiom_rows.specs.Rows.{AreInLimit}
+use Rattle.row_cache.specs.Rows.{AreInLimit}
 use Rattle.ofn_tree.specs.Lexemes.{end_line}
 use Rattle.ofn_tree.specs.Items.{Item, name_item, iri_item, literal_item, sign_item, group_item, Items, no_items, item}
 use Rattle.ofn_expressions.specs.Counts.{Counts}

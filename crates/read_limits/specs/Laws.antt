@@ -5,16 +5,16 @@ use Rattle.shq_terms.specs.Listed.{Listed}
 use Rattle.shq_terms.specs.declared.axioms.Numbered.{Numbered}
 use Rattle.shq_terms.specs.declared.axioms.Query.{Query}
 use Rattle.shq_nnf.specs.Counts.{has_counts_within}
-use Rattle.axiom_rows.specs.Rows.{AreInLimit}
+use Rattle.row_cache.specs.Rows.{AreInLimit}
 use Rattle.ofn_expressions.specs.Counts.{Counts}
 use Rattle.ofn_expressions.specs.Names.{Prefix}
-use Rattle.ofn_reader.specs.Kept.{Kept}
+use Rattle.ofn_reader.specs.DocumentContext.{DocumentContext}
 use Rattle.ofn_reader.specs.Documents.{IsDocument}
 use Rattle.ofn_reader.specs.Queries.{IsQuery, IsClass}
 
 -- the axioms of a document
 abbrev pub DocumentsAreInLimit : Type 0
-DocumentsAreInLimit = (text : List ℕ) (o : Listed) (kept : Kept) (end : ℕ) → IsDocument text o kept end → AreInLimit o.axioms
+DocumentsAreInLimit = (text : List ℕ) (o : Listed) (kept : DocumentContext) (end : ℕ) → IsDocument text o kept end → AreInLimit o.axioms
 
 -- both class expressions of a query
 abbrev pub QueriesAreInLimit : Type 0

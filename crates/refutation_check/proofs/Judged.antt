@@ -1,7 +1,7 @@
 -- What lines say of a refutation whose axioms are in the set.
 use Rattle.std.proofs.Common.{◌≡◌, ℕ, zero, suc, List, Result, Ok, Err, subst, arith}
 use Rattle.std.specs.Prelude.{IfOk}
-use Rattle.word_sets.specs.Sets.{IsPart}
+use Rattle.lane_sieve.specs.Sets.{IsPart}
 use Rattle.axiom_sets.specs.Sets.{Limited, member_list}
 use Rattle.shq_base.specs.declared.memory.NoMemory.{NoMemory}
 use Rattle.shq_terms.specs.declared.axioms.Numbered.{Numbered}
@@ -9,7 +9,7 @@ use Rattle.shq_terms.specs.declared.axioms.Query.{Query}
 use Rattle.refutation_specs.specs.Line.{Line}
 use Rattle.refutation_specs.specs.Valid.{concept_at, IsBrokenAt}
 use Rattle.refutation_specs.proofs.Stack.{run_refutes}
-use Rattle.refutation_tree.specs.Kept.{Kept}
+use Rattle.refutation_tree.specs.RefutationLists.{RefutationLists}
 use Rattle.refutation_rules.specs.Frame.{Frame}
 use Rattle.refutation_check.specs.declared.checking.Verdict.{Verdict}
 use Rattle.refutation_check.specs.declared.checking.Verdict.TheVariants.{Accepted, Rejected}
@@ -17,14 +17,14 @@ use Rattle.refutation_check.specs.Steps.{IsReadAs}
 use Rattle.refutation_check.specs.Verdicts.{named_theory, IsRejectedAt, IsJudgedAs}
 
 -- the frame is that of a refutation of a query
-pub record IsFor (axioms : List Numbered) (query : Query) (r : Kept) (f : Frame) : Type 0 where
+pub record IsFor (axioms : List Numbered) (query : Query) (r : RefutationLists) (f : Frame) : Type 0 where
   pub axioms_are : f.axioms ≡ axioms
   pub named_are : f.named ≡ member_list r.axioms
   pub sub_is : f.sub ≡ query.sub
   pub sup_is : f.sup ≡ query.sup
   pub shapes_are : f.shapes ≡ r.shapes
 
-module _ (axioms : List Numbered) (set : Limited) (query : Query) (r : Kept) (named : IsPart r.axioms.members set.members) where
+module _ (axioms : List Numbered) (set : Limited) (query : Query) (r : RefutationLists) (named : IsPart r.axioms.members set.members) where
   abbrev frame : Frame → Frame
   frame f = record { axioms = axioms; named = member_list r.axioms; sub = query.sub; sup = query.sup; shapes = r.shapes; table = f.table }
 

@@ -1,7 +1,7 @@
 // The verdict on a refutation.
 ghost use Rattle.std.specs.Prelude.{◌≡◌, ◌≤◌, IsTrue, IfOk, length};
 ghost use Rattle.shq_nnf.specs.Counts.{has_counts_within};
-ghost use Rattle.axiom_rows.specs.Rows.{AreInLimit};
+ghost use Rattle.row_cache.specs.Rows.{AreInLimit};
 ghost use Rattle.refutation_check.specs.Verdicts.{IsJudgedAs};
 
 use crate::NoMemory;

@@ -9,6 +9,3 @@ mod open;
 
 pub use checking::{Verdict, check};
 pub use shq_base::NoMemory;
-
-#[cfg(test)]
-mod tests;

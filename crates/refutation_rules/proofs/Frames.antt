@@ -8,7 +8,7 @@ use Rattle.shq_nnf.specs.Numbers.{Extends}
 use Rattle.shq_nnf.proofs.Numbers.{number_stays}
 use Rattle.role_box.specs.declared.axioms.RoleAxiom.{RoleAxiom}
 use Rattle.role_box.specs.RoleAxioms.{role_axioms}
-use Rattle.axiom_rows.specs.Kept.{RowFrame, IsOver}
+use Rattle.row_cache.specs.Kept.{RowFrame, IsOver}
 use Rattle.fact_specs.specs.Reading.{are_listed}
 use Rattle.branch_facts.specs.Known.{Known as Branch}
 use Rattle.refutation_specs.specs.Line.{Line}

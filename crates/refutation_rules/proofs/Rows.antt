@@ -12,9 +12,9 @@ use Rattle.fact_specs.specs.declared.Fact.TheVariants.{Has}
 use Rattle.fact_specs.specs.State.{has, has_tree, has_edge}
 use Rattle.fact_specs.specs.Reading.{are_listed}
 use Rattle.fact_specs.proofs.Reading.{has-read}
-use Rattle.axiom_rows.specs.Rows.{row_for, IsRow, range_for, IsRange}
-use Rattle.axiom_rows.specs.declared.rows.Row.{Row}
-use Rattle.axiom_rows.specs.declared.rows.RangeRow.{RangeRow}
+use Rattle.row_cache.specs.Rows.{row_for, IsRow, range_for, IsRange}
+use Rattle.row_cache.specs.declared.rows.Row.{Row}
+use Rattle.row_cache.specs.declared.rows.RangeRow.{RangeRow}
 use Rattle.branch_facts.specs.Known.{Known as Branch, knows as branch_knows}
 use Rattle.refutation_specs.specs.Rules.{Known, knows, when, row_children, range_children}
 use Rattle.refutation_specs.specs.Rules.{with_facts as known_with}

@@ -13,9 +13,9 @@ use Rattle.shq_nnf.specs.Kept.{form_of}
 use Rattle.shq_nnf.specs.declared.shapes.Shape.{Shape as Shown}
 use Rattle.role_box.specs.declared.axioms.RoleAxiom.{RoleAxiom}
 use Rattle.role_box.specs.RoleAxioms.{role_axioms}
-use Rattle.axiom_rows.specs.Kept.{RowFrame}
-use Rattle.axiom_rows.specs.declared.rows.Row.{Row}
-use Rattle.axiom_rows.specs.declared.rows.RangeRow.{RangeRow}
+use Rattle.row_cache.specs.Kept.{RowFrame}
+use Rattle.row_cache.specs.declared.rows.Row.{Row}
+use Rattle.row_cache.specs.declared.rows.RangeRow.{RangeRow}
 use Rattle.branch_facts.specs.Known.{Known as Branch, knows as branch_knows}
 use Rattle.fact_specs.specs.State.{has, has_tree, has_edge}
 use Rattle.fact_specs.specs.declared.Fact.TheVariants.{Has}

@@ -14,6 +14,3 @@ mod table;
 pub use outcome::{NewNodes, Outcome};
 pub use rules::Rules;
 pub use shq_base::NoMemory;
-
-#[cfg(test)]
-mod tests;

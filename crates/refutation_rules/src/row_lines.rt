@@ -9,7 +9,7 @@ ghost use Rattle.refutation_rules.specs.Frame.{IsOutcome, IsSameBut, row_used, r
 
 use crate::outcome::one_more;
 use crate::{NoMemory, Outcome, Rules};
-use axiom_rows::{RangeRow, Row};
+use row_cache::{RangeRow, Row};
 use branch_facts::BranchFacts;
 
 impl<'a> Rules<'a> {

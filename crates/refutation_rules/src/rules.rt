@@ -9,7 +9,7 @@ ghost use Rattle.shq_nnf.specs.Counts.{has_counts_within};
 ghost use Rattle.shq_nnf.specs.Kept.{form_of};
 ghost use Rattle.shq_nnf.specs.Numbers.{Extends, IsNumber};
 ghost use Rattle.axiom_sets.specs.Sets.{member_list};
-ghost use Rattle.axiom_rows.specs.Rows.{AreInLimit, row_for, IsRow, range_for, IsRange};
+ghost use Rattle.row_cache.specs.Rows.{AreInLimit, row_for, IsRow, range_for, IsRange};
 ghost use Rattle.fact_specs.specs.State.{has_tree};
 ghost use Rattle.refutation_specs.specs.Rules.{knows};
 ghost use Rattle.refutation_specs.specs.Valid.{concept_at};
@@ -20,7 +20,7 @@ ghost use Rattle.refutation_rules.specs.Frame.{theory, line_children, IsOutcome,
 use crate::numbering::{intern_complement, number_concepts, roles_of};
 use crate::table::put_shape;
 use crate::{NoMemory, Outcome};
-use axiom_rows::{RangeRow, Row, RowTable};
+use row_cache::{RangeRow, Row, RowCache};
 use axiom_sets::AxiomSet;
 use branch_facts::BranchFacts;
 use refutation_tree::{Line, Refutation};
@@ -38,7 +38,7 @@ pub struct Rules<'a> {
     refutation: &'a Refutation,
     query: &'a Query,
     roles: RoleBox,
-    rows: RowTable<'a>,
+    rows: RowCache<'a>,
     numbers: Vec<u32>,
     sub: u32,
     not_sup: u32,
@@ -90,7 +90,7 @@ impl<'a> Rules<'a> {
         let bottom = put_shape(&mut concepts, Shape::Bottom)?;
         let named = refutation.axioms_used();
         let roles = roles_of(alloc, ontology, named)?;
-        let rows = RowTable::new(alloc, ontology, named, concepts);
+        let rows = RowCache::new(alloc, ontology, named, concepts);
         Ok(Rules {
             alloc,
             refutation,

@@ -5,9 +5,9 @@ use Rattle.std.specs.List.{list_all, list_any}
 use Rattle.std.specs.Cmp.{nat_cmp_total}
 use Rattle.std.specs.FinSet as set
 use Rattle.std.proofs.lemmas.Bool.{and_parts, and_from, cases_Bool, lt-ltb, le-leb}
-use Rattle.word_sets.specs.Sets.{NumberSet, passing}
-use Rattle.word_sets.proofs.Ranges.{any-passing}
-use Rattle.word_sets.proofs.Bits.{contains_insert}
+use Rattle.lane_sieve.specs.Sets.{NumberSet, passing}
+use Rattle.lane_sieve.proofs.Ranges.{any-passing}
+use Rattle.lane_sieve.proofs.Bits.{contains_insert}
 use Rattle.axiom_sets.specs.Sets.{Limited, IsWithin, member_list}
 use Rattle.shape_specs.specs.Rows.{is_ascending}
 use Rattle.refutation_tree.specs.RefutationText.{are_axiom_numbers, with_numbers, axiom_set, axioms_of, axioms_line}

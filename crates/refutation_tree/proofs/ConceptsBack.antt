@@ -14,7 +14,7 @@ use Rattle.shape_specs.specs.Shape.Shape.{top, bottom, name, not_name, intersect
 use Rattle.finite_model.specs.ReadBack.{is_plain, AreNames}
 use Rattle.finite_model.proofs.TextLines.{words_of_plain, line_of_plain}
 use Rattle.refutation_tree.specs.Shapes.{is_concept, part_numbers, fits, is_listed, admits}
-use Rattle.refutation_tree.specs.Kept.{Kept}
+use Rattle.refutation_tree.specs.RefutationLists.{RefutationLists}
 use Rattle.refutation_tree.specs.Keywords.{shape_kind}
 use Rattle.refutation_tree.specs.RefutationText.{is_number, restriction_in, counted_in, shape_in, concept_in, with_shape, words_read as read_words, line_read}
 use Rattle.refutation_tree.specs.Written.{iri_word, shape_keyword, shape_fields, concept_line, shape_is_listed}
@@ -182,7 +182,7 @@ module _ (o : Listed) (classes : AreNames o.classes) (roles : AreNames o.roles) 
 
     pub concept_back : (axioms : Limited) → line_read o (record { axioms = axioms; shapes = shapes; lines = [] }) (concept_line o (length shapes + 1) s) ≡ Some (record { axioms = axioms; shapes = shapes ++ s ∷ []; lines = [] })
     concept_back axioms =
-        let k : Kept = record { axioms = axioms; shapes = shapes; lines = [] } in
+        let k : RefutationLists = record { axioms = axioms; shapes = shapes; lines = [] } in
         ap (read_words o k) concept_words
         ∙ ap (option_and_then (with_shape k)) shape_back
         ∙ ap (λ b. if b then Some (record { axioms = axioms; shapes = shapes ++ s ∷ []; lines = [] }) else None) admitted

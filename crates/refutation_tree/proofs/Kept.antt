@@ -10,7 +10,7 @@ use Rattle.shq_nnf.specs.contracts.shapes.KeptShapePartialEq.TheImpl.{ghosts}
 use Rattle.shq_nnf.specs.Kept.{form_of_kept}
 use Rattle.refutation_tree.specs.Shapes.{fits, is_listed, admits, AreShapes}
 use Rattle.refutation_tree.specs.RuleLine.{names_concepts}
-use Rattle.refutation_tree.specs.Kept.{IsKept}
+use Rattle.refutation_tree.specs.RefutationLists.{IsKept}
 use Rattle.refutation_tree.proofs.Shapes.{shapes_push, kept_listed}
 
 module _ (keys after : List KeptShape) (k : KeptShape) (inserted : after ≡ (if list_any (ghosts.eq k) keys then keys else keys ++ k ∷ [])) (admitted : admits (map form_of_kept keys) (form_of_kept k) ≡ true) where

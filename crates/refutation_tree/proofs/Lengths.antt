@@ -8,46 +8,46 @@ use Rattle.shape_specs.specs.Shape.{Shape}
 use Rattle.refutation_specs.specs.Line.{Line}
 use Rattle.refutation_tree.specs.Shapes.{admits}
 use Rattle.refutation_tree.specs.RuleLine.{names_concepts}
-use Rattle.refutation_tree.specs.Kept.{Kept}
+use Rattle.refutation_tree.specs.RefutationLists.{RefutationLists}
 use Rattle.refutation_tree.specs.RefutationText.{concept_in, rule_line, with_shape, with_line, concept_read, is_concept_line, line_read, is_end, body_from}
 use Rattle.refutation_tree.proofs.Writable.{and_then_some, when_some}
 
-shape_adds : (k next : Kept) (s : Shape) → with_shape k s ≡ Some next → length next.lines ≤ length k.lines + 1
+shape_adds : (k next : RefutationLists) (s : Shape) → with_shape k s ≡ Some next → length next.lines ≤ length k.lines + 1
 shape_adds k next s h =
     let put = when_some (admits k.shapes s) (Some (record k { shapes = k.shapes ++ s ∷ [] })) next h in
     let same : record k { shapes = k.shapes ++ s ∷ [] } ≡ next = cc put.1 in
-    let lines : length k.lines ≡ length next.lines = ap (λ (m : Kept). length m.lines) same in
+    let lines : length k.lines ≡ length next.lines = ap (λ (m : RefutationLists). length m.lines) same in
     omega (arith, lines)
 
-line_adds : (k next : Kept) (line : Line) → with_line k line ≡ Some next → length next.lines ≤ length k.lines + 1
+line_adds : (k next : RefutationLists) (line : Line) → with_line k line ≡ Some next → length next.lines ≤ length k.lines + 1
 line_adds k next line h =
     let put = when_some (names_concepts k.shapes line) (Some (record k { lines = k.lines ++ line ∷ [] })) next h in
     let same : record k { lines = k.lines ++ line ∷ [] } ≡ next = cc put.1 in
-    let lines : length (k.lines ++ line ∷ []) ≡ length next.lines = ap (λ (m : Kept). length m.lines) same in
+    let lines : length (k.lines ++ line ∷ []) ≡ length next.lines = ap (λ (m : RefutationLists). length m.lines) same in
     omega (arith, lines, length-append k.lines (line ∷ []))
 
 module _ (o : Listed) where
-  concept_adds : (k next : Kept) (ls : List Line) (ws : List (List ℕ)) → concept_read o k ls ws ≡ Some next → length next.lines ≤ length k.lines + 1
+  concept_adds : (k next : RefutationLists) (ls : List Line) (ws : List (List ℕ)) → concept_read o k ls ws ≡ Some next → length next.lines ≤ length k.lines + 1
   concept_adds k next [] ws h = let shape = and_then_some (with_shape k) (concept_in o (length k.shapes + 1) ws) next h in shape_adds k next shape.0 shape.2
   concept_adds k next (l ∷ ls) ws h = cc
 
-  words_add : (k next : Kept) (ws : List (List ℕ)) (b : Bool) → (if b then concept_read o k k.lines ws else option_and_then (with_line k) (rule_line o ws)) ≡ Some next → length next.lines ≤ length k.lines + 1
+  words_add : (k next : RefutationLists) (ws : List (List ℕ)) (b : Bool) → (if b then concept_read o k k.lines ws else option_and_then (with_line k) (rule_line o ws)) ≡ Some next → length next.lines ≤ length k.lines + 1
   words_add k next ws true h = concept_adds k next k.lines ws h
   words_add k next ws false h = let line = and_then_some (with_line k) (rule_line o ws) next h in line_adds k next line.0 line.2
 
-  pub body_adds : (k m : Kept) (ls : List (List ℕ)) → body_from o k ls ≡ Some m → length m.lines ≤ length k.lines + length ls
+  pub body_adds : (k m : RefutationLists) (ls : List (List ℕ)) → body_from o k ls ≡ Some m → length m.lines ≤ length k.lines + length ls
   body_adds k m [] h = cc
   body_adds k m (l ∷ ls) h = by_end (λ next. body_adds next m ls) (is_end l) h
     where
-      by_end : ((next : Kept) → body_from o next ls ≡ Some m → length m.lines ≤ length next.lines + length ls) → (e : Bool)
+      by_end : ((next : RefutationLists) → body_from o next ls ≡ Some m → length m.lines ≤ length next.lines + length ls) → (e : Bool)
           → (elim e [ true ↦ if list_all is_blank ls then Some k else None | false ↦ elim (line_read o k l) [ None ↦ None | Some next ↦ body_from o next ls ] ]) ≡ Some m → length m.lines ≤ length k.lines + length (l ∷ ls)
       by_end rest true g =
           let last = when_some (list_all is_blank ls) (Some k) m g in
           let same : k ≡ m = cc last.1 in
-          let lines : length k.lines ≡ length m.lines = ap (λ (n : Kept). length n.lines) same in
+          let lines : length k.lines ≡ length m.lines = ap (λ (n : RefutationLists). length n.lines) same in
           omega (arith, lines)
       by_end rest false g = by_line (line_read o k l) refl g
         where
-          by_line : (read : Option Kept) → line_read o k l ≡ read → (elim read [ None ↦ None | Some next ↦ body_from o next ls ]) ≡ Some m → length m.lines ≤ length k.lines + length (l ∷ ls)
+          by_line : (read : Option RefutationLists) → line_read o k l ≡ read → (elim read [ None ↦ None | Some next ↦ body_from o next ls ]) ≡ Some m → length m.lines ≤ length k.lines + length (l ∷ ls)
           by_line None is f = cc
           by_line (Some next) is f = omega (arith, rest next f, words_add k next (words l) (is_concept_line (words l)) is)

@@ -13,7 +13,7 @@ use Rattle.refutation_specs.specs.Line.Line.{start_line, and_line, or_line, all_
 use Rattle.finite_model.specs.ReadBack.{is_plain, AreNames}
 use Rattle.finite_model.proofs.TextLines.{words_of_plain, line_of_plain}
 use Rattle.refutation_tree.specs.RuleLine.{names_concepts}
-use Rattle.refutation_tree.specs.Kept.{Kept}
+use Rattle.refutation_tree.specs.RefutationLists.{RefutationLists}
 use Rattle.refutation_tree.specs.Keywords.{line_kind}
 use Rattle.refutation_tree.specs.RefutationText.{restriction_in, numbered_line, rule_in, rule_line, concept_read, with_line, words_read as read_words, line_read, is_end}
 use Rattle.refutation_tree.specs.Written.{iri_word, line_keyword, line_fields, rule_text, line_is_listed}
@@ -132,7 +132,7 @@ module _ (o : Listed) (classes : AreNames o.classes) (roles : AreNames o.roles) 
     rule_back : rule_line o (line_keyword line ∷ line_fields o line) ≡ Some line
     rule_back = ap (option_and_then (λ kind. rule_in o kind (line_fields o line))) (keyword_is line).kind ∙ fields_back line listed nodes small
 
-    pub line_back : (k : Kept) → names_concepts k.shapes line ≡ true → line_read o k (rule_text o line) ≡ Some (record k { lines = k.lines ++ line ∷ [] })
+    pub line_back : (k : RefutationLists) → names_concepts k.shapes line ≡ true → line_read o k (rule_text o line) ≡ Some (record k { lines = k.lines ++ line ∷ [] })
     line_back k known =
         ap (read_words o k) rule_words
         ∙ ap (λ b. if b then concept_read o k k.lines (line_keyword line ∷ line_fields o line) else option_and_then (with_line k) (rule_line o (line_keyword line ∷ line_fields o line))) (keyword_is line).no_concept

@@ -17,7 +17,7 @@ use Rattle.finite_model.specs.ReadBack.{is_plain, AreNames}
 use Rattle.finite_model.proofs.TextLines.{words_of_plain, line_of_plain, lines_both}
 use Rattle.refutation_tree.specs.Shapes.{fits, same_shape, is_listed, admits, AreShapes}
 use Rattle.refutation_tree.specs.RuleLine.{names_concepts}
-use Rattle.refutation_tree.specs.Kept.{Kept}
+use Rattle.refutation_tree.specs.RefutationLists.{RefutationLists}
 use Rattle.refutation_tree.specs.RefutationText.{body_from, begun, axioms_line, refutation_of}
 use Rattle.refutation_tree.specs.Written.{concept_line, concept_lines, rule_text, axioms_text, refutation_lines, refutation_text, shape_is_listed, line_is_listed}
 use Rattle.refutation_tree.specs.ReadBack.{has_nodes, is_small, IsWritable}
@@ -70,7 +70,7 @@ module _ (front : List Shape) (s : Shape) (ss : List Shape) (good : AreShapes (f
 -- ---- the lines of the concepts, and then the rule lines
 
 module _ (o : Listed) (classes : AreNames o.classes) (roles : AreNames o.roles) (axioms : Limited) where
-  abbrev kept : List Shape → List Line → Kept
+  abbrev kept : List Shape → List Line → RefutationLists
   kept shapes ls = record { axioms = axioms; shapes = shapes; lines = ls }
 
   one_more : (front : List Shape) (s : Shape) → length front + 1 + 1 ≡ length (front ++ s ∷ []) + 1
@@ -123,7 +123,7 @@ module _ (o : Listed) (classes : AreNames o.classes) (roles : AreNames o.roles) 
 
 -- ---- the whole text
 
-module _ (o : Listed) (k : Kept) (classes : AreNames o.classes) (roles : AreNames o.roles) (can : IsWritable o k) where
+module _ (o : Listed) (k : RefutationLists) (classes : AreNames o.classes) (roles : AreNames o.roles) (can : IsWritable o k) where
   listed : (list_all (shape_is_listed o) k.shapes ≡ true) × (list_all (line_is_listed o) k.lines ≡ true)
   listed = and_parts (list_all (shape_is_listed o) k.shapes) (list_all (line_is_listed o) k.lines) can.listed
 

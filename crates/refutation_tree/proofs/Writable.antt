@@ -8,7 +8,7 @@ use Rattle.std.specs.FinSet as set
 use Rattle.std.specs.Ordering.{nat_cmp}
 use Rattle.std.proofs.lemmas.Bool.{and_parts, and_from, ltb-true, leb-true, eqb-true, false≢true}
 use Rattle.std.proofs.lemmas.List.Folds.{list_all-append}
-use Rattle.word_sets.specs.Sets.{NumberSet}
+use Rattle.lane_sieve.specs.Sets.{NumberSet}
 use Rattle.axiom_sets.specs.Sets.{Limited, IsWithin}
 use Rattle.axiom_sets.proofs.Kept.{put_within}
 use Rattle.certificate_lines.specs.Lines.{words, is_blank, is_numeral, number_in, iri_in}
@@ -20,7 +20,7 @@ use Rattle.refutation_specs.specs.Line.{Line}
 use Rattle.refutation_specs.specs.Line.Line.{start_line, and_line, or_line, all_line, carry_line, row_line, range_line, some_line, least_line, choose_line, pair_line, bottom_line, clash_line, most_line}
 use Rattle.refutation_tree.specs.Shapes.{admits}
 use Rattle.refutation_tree.specs.RuleLine.{names_concepts}
-use Rattle.refutation_tree.specs.Kept.{Kept}
+use Rattle.refutation_tree.specs.RefutationLists.{RefutationLists}
 use Rattle.refutation_tree.specs.Keywords.{shape_kind, line_kind}
 use Rattle.refutation_tree.specs.RefutationText.{is_number, numbers_in, named_in, are_axiom_numbers, with_numbers, axiom_set, axioms_of, axioms_line, class_in, restriction_in, counted_in, when_none, shape_in, concept_in, one_of, two_of, three_of, start_in, short_line, row_in, most_in, numbered_line, carry_in, rule_in, rule_line, with_shape, with_line, concept_read, is_concept_line, line_read, is_end, body_from, begun, axioms_from, is_head, refutation_of}
 use Rattle.refutation_tree.specs.Written.{shape_is_listed, line_is_listed}
@@ -254,7 +254,7 @@ module _ (o : Listed) where
   push_passes : {A : Type 0} (p : A → Bool) (xs : List A) (x : A) → list_all p xs ≡ true → p x ≡ true → list_all p (xs ++ x ∷ []) ≡ true
   push_passes p xs x all one = list_all-append p xs (x ∷ []) ∙ and_from (list_all p xs) (list_all p (x ∷ [])) all (and_from (p x) true one refl)
 
-  shape_more : (k next : Kept) (s : Shape) → k.lines ≡ [] → length k.shapes + 1 < 2 ^ 32 → shape_is_listed o s ≡ true → IsWritable o k → with_shape k s ≡ Some next → IsWritable o next
+  shape_more : (k next : RefutationLists) (s : Shape) → k.lines ≡ [] → length k.shapes + 1 < 2 ^ 32 → shape_is_listed o s ≡ true → IsWritable o k → with_shape k s ≡ Some next → IsWritable o next
   shape_more k next s none room listed can h =
       let put = when_some (admits k.shapes s) (Some (record k { shapes = k.shapes ++ s ∷ [] })) next h in
       let same : record k { shapes = k.shapes ++ s ∷ [] } ≡ next = cc put.1 in
@@ -273,7 +273,7 @@ module _ (o : Listed) where
         are_small = can.are_small;
       })
 
-  line_more : (k next : Kept) (line : Line) → IsGood line → IsWritable o k → with_line k line ≡ Some next → IsWritable o next
+  line_more : (k next : RefutationLists) (line : Line) → IsGood line → IsWritable o k → with_line k line ≡ Some next → IsWritable o next
   line_more k next line good can h =
       let put = when_some (names_concepts k.shapes line) (Some (record k { lines = k.lines ++ line ∷ [] })) next h in
       let same : record k { lines = k.lines ++ line ∷ [] } ≡ next = cc put.1 in
@@ -288,27 +288,27 @@ module _ (o : Listed) where
         are_small = push_passes is_small k.lines line can.are_small good.small;
       })
 
-  concept_more : (k next : Kept) (ls : List Line) (ws : List (List ℕ)) → k.lines ≡ ls → IsWritable o k → concept_read o k ls ws ≡ Some next → IsWritable o next
+  concept_more : (k next : RefutationLists) (ls : List Line) (ws : List (List ℕ)) → k.lines ≡ ls → IsWritable o k → concept_read o k ls ws ≡ Some next → IsWritable o next
   concept_more k next [] ws none can h =
       let shape = and_then_some (with_shape k) (concept_in o (length k.shapes + 1) ws) next h in
       let good = concept_listed (length k.shapes + 1) ws shape.0 shape.1 in
       shape_more k next shape.0 none good.1 good.0 can shape.2
   concept_more k next (l ∷ ls) ws some can h = cc
 
-  words_more : (k next : Kept) (ws : List (List ℕ)) (b : Bool) → IsWritable o k → (if b then concept_read o k k.lines ws else option_and_then (with_line k) (rule_line o ws)) ≡ Some next → IsWritable o next
+  words_more : (k next : RefutationLists) (ws : List (List ℕ)) (b : Bool) → IsWritable o k → (if b then concept_read o k k.lines ws else option_and_then (with_line k) (rule_line o ws)) ≡ Some next → IsWritable o next
   words_more k next ws true can h = concept_more k next k.lines ws refl can h
   words_more k next ws false can h = let line = and_then_some (with_line k) (rule_line o ws) next h in line_more k next line.0 (line_good ws line.0 line.1) can line.2
 
-  pub body_writable : (k m : Kept) (ls : List (List ℕ)) → IsWritable o k → body_from o k ls ≡ Some m → IsWritable o m
+  pub body_writable : (k m : RefutationLists) (ls : List (List ℕ)) → IsWritable o k → body_from o k ls ≡ Some m → IsWritable o m
   body_writable k m [] can h = cc
   body_writable k m (l ∷ ls) can h = by_end (λ next more. body_writable next m ls more) (is_end l) h
     where
-      by_end : ((next : Kept) → IsWritable o next → body_from o next ls ≡ Some m → IsWritable o m) → (e : Bool)
+      by_end : ((next : RefutationLists) → IsWritable o next → body_from o next ls ≡ Some m → IsWritable o m) → (e : Bool)
           → (elim e [ true ↦ if list_all is_blank ls then Some k else None | false ↦ elim (line_read o k l) [ None ↦ None | Some next ↦ body_from o next ls ] ]) ≡ Some m → IsWritable o m
       by_end rest true g = let last = when_some (list_all is_blank ls) (Some k) m g in let same : k ≡ m = cc last.1 in subst (IsWritable o) same can
       by_end rest false g = by_line (line_read o k l) refl g
         where
-          by_line : (read : Option Kept) → line_read o k l ≡ read → (elim read [ None ↦ None | Some next ↦ body_from o next ls ]) ≡ Some m → IsWritable o m
+          by_line : (read : Option RefutationLists) → line_read o k l ≡ read → (elim read [ None ↦ None | Some next ↦ body_from o next ls ]) ≡ Some m → IsWritable o m
           by_line None is f = cc
           by_line (Some next) is f = rest next (words_more k next (words l) (is_concept_line (words l)) can is) f
 
@@ -342,12 +342,12 @@ module _ (o : Listed) where
         are_small = refl;
       })
 
-  axioms_writable : (ls : List (List ℕ)) (k : Kept) → length o.axioms < 2 ^ 32 → axioms_from o ls ≡ Some k → IsWritable o k
+  axioms_writable : (ls : List (List ℕ)) (k : RefutationLists) → length o.axioms < 2 ^ 32 → axioms_from o ls ≡ Some k → IsWritable o k
   axioms_writable [] k few h = cc
   axioms_writable (l ∷ ls) k few h =
       let a = and_then_some (λ b. body_from o (begun b) ls) (axioms_line (length o.axioms) (words l)) k h in
       body_writable (begun a.0) k ls (begun_writable (words l) a.0 few a.1) a.2
 
-  pub read_is_writable : (ls : List (List ℕ)) (k : Kept) → length o.axioms < 2 ^ 32 → refutation_of o ls ≡ Some k → IsWritable o k
+  pub read_is_writable : (ls : List (List ℕ)) (k : RefutationLists) → length o.axioms < 2 ^ 32 → refutation_of o ls ≡ Some k → IsWritable o k
   read_is_writable [] k few h = cc
   read_is_writable (l ∷ ls) k few h = let head = when_some (is_head l) (axioms_from o ls) k h in axioms_writable ls k few head.1

@@ -1,6 +1,6 @@
 pub mod Shapes
 pub mod RuleLine
-pub mod Kept
+pub mod RefutationLists
 pub mod Keywords
 pub mod RefutationText
 pub mod Malformed

@@ -3,11 +3,11 @@ use Rattle.std.specs.Prelude.{◌≡◌, ℕ, ◌+◌, true, false, List, [], �
 use Rattle.certificate_lines.specs.Lines.{words}
 use Rattle.certificate_lines.specs.Malformed.{first_unblank, IsFirstMalformed}
 use Rattle.shq_terms.specs.Listed.{Listed}
-use Rattle.refutation_tree.specs.Kept.{Kept}
+use Rattle.refutation_tree.specs.RefutationLists.{RefutationLists}
 use Rattle.refutation_tree.specs.RefutationText.{line_read, is_end, begun, axioms_line, is_head, refutation_of}
 
 -- the number of the first malformed line behind that of the axioms
-abbrev pub malformed_from : Listed → ℕ → Kept → List (List ℕ) → Option ℕ
+abbrev pub malformed_from : Listed → ℕ → RefutationLists → List (List ℕ) → Option ℕ
 malformed_from o n k [] = Some n
 malformed_from o n k (l ∷ ls) = elim (is_end l) [
   | true ↦ first_unblank (n + 1) ls
@@ -27,4 +27,4 @@ abbrev pub MalformedIsFirst : Type 0
 MalformedIsFirst = (o : Listed) (lines : List (List ℕ)) (n : ℕ) → first_malformed o lines ≡ Some n → IsFirstMalformed (refutation_of o) lines n
 
 abbrev pub UnlessMalformed : Type 0
-UnlessMalformed = (o : Listed) (lines : List (List ℕ)) → first_malformed o lines ≡ None → (k : Kept) × (refutation_of o lines ≡ Some k)
+UnlessMalformed = (o : Listed) (lines : List (List ℕ)) → first_malformed o lines ≡ None → (k : RefutationLists) × (refutation_of o lines ≡ Some k)

@@ -7,7 +7,7 @@ use Rattle.shq_terms.specs.Listed.{Listed}
 use Rattle.refutation_specs.specs.Line.{Line}
 use Rattle.refutation_specs.specs.Line.Line.{most_line}
 use Rattle.finite_model.specs.ReadBack.{AreNames}
-use Rattle.refutation_tree.specs.Kept.{Kept, IsKept}
+use Rattle.refutation_tree.specs.RefutationLists.{RefutationLists, IsKept}
 use Rattle.refutation_tree.specs.RefutationText.{refutation_of}
 use Rattle.refutation_tree.specs.Written.{line_numbers, names_are_listed, refutation_text}
 
@@ -21,7 +21,7 @@ abbrev pub is_small : Line → Bool
 is_small line = list_all (λ n. nat_lt n (2 ^ 32)) (line_numbers line)
 
 -- a refutation over the axioms of the document and over listed names, whose lines can be written
-pub record IsWritable (o : Listed) (k : Kept) : Type 0 where
+pub record IsWritable (o : Listed) (k : RefutationLists) : Type 0 where
   pub kept : IsKept k.shapes k.lines
   pub limit : k.axioms.limit ≡ length o.axioms
   pub within : IsWithin k.axioms.limit k.axioms.members
@@ -32,8 +32,8 @@ pub record IsWritable (o : Listed) (k : Kept) : Type 0 where
 
 -- the lines of a refutation's text stand for this refutation
 abbrev pub RefutationsAreReadBack : Type 0
-RefutationsAreReadBack = (o : Listed) (k : Kept) → AreNames o.classes → AreNames o.roles → IsWritable o k → refutation_of o (lines (refutation_text o k)) ≡ Some k
+RefutationsAreReadBack = (o : Listed) (k : RefutationLists) → AreNames o.classes → AreNames o.roles → IsWritable o k → refutation_of o (lines (refutation_text o k)) ≡ Some k
 
 -- what is read over a document can be written
 abbrev pub ReadIsWritable : Type 0
-ReadIsWritable = (o : Listed) (ls : List (List ℕ)) (k : Kept) → length o.axioms < 2 ^ 32 → refutation_of o ls ≡ Some k → IsWritable o k
+ReadIsWritable = (o : Listed) (ls : List (List ℕ)) (k : RefutationLists) → length o.axioms < 2 ^ 32 → refutation_of o ls ≡ Some k → IsWritable o k

@@ -3,7 +3,7 @@ use Rattle.std.specs.Prelude.{ℕ, ◌+◌, Bool, true, false, ◌&&◌, nat_eq,
 use Rattle.std.specs.List.{list_all}
 use Rattle.std.specs.Str.{bytes_eq}
 use Rattle.std.specs.FinSet as set
-use Rattle.word_sets.specs.Sets.{NumberSet}
+use Rattle.lane_sieve.specs.Sets.{NumberSet}
 use Rattle.axiom_sets.specs.Sets.{Limited}
 use Rattle.certificate_lines.specs.Lines.{words, is_blank, number_in, iri_in}
 use Rattle.shq_terms.specs.Listed.{Listed}
@@ -14,7 +14,7 @@ use Rattle.refutation_specs.specs.Line.{Line}
 use Rattle.refutation_specs.specs.Line.Line.{start_line, and_line, or_line, all_line, carry_line, row_line, range_line, some_line, least_line, choose_line, pair_line, bottom_line, clash_line, most_line}
 use Rattle.refutation_tree.specs.Shapes.{admits}
 use Rattle.refutation_tree.specs.RuleLine.{names_concepts}
-use Rattle.refutation_tree.specs.Kept.{Kept}
+use Rattle.refutation_tree.specs.RefutationLists.{RefutationLists}
 use Rattle.refutation_tree.specs.Keywords.{shape_kind, line_kind}
 use Rattle.refutation_tree.specs.declared.keywords.ShapeKind.{ShapeKind}
 use Rattle.refutation_tree.specs.declared.keywords.ShapeKind.TheVariants as S
@@ -172,15 +172,15 @@ rule_line o (k ∷ ws) = option_and_then (λ kind. rule_in o kind ws) (line_kind
 -- ---- the lines of a text
 
 -- one concept more, whose shape is new
-abbrev pub with_shape : Kept → Shape → Option Kept
+abbrev pub with_shape : RefutationLists → Shape → Option RefutationLists
 with_shape k s = if admits k.shapes s then Some (record k { shapes = k.shapes ++ s ∷ [] }) else None
 
 -- one rule line more, whose concepts are there
-abbrev pub with_line : Kept → Line → Option Kept
+abbrev pub with_line : RefutationLists → Line → Option RefutationLists
 with_line k line = if names_concepts k.shapes line then Some (record k { lines = k.lines ++ line ∷ [] }) else None
 
 -- concept lines stand before all rule lines
-abbrev pub concept_read : Listed → Kept → List Line → List (List ℕ) → Option Kept
+abbrev pub concept_read : Listed → RefutationLists → List Line → List (List ℕ) → Option RefutationLists
 concept_read o k [] ws = option_and_then (with_shape k) (concept_in o (length k.shapes + 1) ws)
 concept_read o k (line ∷ lines) ws = None
 
@@ -188,17 +188,17 @@ abbrev pub is_concept_line : List (List ℕ) → Bool
 is_concept_line [] = false
 is_concept_line (k ∷ ws) = bytes_eq k (codes "concept")
 
-abbrev pub words_read : Listed → Kept → List (List ℕ) → Option Kept
+abbrev pub words_read : Listed → RefutationLists → List (List ℕ) → Option RefutationLists
 words_read o k ws = if is_concept_line ws then concept_read o k k.lines ws else option_and_then (with_line k) (rule_line o ws)
 
-abbrev pub line_read : Listed → Kept → List ℕ → Option Kept
+abbrev pub line_read : Listed → RefutationLists → List ℕ → Option RefutationLists
 line_read o k line = words_read o k (words line)
 
 abbrev pub is_end : List ℕ → Bool
 is_end line = bytes_eq line (codes "end")
 
 -- the lines behind that of the axioms: concept lines, rule lines, then the line `end`, and then blank lines
-abbrev pub body_from : Listed → Kept → List (List ℕ) → Option Kept
+abbrev pub body_from : Listed → RefutationLists → List (List ℕ) → Option RefutationLists
 body_from o k [] = None
 body_from o k (l ∷ ls) = elim (is_end l) [
   | true ↦ if list_all is_blank ls then Some k else None
@@ -206,10 +206,10 @@ body_from o k (l ∷ ls) = elim (is_end l) [
 ]
 
 -- a refutation without concepts and lines
-abbrev pub begun : Limited → Kept
+abbrev pub begun : Limited → RefutationLists
 begun axioms = record { axioms = axioms; shapes = []; lines = [] }
 
-abbrev pub axioms_from : Listed → List (List ℕ) → Option Kept
+abbrev pub axioms_from : Listed → List (List ℕ) → Option RefutationLists
 axioms_from o [] = None
 axioms_from o (l ∷ ls) = option_and_then (λ a. body_from o (begun a) ls) (axioms_line (length o.axioms) (words l))
 
@@ -217,6 +217,6 @@ abbrev pub is_head : List ℕ → Bool
 is_head line = bytes_eq line (codes "refutation")
 
 -- the refutation that the lines stand for, where they are the text of one
-abbrev pub refutation_of : Listed → List (List ℕ) → Option Kept
+abbrev pub refutation_of : Listed → List (List ℕ) → Option RefutationLists
 refutation_of o [] = None
 refutation_of o (l ∷ ls) = if is_head l then axioms_from o ls else None

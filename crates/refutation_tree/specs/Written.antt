@@ -8,7 +8,7 @@ use Rattle.shape_specs.specs.Shape.{Shape}
 use Rattle.shape_specs.specs.Shape.Shape.{top, bottom, name, not_name, intersection, union, some_of, all_of, at_least, at_most}
 use Rattle.refutation_specs.specs.Line.{Line}
 use Rattle.refutation_specs.specs.Line.Line.{start_line, and_line, or_line, all_line, carry_line, row_line, range_line, some_line, least_line, choose_line, pair_line, bottom_line, clash_line, most_line}
-use Rattle.refutation_tree.specs.Kept.{Kept}
+use Rattle.refutation_tree.specs.RefutationLists.{RefutationLists}
 
 -- the name of a number between brackets
 abbrev pub iri_word : List (List ℕ) → ℕ → List ℕ
@@ -95,14 +95,14 @@ rule_text o line = line_of (line_keyword line) (line_fields o line)
 
 -- ---- the whole text
 
-abbrev pub axioms_text : Kept → List ℕ
+abbrev pub axioms_text : RefutationLists → List ℕ
 axioms_text k = line_of (codes "axioms") (map decimal (member_list k.axioms))
 
-abbrev pub refutation_lines : Listed → Kept → List (List ℕ)
+abbrev pub refutation_lines : Listed → RefutationLists → List (List ℕ)
 refutation_lines o k = codes "refutation" ∷ axioms_text k ∷ concept_lines o 1 k.shapes ++ map (rule_text o) k.lines ++ codes "end" ∷ []
 
 -- the line `refutation`, the axioms, the concepts, the rule lines and the line `end`
-abbrev pub refutation_text : Listed → Kept → List ℕ
+abbrev pub refutation_text : Listed → RefutationLists → List ℕ
 refutation_text o k = text_of (refutation_lines o k)
 
 -- ---- names that are listed
@@ -121,5 +121,5 @@ line_is_listed o (carry_line x y r c) = nat_lt r (length o.roles)
 line_is_listed o _ = true
 
 -- the classes and roles that the refutation names are listed
-abbrev pub names_are_listed : Listed → Kept → Bool
+abbrev pub names_are_listed : Listed → RefutationLists → Bool
 names_are_listed o k = list_all (shape_is_listed o) k.shapes && list_all (line_is_listed o) k.lines

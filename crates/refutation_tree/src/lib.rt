@@ -21,6 +21,3 @@ pub use line::Line;
 pub use reading::read_text;
 pub use refutation::Refutation;
 pub use shq_base::NoMemory;
-
-#[cfg(test)]
-mod tests;

@@ -15,7 +15,7 @@ use crate::fields::read_numbers;
 use crate::rule_lines::read_rule_line;
 use crate::{CertFault, Line, NoMemory, Refutation};
 use axiom_sets::AxiomSet;
-use certificate_lines::{first_unblank, told, words};
+use certificate_lines::{first_unblank, clamped_line, words};
 use shq_nnf::KeptShape;
 use shq_terms::Ontology;
 use std::alloc::Global;
@@ -69,18 +69,18 @@ fn read_body(
         if lines[index] == b"end".as_slice() {
             return match first_unblank(&lines[index + 1..], index + 5) {
                 None => Ok(refutation),
-                Some(number) => Err(CertFault::Malformed(told(number))),
+                Some(number) => Err(CertFault::Malformed(clamped_line(number))),
             };
         }
         read_line(
             alloc,
             lines[index],
-            told(index + 4),
+            clamped_line(index + 4),
             ontology,
             &mut refutation,
         )?;
     }
-    Err(CertFault::Malformed(told(lines.len() + 4)))
+    Err(CertFault::Malformed(clamped_line(lines.len() + 4)))
 }
 
 // Reads one line more, whose number is given.

@@ -6,7 +6,7 @@ ghost use Rattle.shape_specs.specs.Shape.Shape.{top as plain_top};
 ghost use Rattle.shq_nnf.specs.Kept.{form_of, form_of_kept};
 ghost use Rattle.refutation_tree.specs.Shapes.{shape_at, is_concept, part_numbers, fits, admits};
 ghost use Rattle.refutation_tree.specs.RuleLine.{line_of, names_concepts};
-ghost use Rattle.refutation_tree.specs.Kept.{IsKept};
+ghost use Rattle.refutation_tree.specs.RefutationLists.{IsKept};
 ghost use Rattle.refutation_tree.specs.RefutationText.{begun};
 
 use crate::{Line, NoMemory};
@@ -33,9 +33,9 @@ impl Model for Refutation {
     ghost use Rattle.axiom_sets.specs.Sets.{limited_code};
     ghost use Rattle.shq_nnf.specs.Kept.{form_of_kept};
     ghost use Rattle.refutation_tree.specs.RuleLine.{line_of};
-    ghost use Rattle.refutation_tree.specs.Kept.{Kept, IsKept};
+    ghost use Rattle.refutation_tree.specs.RefutationLists.{RefutationLists, IsKept};
 
-    ghost Value = { Kept };
+    ghost Value = { RefutationLists };
 
     ghost coded = { Prim.hlevel (codes, limited_code) };
 

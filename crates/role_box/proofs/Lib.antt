@@ -6,3 +6,7 @@ pub mod Rows
 pub mod Collected
 pub mod Answering
 pub mod TransitiveRoles
+pub mod Lists
+pub mod Tested
+pub mod Numbers
+pub mod Plain

@@ -4,3 +4,6 @@ pub mod Paths
 pub mod RoleSet
 pub mod Closure
 pub mod Laws
+pub mod Counted
+pub mod Simple
+pub mod SimpleLaws

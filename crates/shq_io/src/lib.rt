@@ -14,6 +14,3 @@ pub use mem_source::MemSource;
 pub use standard::{StdSink, StdSource};
 pub use traits::{Sink, SinkFailed, Source, SourceFailed};
 pub use whole::{ReadEnd, WriteFailed, read_all, write_whole};
-
-#[cfg(test)]
-mod tests;

@@ -15,6 +15,3 @@ pub use parts::{Part, part_count};
 pub use shapes::{KeptShape, Shape};
 pub use shq_base::NoMemory;
 pub use table::Concepts;
-
-#[cfg(test)]
-mod tests;

@@ -14,6 +14,3 @@ pub use faults::AddFault;
 pub use lists::{ConceptList, NumberList};
 pub use ontology::{MAX_AXIOMS, MAX_CLASSES, MAX_ROLES, Ontology};
 pub use shq_base::NoMemory;
-
-#[cfg(test)]
-mod tests;

@@ -186,6 +186,3 @@ impl<'a, E: Copy> Entries<'a, E> {
         }
     }
 }
-
-#[cfg(test)]
-mod tests;

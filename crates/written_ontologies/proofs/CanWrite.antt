@@ -7,20 +7,20 @@ use Rattle.shq_terms.specs.Distinct.{AreDistinct}
 use Rattle.shq_terms.specs.declared.axioms.Numbered.{Numbered}
 use Rattle.ofn_tree.specs.Lexemes.{end_line}
 use Rattle.ofn_tree.specs.Items.{Item, name_item, iri_item, literal_item, sign_item, group_item, Items, no_items, item, items_of, nesting, nesting_all}
-use Rattle.simple_roles.specs.Simple.{counts_simple, all_role_axioms}
+use Rattle.role_box.specs.Simple.{counts_simple, all_role_axioms}
 use Rattle.ofn_expressions.specs.Counts.{Counts}
 use Rattle.ofn_expressions.specs.Walk.{Test, shape, clash, after_all, walked}
 use Rattle.ofn_expressions.specs.Names.{Prefix, item_line, predeclared, prefix_iri}
 use Rattle.ofn_expressions.specs.Classes.{item_count, Keeps}
 use Rattle.ofn_expressions.proofs.Kept.{keeps_all}
-use Rattle.ofn_reader.specs.Kept.{Kept}
+use Rattle.ofn_reader.specs.DocumentContext.{DocumentContext}
 use Rattle.ofn_reader.specs.Groups.{is_group, is_iri_or_name, inner_items, behind_name, axiom_items}
 use Rattle.ofn_reader.specs.Prefixes.{declared_name, is_equals, declared_iri, or_empty, agrees, prefix_items_tests, prefix_tests, prefixes_tests, with_prefix}
 use Rattle.ofn_reader.specs.Axioms.{axioms_tests}
 use Rattle.ofn_reader.specs.Documents.{start, form_tests, all_simple_tests, is_prefix_group, prefix_groups, behind_prefixes, document_prefixes, ontology_tests, ontology_axioms, document_axioms, IsDocument}
 use Rattle.ofn_writer.specs.Canonical.{ontology_text}
 use Rattle.written_ontologies.specs.Writable.{CanBeWritten}
-use Rattle.written_ontologies.specs.Laws.{Says}
+use Rattle.written_ontologies.specs.Laws.{IsDocumentOf}
 use Rattle.written_ontologies.proofs.GoodTokens.{IsGoodItem, AreGoodItems, tokens_good, tree_good}
 use Rattle.written_ontologies.proofs.GoodNames.{AreGoodPrefixes, predeclared_good, prefixes_good, front_items_good, rest_items_good}
 use Rattle.written_ontologies.proofs.Counting.{held, Both, both, nothing_held, walked_after, never, IsWithin}
@@ -104,7 +104,7 @@ start_within = record {
   few_nodes = omega arith;
 }
 
-module _ (text : List ℕ) (o : Listed) (kept : Kept) (end : ℕ) (d : IsDocument text o kept end) where
+module _ (text : List ℕ) (o : Listed) (kept : DocumentContext) (end : ℕ) (d : IsDocument text o kept end) where
   items_good : AreGoodItems (items_of d.items)
   items_good = tree_good d.made.tokens.tokens d.items d.made.tree (tokens_good text d.made.tokens d.made.cut)
 
@@ -166,5 +166,5 @@ module _ (text : List ℕ) (o : Listed) (kept : Kept) (end : ℕ) (d : IsDocumen
   pub can_be_written : CanBeWritten o
   can_be_written = subst CanBeWritten (sym d.listed) written
 
-  pub read_again : Says (ontology_text o) o
+  pub read_again : IsDocumentOf (ontology_text o) o
   read_again = written_is_read o can_be_written

@@ -4,10 +4,10 @@ use Rattle.shq_terms.specs.Listed.{Listed}
 use Rattle.ofn_reader.proofs.Unique.{documents}
 use Rattle.ofn_writer.specs.Canonical.{ontology_text}
 use Rattle.written_ontologies.specs.Writable.{CanBeWritten}
-use Rattle.written_ontologies.specs.Laws.{axioms_of, Says, AreSame}
+use Rattle.written_ontologies.specs.Laws.{axioms_of, IsDocumentOf, AreSame}
 use Rattle.written_ontologies.proofs.Read.{written_is_read}
 
-same_read : (text : List ℕ) (o p : Listed) → Says text o → Says text p → AreSame o p
+same_read : (text : List ℕ) (o p : Listed) → IsDocumentOf text o → IsDocumentOf text p → AreSame o p
 same_read text o p first second =
     let read : first.read ≡ second.read = (documents text first.read second.read first.kept second.kept first.end second.end first.is_document second.is_document).0 in
     record {
@@ -17,4 +17,4 @@ same_read text o p first second =
     }
 
 pub one_text : (o p : Listed) → CanBeWritten o → CanBeWritten p → ontology_text o ≡ ontology_text p → AreSame o p
-one_text o p first second same = same_read (ontology_text p) o p (subst (λ t. Says t o) same (written_is_read o first)) (written_is_read p second)
+one_text o p first second same = same_read (ontology_text p) o p (subst (λ t. IsDocumentOf t o) same (written_is_read o first)) (written_is_read p second)

@@ -30,7 +30,7 @@ use Rattle.ofn_reader.specs.Axioms.{axioms_tests, axioms_in}
 use Rattle.ofn_reader.specs.Documents.{start, form_tests, all_simple_tests, document_tests, document_axioms}
 use Rattle.ofn_writer.specs.Canonical.{ontology_text}
 use Rattle.written_ontologies.specs.Writable.{is_iri, is_class_iri, is_role_iri, axiom_parts, axiom_expressions, total, CanBeWritten}
-use Rattle.written_ontologies.specs.Laws.{axioms_of, Says}
+use Rattle.written_ontologies.specs.Laws.{axioms_of, IsDocumentOf}
 use Rattle.written_ontologies.proofs.Checks.{and_left, and_right, not_true, all_at}
 use Rattle.written_ontologies.proofs.Phrases.{Phrase, item_of, token, lines_text, lines_items, lines_tokens, all_can_stand}
 use Rattle.written_ontologies.proofs.Cuts.{wholes, wholes_append, Cuts, cuts_both, cuts_name, cuts_open, cuts_close, cuts_feed, cuts_lines}
@@ -237,7 +237,7 @@ module _ (o : Listed) (can : CanBeWritten o) where
       ∙ ap (λ s. walked behind (all_simple_tests (document_axioms predeclared s (document_items (document_phrases o))))) counts_are
       ∙ simple_again (document_axioms predeclared behind (document_items (document_phrases o))) o.axioms behind same_axioms can.simple
 
-  says : Says (opened (lines_text (document_phrases o))) o
+  says : IsDocumentOf (opened (lines_text (document_phrases o))) o
   says =
       let stands = document_stands o (spelled o can) can in
       record {
@@ -257,5 +257,5 @@ module _ (o : Listed) (can : CanBeWritten o) where
         axioms = same_axioms;
       }
 
-pub written_is_read : (o : Listed) → CanBeWritten o → Says (ontology_text o) o
-written_is_read o can = subst (λ t. Says t o) (sym (text_is o)) (says o can)
+pub written_is_read : (o : Listed) → CanBeWritten o → IsDocumentOf (ontology_text o) o
+written_is_read o can = subst (λ t. IsDocumentOf t o) (sym (text_is o)) (says o can)

@@ -6,8 +6,8 @@ use Rattle.shq_terms.specs.declared.axioms.Numbered.{Numbered}
 use Rattle.role_box.specs.declared.axioms.RoleAxiom.{RoleAxiom}
 use Rattle.role_box.specs.RoleAxioms.{role_part, role_part_at, role_axioms}
 use Rattle.role_box.specs.Closure.{numbers_from}
-use Rattle.simple_roles.specs.Counted.{counted_by}
-use Rattle.simple_roles.specs.Simple.{are_simple, counts_simple, all_role_axioms}
+use Rattle.role_box.specs.Counted.{counted_by}
+use Rattle.role_box.specs.Simple.{are_simple, counts_simple, all_role_axioms}
 use Rattle.ofn_expressions.specs.Counts.{Counts}
 use Rattle.ofn_expressions.specs.Walk.{simple, walked}
 use Rattle.ofn_reader.specs.Documents.{simple_tests, all_simple_tests}

@@ -7,6 +7,3 @@ pub use laws::{
     documents_are_read_again, documents_can_be_written, equal_texts_say_the_same,
     written_ontologies_are_read,
 };
-
-#[cfg(test)]
-mod tests;

@@ -1,6 +1,6 @@
 use Rattle.std.proofs.Common.{arith, ◌∙◌, sym}
 use Rattle.std.proofs.lemmas.Bool.{false≢true}
-use Rattle.word_sets.proofs.Next.{contains-past}
+use Rattle.lane_sieve.proofs.Next.{contains-past}
 use Rattle.dependency_sets.proofs.marks.len_without.Goals as goal
 
 pub loop-len-init : goal.loop-len-init

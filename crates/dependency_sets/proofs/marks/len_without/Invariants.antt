@@ -1,6 +1,6 @@
 use Rattle.std.proofs.Common.{◌≡◌, ℕ, ◌*◌, ◌≤◌, true, length}
 use Rattle.std.specs.FinSet as set
-use Rattle.word_sets.specs.Sets.{number_set}
+use Rattle.lane_sieve.specs.Sets.{number_set}
 use Rattle.dependency_sets.proofs.marks.len_without.Given as goal
 
 abbrev pub invariant-loop-len : goal.invariant-loop-len

@@ -1,5 +1,5 @@
 use Rattle.std.proofs.Common.{◌≡◌, Some, None}
-use Rattle.simple_roles.specs.Simple.{all_role_axioms, first_not_simple}
+use Rattle.role_box.specs.Simple.{all_role_axioms, first_not_simple}
 use Rattle.ofn_reader.proofs.Simple.{simple_judged}
 use Rattle.ofn_reader.proofs.documents.test_roles.Goals as goal
 

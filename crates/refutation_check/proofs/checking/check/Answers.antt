@@ -1,5 +1,5 @@
 use Rattle.std.proofs.Common.{subst, map}
-use Rattle.word_sets.specs.Sets.{IsPart}
+use Rattle.lane_sieve.specs.Sets.{IsPart}
 use Rattle.axiom_sets.specs.Sets.{Limited}
 use Rattle.refutation_tree.specs.RuleLine.{line_of}
 use Rattle.refutation_check.proofs.Judged.{judged_ok}

@@ -1,7 +1,7 @@
 use Rattle.std.proofs.Common.{◌≡◌, ◌*◌, ◌∙◌, ap, arith, List, ℕ, length}
 use Rattle.std.specs.Ordering.{nat_cmp}
 use Rattle.std.specs.Cmp.Lexicographic.{slice_cmp}
-use Rattle.word_sets.specs.Sets.{number_set, members_below}
+use Rattle.lane_sieve.specs.Sets.{number_set, members_below}
 use Rattle.axiom_sets.specs.Sets.{Limited, member_list}
 use Rattle.axiom_sets.proofs.Kept.{kept_short, kept-list}
 use Rattle.axiom_sets.proofs.numbered.AxiomSet.cmp_list.Goals as goal

@@ -1,6 +1,6 @@
 use Rattle.std.proofs.Common.{◌+◌, ◌/◌, ◌∙◌, ap}
-use Rattle.word_sets.specs.Sets.{number_set}
-use Rattle.word_sets.proofs.Vectors.{number_set-zeros}
+use Rattle.lane_sieve.specs.Sets.{number_set}
+use Rattle.lane_sieve.proofs.Vectors.{number_set-zeros}
 use Rattle.axiom_sets.proofs.Kept.{kept-zeros}
 use Rattle.axiom_sets.proofs.numbered.AxiomSet.empty.Goals as goal
 

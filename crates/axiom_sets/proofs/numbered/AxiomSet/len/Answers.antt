@@ -1,5 +1,5 @@
 use Rattle.std.proofs.Common.{◌≡◌, ◌*◌, ◌∙◌, ap, arith, List, ℕ, length}
-use Rattle.word_sets.specs.Sets.{number_set, members_below}
+use Rattle.lane_sieve.specs.Sets.{number_set, members_below}
 use Rattle.axiom_sets.specs.Sets.{Limited, member_list}
 use Rattle.axiom_sets.proofs.Kept.{kept_short, kept-count, kept-list}
 use Rattle.axiom_sets.proofs.numbered.AxiomSet.len.Goals as goal

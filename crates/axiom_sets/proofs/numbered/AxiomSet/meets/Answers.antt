@@ -1,5 +1,5 @@
 use Rattle.std.proofs.Common.{◌≡◌, ◌∙◌, sym, ap, length}
-use Rattle.word_sets.specs.Sets.{number_set}
+use Rattle.lane_sieve.specs.Sets.{number_set}
 use Rattle.axiom_sets.specs.Sets.{Limited}
 use Rattle.axiom_sets.proofs.Kept.{same_length, meet_along}
 use Rattle.axiom_sets.proofs.numbered.AxiomSet.meets.Goals as goal

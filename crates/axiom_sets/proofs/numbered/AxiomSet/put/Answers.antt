@@ -1,8 +1,8 @@
 use Rattle.std.proofs.Common.{◌≡◌, ◌≤◌, ◌∙◌, ◌++◌, List, ℕ, ap, take, drop, length, arith}
 use Rattle.std.specs.FinSet as set
-use Rattle.word_sets.specs.Sets.{number_set}
+use Rattle.lane_sieve.specs.Sets.{number_set}
 use Rattle.axiom_sets.specs.Sets.{Limited}
-use Rattle.word_sets.proofs.Vectors.{whole_back}
+use Rattle.lane_sieve.proofs.Vectors.{whole_back}
 use Rattle.axiom_sets.proofs.Kept.{kept_after, put_within}
 use Rattle.axiom_sets.proofs.numbered.AxiomSet.put.Goals as goal
 

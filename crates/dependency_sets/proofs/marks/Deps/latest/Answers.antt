@@ -3,7 +3,7 @@ use Rattle.std.specs.Ordering.{nat_cmp}
 use Rattle.std.specs.FinSet as set
 use Rattle.std.proofs.lemmas.Bool.{false≢true, eqb-true}
 use Rattle.std.proofs.lemmas.List.{nil_from_length}
-use Rattle.word_sets.specs.Sets.{NumberSet, number_set}
+use Rattle.lane_sieve.specs.Sets.{NumberSet, number_set}
 use Rattle.dependency_sets.proofs.Trimmed.{number_set-nil}
 use Rattle.dependency_sets.proofs.marks.Deps.latest.Goals as goal
 

@@ -1,7 +1,7 @@
 use Rattle.std.proofs.Common.{◌≡◌, ◌∙◌, ◌++◌, List, ℕ, ap, take, drop, length}
 use Rattle.std.specs.FinSet as set
-use Rattle.word_sets.specs.Sets.{number_set}
-use Rattle.word_sets.proofs.Vectors.{whole_back}
+use Rattle.lane_sieve.specs.Sets.{number_set}
+use Rattle.lane_sieve.proofs.Vectors.{whole_back}
 use Rattle.dependency_sets.proofs.Trimmed.{one-members, one-trimmed}
 use Rattle.dependency_sets.proofs.marks.Deps.one.Goals as goal
 

@@ -1,7 +1,7 @@
 use Rattle.std.proofs.Common.{◌≡◌, ◌∙◌, ap, subst}
 use Rattle.std.specs.Prelude.{IfOk}
 use Rattle.std.specs.FinSet as set
-use Rattle.word_sets.specs.Sets.{NumberSet, number_set}
+use Rattle.lane_sieve.specs.Sets.{NumberSet, number_set}
 use Rattle.dependency_sets.proofs.Trimmed.{union_turned}
 use Rattle.dependency_sets.proofs.marks.Deps.union.Goals as goal
 

@@ -1,8 +1,8 @@
 use Rattle.std.proofs.Common.{◌≡◌, ◌∙◌, ◌++◌, List, ℕ, ap, take, drop, length}
 use Rattle.std.specs.FinSet as set
-use Rattle.word_sets.specs.Sets.{NumberSet, number_set}
+use Rattle.lane_sieve.specs.Sets.{NumberSet, number_set}
 use Rattle.std.proofs.lemmas.List.{length-take-le}
-use Rattle.word_sets.proofs.Vectors.{whole_back}
+use Rattle.lane_sieve.proofs.Vectors.{whole_back}
 use Rattle.dependency_sets.proofs.Trimmed.{removed, trimmed-without}
 use Rattle.dependency_sets.proofs.marks.Deps.without.Goals as goal
 

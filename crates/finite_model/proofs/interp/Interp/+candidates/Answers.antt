@@ -5,7 +5,7 @@ use Rattle.shq_base.specs.Depth.{depth}
 use Rattle.shq_base.proofs.Depth.{depth_at}
 use Rattle.shq_terms.specs.Node.{tree}
 use Rattle.shq_meaning.specs.Truth.{holds, hold_all}
-use Rattle.finite_model.specs.Kept.{meaning, begins}
+use Rattle.finite_model.specs.ModelLists.{meaning, begins}
 use Rattle.finite_model.specs.Next.{IsNext}
 use Rattle.finite_model.proofs.Candidates.{next_weaker, no_more_of_all, more_of_all, more_of_any}
 use Rattle.finite_model.proofs.Empty.{some_of_none, fails_at_least, fails_exactly}

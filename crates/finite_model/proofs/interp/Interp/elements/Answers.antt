@@ -2,7 +2,7 @@ use Rattle.std.proofs.Common.{◌≡◌, ◌+◌, ap, map, rules, ◌∙◌}
 use Rattle.std.specs.List.{filter}
 use Rattle.std.specs.declared.ops.Bound.TheVariants.{Included, Excluded}
 use Rattle.std.specs.BTreeMap.Range.{range_contains}
-use Rattle.finite_model.specs.Kept.{member_cmp}
+use Rattle.finite_model.specs.ModelLists.{member_cmp}
 use Rattle.finite_model.proofs.Ranges.{members_between}
 use Rattle.finite_model.proofs.interp.Interp.elements.Goals as goal
 

@@ -5,7 +5,7 @@ use Rattle.std.specs.List.Sorted.{IsStrictlySortedBy}
 use Rattle.std.specs.declared.ops.Bound.TheVariants.{Included}
 use Rattle.std.specs.BTreeMap.Range.{range_contains}
 use Rattle.std.specs.Range.{range_inclusive_start, range_inclusive_end}
-use Rattle.finite_model.specs.Kept.{Kept, member_cmp}
+use Rattle.finite_model.specs.ModelLists.{ModelLists, member_cmp}
 use Rattle.finite_model.proofs.Nexts.{first_of_range}
 use Rattle.finite_model.proofs.interp.Interp.first_member.Goals as goal
 
@@ -19,7 +19,7 @@ returns-clause-first c =
     let between : c.range-members.result ≡ filter (range_contains member_cmp (Included (range_inclusive_start range)) (Included (range_inclusive_end range))) keys = c.range-members.ensures.between c.new.ensures.exhausted in
     let bounds : filter (range_contains member_cmp (Included (range_inclusive_start range)) (Included (range_inclusive_end range))) keys ≡ filter (range_contains member_cmp (Included low) (Included high)) keys =
     ap (λ b. filter (range_contains member_cmp (Included b) (Included (range_inclusive_end range))) keys) c.new.ensures.start ∙ ap (λ b. filter (range_contains member_cmp (Included low) (Included b)) keys) c.new.ensures.end in
-    first ∙ ap (λ l. slice_get l 0) (between ∙ bounds ∙ ap (λ (k : Kept). filter (range_contains member_cmp (Included low) (Included high)) k.members) c.self.view_is)
+    first ∙ ap (λ l. slice_get l 0) (between ∙ bounds ∙ ap (λ (k : ModelLists). filter (range_contains member_cmp (Included low) (Included high)) k.members) c.self.view_is)
 
 pub returns-clause-ordered : goal.returns-clause-ordered
-returns-clause-ordered c = subst (λ (k : Kept). IsStrictlySortedBy member_cmp k.members) c.self.view_is c.range-members.ensures.ordered
+returns-clause-ordered c = subst (λ (k : ModelLists). IsStrictlySortedBy member_cmp k.members) c.self.view_is c.range-members.ensures.ordered

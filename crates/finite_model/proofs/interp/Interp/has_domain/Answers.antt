@@ -1,7 +1,7 @@
 use Rattle.std.proofs.Common.{ℕ, Bool, sym, ◌∙◌, arith}
 use Rattle.std.specs.Prelude.{nat_le}
 use Rattle.shq_meaning.specs.Truth.{holds, implies, out_degree}
-use Rattle.finite_model.specs.Kept.{meaning, begins}
+use Rattle.finite_model.specs.ModelLists.{meaning, begins}
 use Rattle.finite_model.proofs.Skipped.{all_passed, all_failed, all_ended}
 use Rattle.finite_model.proofs.Empty.{domain_of_none}
 use Rattle.finite_model.proofs.interp.Interp.has_domain.Goals as goal

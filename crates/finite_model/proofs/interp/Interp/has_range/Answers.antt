@@ -1,6 +1,6 @@
 use Rattle.std.proofs.Common.{ℕ, Bool, sym, ◌∙◌, arith}
 use Rattle.shq_meaning.specs.Truth.{holds, each_successor}
-use Rattle.finite_model.specs.Kept.{meaning, begins}
+use Rattle.finite_model.specs.ModelLists.{meaning, begins}
 use Rattle.finite_model.proofs.Skipped.{all_passed, all_failed, all_ended}
 use Rattle.finite_model.proofs.Empty.{row_of_none}
 use Rattle.finite_model.proofs.interp.Interp.has_range.Goals as goal

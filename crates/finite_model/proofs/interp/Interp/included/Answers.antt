@@ -1,7 +1,7 @@
 use Rattle.std.proofs.Common.{ℕ, Bool, sym, ◌∙◌, arith}
 use Rattle.shq_meaning.specs.Below.{all_below}
 use Rattle.shq_meaning.specs.Truth.{implies}
-use Rattle.finite_model.specs.Kept.{meaning, begins}
+use Rattle.finite_model.specs.ModelLists.{meaning, begins}
 use Rattle.finite_model.proofs.Skipped.{all_passed, all_failed, all_ended}
 use Rattle.finite_model.proofs.Empty.{row_of_none}
 use Rattle.finite_model.proofs.interp.Interp.included.Goals as goal

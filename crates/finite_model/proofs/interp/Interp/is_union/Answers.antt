@@ -1,7 +1,7 @@
 use Rattle.std.proofs.Common.{ℕ, Bool, sym, ◌∙◌, arith, ◌||◌, ◌&&◌}
 use Rattle.shq_base.specs.Concept.{parts_of}
 use Rattle.shq_meaning.specs.Truth.{holds, hold_any, same, none_twice}
-use Rattle.finite_model.specs.Kept.{meaning}
+use Rattle.finite_model.specs.ModelLists.{meaning}
 use Rattle.finite_model.proofs.Skipped.{all_passed, all_failed, all_ended}
 use Rattle.finite_model.proofs.Empty.{split_of_none}
 use Rattle.finite_model.proofs.interp.Interp.is_union.Goals as goal

@@ -1,5 +1,5 @@
 use Rattle.std.proofs.Common.{sym, subst}
-use Rattle.finite_model.specs.Kept.{begins}
+use Rattle.finite_model.specs.ModelLists.{begins}
 use Rattle.finite_model.specs.Next.{IsNext}
 use Rattle.finite_model.proofs.Nexts.{no_beginning, a_beginning}
 use Rattle.finite_model.proofs.interp.Interp.next_beginning.Goals as goal

@@ -1,6 +1,6 @@
 use Rattle.std.proofs.Common.{sym, subst}
 use Rattle.std.specs.List.{list_any}
-use Rattle.finite_model.specs.Kept.{is_member}
+use Rattle.finite_model.specs.ModelLists.{is_member}
 use Rattle.finite_model.specs.Next.{IsNext}
 use Rattle.finite_model.proofs.Nexts.{no_member, a_member}
 use Rattle.finite_model.proofs.interp.Interp.next_member.Goals as goal

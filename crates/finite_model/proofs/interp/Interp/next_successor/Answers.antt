@@ -1,6 +1,6 @@
 use Rattle.std.proofs.Common.{sym, subst}
 use Rattle.std.specs.List.{list_any}
-use Rattle.finite_model.specs.Kept.{is_link}
+use Rattle.finite_model.specs.ModelLists.{is_link}
 use Rattle.finite_model.specs.Next.{IsNext}
 use Rattle.finite_model.proofs.Nexts.{no_successor, a_successor, is_successor}
 use Rattle.finite_model.proofs.interp.Interp.next_successor.Goals as goal

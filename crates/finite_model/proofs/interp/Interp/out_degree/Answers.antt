@@ -1,5 +1,5 @@
 use Rattle.std.proofs.Common.{◌≡◌, ℕ, Bool, cond, sym, ap, ◌∙◌, arith}
-use Rattle.finite_model.specs.Kept.{meaning}
+use Rattle.finite_model.specs.ModelLists.{meaning}
 use Rattle.finite_model.proofs.Skipped.{count_stepped, count_ended}
 use Rattle.finite_model.proofs.interp.Interp.out_degree.Goals as goal
 

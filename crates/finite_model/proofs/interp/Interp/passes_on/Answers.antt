@@ -2,7 +2,7 @@ use Rattle.std.proofs.Common.{◌≡◌, ◌||◌, ap, rules, tests, ◌∙◌}
 use Rattle.std.specs.Prelude.{nat_le}
 use Rattle.std.proofs.lemmas.Iterator.Search.{all_from_yields_List}
 use Rattle.std.proofs.lemmas.Iterator.Consumers.{YieldsList-from_rest}
-use Rattle.finite_model.specs.Kept.{meaning}
+use Rattle.finite_model.specs.ModelLists.{meaning}
 use Rattle.finite_model.proofs.Rows.{row_of, row_all_between}
 use Rattle.finite_model.proofs.interp.Interp.passes_on.Goals as goal
 

@@ -1,11 +1,11 @@
 use Rattle.std.proofs.Common.{◌≡◌, ◌<◌, subst, sym, ap}
-use Rattle.finite_model.specs.Kept.{Kept, IsDomain}
+use Rattle.finite_model.specs.ModelLists.{ModelLists, IsDomain}
 use Rattle.finite_model.proofs.Inside.{link_put}
 use Rattle.finite_model.proofs.interp.Interp.put_pair.Goals as goal
 
 pub invariant_of-self-2 : goal.invariant_of-self-2
 invariant_of-self-2 c =
-    let within : c.args.x < c.self.inside.size = subst (λ (k : Kept). c.args.x < k.size) (sym c.self.view_is) c.requires.from in
-    let to : c.args.y < c.self.inside.size = subst (λ (k : Kept). c.args.y < k.size) (sym c.self.view_is) c.requires.to in
+    let within : c.args.x < c.self.inside.size = subst (λ (k : ModelLists). c.args.x < k.size) (sym c.self.view_is) c.requires.from in
+    let to : c.args.y < c.self.inside.size = subst (λ (k : ModelLists). c.args.y < k.size) (sym c.self.view_is) c.requires.to in
     let put = link_put c.self.inside.size c.args.role c.args.x c.args.y c.self.inside.members.keys c.self.inside.links.keys c.self.invariant within to in
     subst (λ ks. IsDomain c.self.inside.size c.self.inside.members.keys ks) (sym c.in_ok-insert.ensures.keys) put

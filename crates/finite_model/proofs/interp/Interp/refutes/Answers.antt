@@ -1,6 +1,6 @@
 use Rattle.std.proofs.Common.{ℕ, Bool, not, ap, sym, ◌∙◌, arith}
 use Rattle.shq_meaning.specs.Truth.{holds, refutes_at}
-use Rattle.finite_model.specs.Kept.{meaning}
+use Rattle.finite_model.specs.ModelLists.{meaning}
 use Rattle.finite_model.proofs.Skipped.{all_before, all_passed, all_ended}
 use Rattle.finite_model.proofs.Empty.{unrefuted}
 use Rattle.finite_model.proofs.interp.Interp.refutes.Goals as goal

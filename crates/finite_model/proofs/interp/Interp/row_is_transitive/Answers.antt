@@ -4,7 +4,7 @@ use Rattle.std.proofs.lemmas.Iterator.Search.{all_from_yields_List}
 use Rattle.std.proofs.lemmas.Iterator.Consumers.{YieldsList-from_rest}
 use Rattle.shq_meaning.specs.Below.{all_below}
 use Rattle.shq_meaning.specs.Truth.{implies}
-use Rattle.finite_model.specs.Kept.{meaning}
+use Rattle.finite_model.specs.ModelLists.{meaning}
 use Rattle.finite_model.proofs.Rows.{row_of, row_all_between}
 use Rattle.finite_model.proofs.interp.Interp.row_is_transitive.Goals as goal
 

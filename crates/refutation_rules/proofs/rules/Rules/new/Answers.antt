@@ -2,7 +2,7 @@ use Rattle.std.proofs.Common.{◌+◌, [], length, sym, subst}
 use Rattle.axiom_sets.specs.Sets.{member_list}
 use Rattle.shape_specs.specs.Normal.{normal_form, negated_form}
 use Rattle.shq_nnf.proofs.Numbers.{extends_twice, number_stays}
-use Rattle.axiom_rows.specs.Kept.{RowFrame}
+use Rattle.row_cache.specs.Kept.{RowFrame}
 use Rattle.refutation_rules.specs.Frame.{IsFrame}
 use Rattle.refutation_rules.proofs.Renumbered.{first_stays}
 use Rattle.refutation_rules.proofs.rules.Rules.new.Goals as goal

@@ -2,7 +2,7 @@ use Rattle.std.proofs.Common.{◌≡◌, [], ◌∷◌, ◌++◌, ◌+◌, ◌^�
 use Rattle.shape_specs.specs.Shape.{Shape}
 use Rattle.shq_nnf.specs.Kept.{form_of_kept}
 use Rattle.refutation_tree.specs.Shapes.{admits}
-use Rattle.refutation_tree.specs.Kept.{Kept}
+use Rattle.refutation_tree.specs.RefutationLists.{RefutationLists}
 use Rattle.refutation_tree.proofs.Kept.{forms_pushed, kept_pushed}
 use Rattle.refutation_tree.proofs.refutation.Refutation.put_shape.Goals as goal
 
@@ -20,5 +20,5 @@ returns-clause-put c =
     let admitted = subst (λ (t : List Shape). admits t (form_of_kept c.args.shape) ≡ true) (sym forms) c.requires.admitted in
     let after = c.insert.new.self.keys in
     let pushed = forms_pushed keys after c.args.shape c.in_ok-insert.ensures.keys admitted in
-    ap (λ (k : Kept). record k { shapes = map form_of_kept after }) c.self.view_is
+    ap (λ (k : RefutationLists). record k { shapes = map form_of_kept after }) c.self.view_is
     ∙ ap (λ (t : List Shape). record c.args.self.now { shapes = t }) (pushed ∙ ap (λ (t : List Shape). t ++ form_of_kept c.args.shape ∷ []) forms)

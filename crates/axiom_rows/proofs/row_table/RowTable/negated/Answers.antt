@@ -1,7 +1,0 @@
-use Rattle.axiom_rows.proofs.Kept.{table_stays}
-use Rattle.axiom_rows.proofs.row_table.RowTable.negated.Goals as goal
-
-pub invariant_of-self : goal.invariant_of-self
-invariant_of-self c =
-    let i = c.self.inside in
-    table_stays i.ontology.now.axioms i.named.now i.concepts c.negated.new.self i.rows.entries i.ranges.entries c.negated.ensures.kept c.self.invariant

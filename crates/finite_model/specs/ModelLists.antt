@@ -1,0 +1,60 @@
+-- What an interpretation keeps, and what it stands for. Members and pairs are kept in ascending order, each once.
+use Rattle.std.specs.Prelude.{ℕ, ◌≤◌, Bool, ◌&&◌, nat_eq, nat_lt, IsTrue, List}
+use Rattle.std.specs.List.{list_any, list_all}
+use Rattle.std.specs.declared.cmp.Ordering.{Ordering}
+use Rattle.std.specs.Ordering.{nat_cmp, ordering_then}
+use Rattle.shq_meaning.specs.Truth.{Interpretation}
+
+-- each class with each of its elements, and each role with each of its pairs
+pub record ModelLists : Type 0 where
+  pub size : ℕ
+  pub members : List (ℕ × ℕ)
+  pub links : List (ℕ × ℕ × ℕ)
+
+-- the element of each member is one of the domain, which has that many, and so are both elements of each pair
+abbrev pub members_below : ℕ → List (ℕ × ℕ) → Bool
+members_below size ms = list_all (λ m. nat_lt m.1 size) ms
+
+abbrev pub links_below : ℕ → List (ℕ × ℕ × ℕ) → Bool
+links_below size ls = list_all (λ l. nat_lt l.1 size && nat_lt l.2 size) ls
+
+-- some elements, and members and pairs of them
+pub record IsDomain (size : ℕ) (members : List (ℕ × ℕ)) (links : List (ℕ × ℕ × ℕ)) : Type 0 where
+  pub some : 1 ≤ size
+  pub members_inside : IsTrue (members_below size members)
+  pub links_inside : IsTrue (links_below size links)
+
+-- the class and the element of a member
+abbrev pub is_member : ℕ → ℕ → ℕ × ℕ → Bool
+is_member a x m = nat_eq m.0 a && nat_eq m.1 x
+
+-- the role and the pair of a link
+abbrev pub is_link : ℕ → ℕ → ℕ → ℕ × ℕ × ℕ → Bool
+is_link r x y l = nat_eq l.0 r && nat_eq l.1 x && nat_eq l.2 y
+
+-- the pair begins with the element, in the role
+abbrev pub is_from : ℕ → ℕ → ℕ × ℕ × ℕ → Bool
+is_from r x l = nat_eq l.0 r && nat_eq l.1 x
+
+-- some pair of the role begins with the element
+abbrev pub begins : ModelLists → ℕ → ℕ → Bool
+begins k r x = list_any (is_from r x) k.links
+
+abbrev pub meaning : ModelLists → Interpretation
+meaning k = record {
+  size = k.size;
+  in_class = λ a x. list_any (is_member a x) k.members;
+  in_role = λ r x y. list_any (is_link r x y) k.links;
+}
+
+-- by class, and then by element
+abbrev pub member_cmp : ℕ × ℕ → ℕ × ℕ → Ordering
+member_cmp a b = ordering_then (nat_cmp a.0 b.0) (nat_cmp a.1 b.1)
+
+-- by role, then by the first of the pair, and then by the second
+abbrev pub link_cmp : ℕ × ℕ × ℕ → ℕ × ℕ × ℕ → Ordering
+link_cmp a b = ordering_then (nat_cmp a.0 b.0) (ordering_then (nat_cmp a.1 b.1) (nat_cmp a.2 b.2))
+
+-- the same order, as a set of triples keeps it
+abbrev pub tuple_cmp : ℕ × ℕ × ℕ → ℕ × ℕ × ℕ → Ordering
+tuple_cmp a b = ordering_then (ordering_then (nat_cmp a.0 b.0) (nat_cmp a.1 b.1)) (nat_cmp a.2 b.2)

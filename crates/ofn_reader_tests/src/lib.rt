@@ -1,0 +1,15 @@
+//! Tests of the reader and the writer of functional-style syntax.
+#![tactic(auto)]
+
+#[cfg(test)]
+mod document_tests;
+#[cfg(test)]
+mod expression_tests;
+#[cfg(test)]
+mod limit_tests;
+#[cfg(test)]
+mod rewriting_tests;
+#[cfg(test)]
+mod tree_tests;
+#[cfg(test)]
+mod writer_tests;

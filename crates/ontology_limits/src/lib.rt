@@ -1,0 +1,2 @@
+//! The limits of ontologies and of queries on them.
+#![tactic(auto)]

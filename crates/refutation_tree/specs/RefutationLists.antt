@@ -1,0 +1,21 @@
+-- What a refutation keeps.
+use Rattle.std.specs.Prelude.{◌≡◌, ◌^◌, ◌<◌, true, List, length}
+use Rattle.std.specs.List.{list_all}
+use Rattle.axiom_sets.specs.Sets.{Limited}
+use Rattle.shape_specs.specs.Shape.{Shape}
+use Rattle.refutation_specs.specs.Line.{Line}
+use Rattle.refutation_tree.specs.Shapes.{AreShapes}
+use Rattle.refutation_tree.specs.RuleLine.{names_concepts}
+
+-- the axioms that are named, the shapes of concepts numbered from 1, and the rule lines in preorder
+pub record RefutationLists : Type 0 where
+  pub axioms : Limited
+  pub shapes : List Shape
+  pub lines : List Line
+
+-- the numbers of concepts fit 32 bits, the shapes are normal and stand once, and each number of a concept on a rule line
+-- is that of a shape
+pub record IsKept (shapes : List Shape) (lines : List Line) : Type 0 where
+  pub few : length shapes < 2 ^ 32
+  pub are_shapes : AreShapes shapes
+  pub are_known : list_all (names_concepts shapes) lines ≡ true

@@ -1,0 +1,59 @@
+-- Where no axiom makes a role transitive, each role is simple.
+use Rattle.std.proofs.Common.{◌≡◌, ℕ, zero, suc, ◌-◌, Bool, true, false, ◌||◌, List, [], ◌∷◌, None, length, refl, sym, ◌∙◌}
+use Rattle.std.specs.Prelude.{slice_get}
+use Rattle.std.specs.List.{list_any}
+use Rattle.std.proofs.lemmas.List.Folds.{list_any-append}
+use Rattle.shq_terms.specs.declared.axioms.Axiom.{Axiom}
+use Rattle.shq_terms.specs.declared.axioms.Axiom.TheVariants.{SubClassOf, EquivalentClasses, DisjointClasses, DisjointUnion, SubRole, EquivalentRoles, Domain, Range, Functional, Transitive}
+use Rattle.shq_terms.specs.declared.axioms.Numbered.{Numbered}
+use Rattle.role_box.specs.declared.axioms.RoleAxiom.{RoleAxiom}
+use Rattle.role_box.specs.RoleAxioms.{role_part, role_part_at, role_axioms}
+use Rattle.role_box.specs.Steps.{is_transitive_by, is_transitive}
+use Rattle.role_box.specs.Closure.{numbers_from}
+use Rattle.role_box.specs.Simple.{is_simple, all_role_axioms, are_simple, first_not_simple, is_transitivity}
+use Rattle.role_box.specs.Counted.{counted_by}
+use Rattle.role_box.proofs.Tested.{simple_test}
+
+both_false : (a b : Bool) → (a || b) ≡ false → (a ≡ false) × (b ≡ false)
+both_false true b h = let clash : true ≡ false = h in absurd (cc clash)
+both_false false b h = (refl, h)
+
+part_plain : (a : Axiom) (t : ℕ) → is_transitivity a ≡ false → is_transitive (role_part a) t ≡ false
+part_plain (SubClassOf c d) t h = refl
+part_plain (EquivalentClasses cs) t h = refl
+part_plain (DisjointClasses cs) t h = refl
+part_plain (DisjointUnion c cs) t h = refl
+part_plain (SubRole r s) t h = refl
+part_plain (EquivalentRoles rs) t h = refl
+part_plain (Domain r c) t h = refl
+part_plain (Range r c) t h = refl
+part_plain (Functional r) t h = refl
+part_plain (Transitive r) t h = let clash : true ≡ false = h in absurd (cc clash)
+
+abbrev has_transitivity : List Numbered → Bool
+has_transitivity axioms = list_any (λ n. is_transitivity n.axiom) axioms
+
+part_at_plain : (axioms : List Numbered) (k t : ℕ) → has_transitivity axioms ≡ false → is_transitive (role_part_at (slice_get axioms k)) t ≡ false
+part_at_plain [] k t h = refl
+part_at_plain (a ∷ as_) zero t h = part_plain a.axiom t (both_false (is_transitivity a.axiom) (has_transitivity as_) h).0
+part_at_plain (a ∷ as_) (suc k) t h = part_at_plain as_ k t (both_false (is_transitivity a.axiom) (has_transitivity as_) h).1
+
+none_transitive : (axioms : List Numbered) (ks : List ℕ) (t : ℕ) → has_transitivity axioms ≡ false → is_transitive (role_axioms axioms ks) t ≡ false
+none_transitive axioms [] t h = refl
+none_transitive axioms (k ∷ ks) t h =
+    list_any-append (λ a. is_transitive_by a t) (role_part_at (slice_get axioms (k - 1))) (role_axioms axioms ks)
+    ∙ rw (part_at_plain axioms (k - 1) t h) (none_transitive axioms ks t h)
+
+pub all_simple : (axioms : List Numbered) → list_any (λ n. is_transitivity n.axiom) axioms ≡ false → (r : ℕ) → is_simple (all_role_axioms axioms) r ≡ true
+all_simple axioms h r =
+    (simple_test (all_role_axioms axioms) r).1
+    (λ t transitive below. (let clash : true ≡ false = sym transitive ∙ none_transitive axioms (numbers_from 1 (length axioms)) t h in absurd (cc clash)))
+
+module _ (roles : List RoleAxiom) (simple : (r : ℕ) → is_simple roles r ≡ true) where
+  pub are_all_simple : (rs : List ℕ) → are_simple roles rs ≡ true
+  are_all_simple [] = refl
+  are_all_simple (r ∷ rs) = rw (simple r) (are_all_simple rs)
+
+  pub none_not_simple : (axioms : List Numbered) → None ≡ first_not_simple roles axioms
+  none_not_simple [] = refl
+  none_not_simple (n ∷ ns) = rw (are_all_simple (counted_by n.axiom)) (none_not_simple ns)

@@ -1,0 +1,7 @@
+//! Tests of roles.
+#![tactic(auto)]
+
+#[cfg(test)]
+mod role_tests;
+#[cfg(test)]
+mod simple_tests;

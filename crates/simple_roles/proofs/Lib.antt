@@ -1,4 +1,0 @@
-pub mod Lists
-pub mod Tested
-pub mod Numbers
-pub mod Plain

@@ -1,9 +1,0 @@
-use Rattle.std.proofs.Common.{◌-◌, length, arith}
-use Rattle.word_sets.proofs.Next.{top-member, top-greatest}
-use Rattle.word_sets.proofs.members.last_number.Goals as goal
-
-pub returns-clause-member : goal.returns-clause-member
-returns-clause-member c = top-member c.args.words.now (length c.args.words.now - 1) c.ilog2.result c.ilog2.ensures.power_le c.ilog2.ensures.next_power_gt c.ilog2.ensures.bound
-
-pub returns-clause-greatest : goal.returns-clause-greatest
-returns-clause-greatest c = top-greatest c.args.words.now (length c.args.words.now - 1) c.ilog2.result c.ilog2.ensures.power_le c.ilog2.ensures.next_power_gt c.ilog2.ensures.bound (omega arith)

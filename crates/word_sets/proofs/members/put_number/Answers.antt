@@ -1,5 +1,0 @@
-use Rattle.word_sets.proofs.Bits.{number_set-put}
-use Rattle.word_sets.proofs.members.put_number.Goals as goal
-
-pub returns : goal.returns
-returns c = number_set-put c.args.words.now c.args.number c.requires

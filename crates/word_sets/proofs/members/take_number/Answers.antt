@@ -1,5 +1,0 @@
-use Rattle.word_sets.proofs.Bits.{number_set-take}
-use Rattle.word_sets.proofs.members.take_number.Goals as goal
-
-pub returns : goal.returns
-returns c = number_set-take c.args.words.now c.args.number c.requires
