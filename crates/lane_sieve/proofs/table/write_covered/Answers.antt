@@ -1,6 +1,6 @@
 use Rattle.std.proofs.Common.{◌+◌, ◌∙◌, sym, ap, length, arith, drop}
 use Rattle.std.proofs.lemmas.List.{drop-set-lt, drop-drop}
-use Rattle.lane_sieve.proofs.Pairs.{found_more, found_same}
+use Rattle.lane_sieve.proofs.Blocks.{found_more, found_same}
 use Rattle.lane_sieve.specs.Words.{is_subset}
 use Rattle.lane_sieve.proofs.table.write_covered.Goals as goal
 use Rattle.lane_sieve.proofs.table.write_covered.Goals.{then-is_covered, else-is_covered}

@@ -1,7 +1,7 @@
 use Rattle.std.proofs.Common.{◌∙◌, sym, true, false, arith, eq-eqb}
 use Rattle.std.proofs.lemmas.Bool.{ne_eqb}
 use Rattle.lane_sieve.specs.Words.{is_apart}
-use Rattle.lane_sieve.proofs.Pairs.{each_pair-block, each_pair-fails, each_pair-one}
+use Rattle.lane_sieve.proofs.Blocks.{each_pair-block, each_pair-fails, each_pair-one}
 use Rattle.lane_sieve.proofs.words.are_apart.Goals as goal
 
 pub returns-then-not-is_apart_at : goal.returns-then-not-is_apart_at

@@ -1,6 +1,6 @@
 use Rattle.std.proofs.Common.{◌∙◌, arith, length-set}
 use Rattle.std.specs.Prelude.{bit_or}
-use Rattle.lane_sieve.proofs.Pairs.{zip2-block, zip2-one}
+use Rattle.lane_sieve.proofs.Blocks.{zip2-block, zip2-one}
 use Rattle.lane_sieve.proofs.words.union_words.Goals as goal
 
 pub loop-a-preserved : goal.loop-a-preserved
