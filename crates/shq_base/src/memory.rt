@@ -1,8 +1,8 @@
-// Want of memory.
+// Out of memory.
 
 use std::alloc::{AllocError, AllocFailed};
 
-/// The allocator refused memory. It is the one answer that a call may give at any point where it allocates.
+/// Out of memory: the allocator refused a request. A call that allocates may answer it at any of its requests.
 #[derive(Clone, Copy, Debug, PartialEq, Eq)]
 pub struct NoMemory;
 

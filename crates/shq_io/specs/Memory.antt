@@ -1,11 +1,11 @@
 -- A source and a sink in memory: what they keep, and what a call answers and leaves.
-use Rattle.std.specs.Prelude.{ℕ, ◌-◌, min, List, length, take, drop, ◌++◌, Bool, nat_eq, nat_lt, nat_le, ◌&&◌, ◌||◌, if◌then◌else◌}
+use Rattle.std.specs.Prelude.{ℕ, ◌-◌, min, List, [], length, take, drop, ◌++◌, Bool, nat_eq, nat_lt, nat_le, ◌&&◌, ◌||◌, if◌then◌else◌}
 use Rattle.std.specs.List.{list_any}
 use Rattle.shq_io.specs.Causes.{one_more}
 
--- the next call's number is listed
-abbrev pub is_listed : List ℕ → ℕ → Bool
-is_listed failing calls = list_any (λ n. nat_eq n (one_more calls)) failing
+-- the call after so many calls is one of those that fail
+abbrev pub fails_after : List ℕ → ℕ → Bool
+fails_after failing calls = list_any (λ n. nat_eq n (one_more calls)) failing
 
 -- the bytes that are left, the most that a call gives, the numbers of the calls that fail, and the counts of the
 -- calls and of the faults
@@ -16,9 +16,13 @@ pub record SourceState : Type 0 where
   pub calls : ℕ
   pub faults : ℕ
 
+-- a source that was not called yet
+abbrev pub fresh_source : List ℕ → ℕ → List ℕ → SourceState
+fresh_source bytes step failing = record { unread = bytes; step = step; failing = failing; calls = 0; faults = 0 }
+
 -- the next call fails
 abbrev pub read_fails : SourceState → Bool
-read_fails s = is_listed s.failing s.calls
+read_fails s = fails_after s.failing s.calls
 
 -- how many bytes a call gives that does not fail and has room for so many
 abbrev pub read_count : SourceState → ℕ → ℕ
@@ -40,9 +44,13 @@ pub record SinkState : Type 0 where
   pub calls : ℕ
   pub faults : ℕ
 
+-- a sink that was not called yet
+abbrev pub fresh_sink : ℕ → ℕ → List ℕ → SinkState
+fresh_sink room step failing = record { kept = []; room = room; step = step; failing = failing; calls = 0; faults = 0 }
+
 -- the next call fails, at a piece: its number is listed, or the piece is not empty and there is no room
 abbrev pub write_fails : SinkState → List ℕ → Bool
-write_fails s piece = is_listed s.failing s.calls || (nat_lt 0 (length piece) && nat_le s.room (length s.kept))
+write_fails s piece = fails_after s.failing s.calls || (nat_lt 0 (length piece) && nat_le s.room (length s.kept))
 
 -- how many bytes of a piece a call takes that does not fail
 abbrev pub write_count : SinkState → List ℕ → ℕ

@@ -3,16 +3,16 @@ ghost use Rattle.std.specs.Prelude.{◌≡◌, ◌<◌, ◌≤◌, ◌↔◌, �
 ghost use Rattle.std.specs.Io.{WritesAtMost};
 ghost use Rattle.std.specs.Io.KnownBytes.{WriteAppends};
 ghost use Rattle.shq_io.specs.Causes.{HasCause};
-ghost use Rattle.shq_io.specs.Memory.{write_fails, write_count, after_write};
+ghost use Rattle.shq_io.specs.Memory.{fresh_sink, write_fails, write_count, after_write};
 
-use crate::calls::is_listed;
+use crate::calls::fails_at;
 use crate::{Sink, SinkFailed};
 use shq_base::NoMemory;
 use std::alloc::Global;
 use std::marker::Model;
 
-/// Room for bytes in memory, which takes at most `step` at a call. The calls that are listed, counted from 1, fail,
-/// and so does a call with a piece that is not empty where all the room is taken.
+/// Room for bytes in memory, which takes at most `step` of them at a call. The listed calls, counted from 1, fail, and so
+/// does a call with a piece that is not empty where all the room is taken.
 #[derive(Drop)]
 pub struct MemSink {
     bytes: Vec<u8>,
@@ -42,11 +42,15 @@ impl Model for MemSink {
 }
 
 impl MemSink {
-    /// A sink with room for so many bytes, whose memory it takes. `step` is at least 1, and `failing` lists the
-    /// calls that fail, counted from 1.
+    /// A sink with room for so many bytes. It takes the memory for them now, and `write` takes none. `step` is at
+    /// least 1, and `failing` lists the calls that fail, counted from 1.
+    ///
+    /// # Errors
+    ///
+    /// `NoMemory` where the allocator refuses the room or the list.
     pub fn new(alloc: Global, room: u32, step: u32, failing: &[u32]) -> Result<MemSink, NoMemory>
         requires { 1 ≤ step }
-        ensures { IfOk result (λ s. s ≡ record { kept = []; room = room; step = step; failing = failing.now; calls = 0; faults = 0 }) }
+        ensures { IfOk result (λ s. s ≡ fresh_sink room step failing.now) }
     {
         Ok(MemSink {
             bytes: Vec::with_capacity(alloc, room as usize)?,
@@ -77,15 +81,15 @@ impl Sink for MemSink {
         ensures progress { IfOk result (λ n. 0 < length piece.now → 0 < n) }
         ensures cause { HasCause self.old.faults self.new.faults result }
 
-        // Exactly the calls that are listed and those without room fail, and the others take as much as is offered,
-        // fits and the step allows.
+        // Exactly the listed calls and those without room fail, and the others take as much as is offered, fits and the
+        // step allows.
         ensures fails { IsErr result ↔ IsTrue (write_fails self.old piece.now) }
         ensures count { IfOk result (λ n. n ≡ write_count self.old piece.now) }
         ensures after { self.new ≡ after_write self.old piece.now }
     {
         self.calls = self.calls.saturating_add(1);
         let free = (self.room as usize).saturating_sub(self.bytes.len());
-        if is_listed(&self.failing, self.calls) || (free == 0 && !piece.is_empty()) {
+        if fails_at(&self.failing, self.calls) || (free == 0 && !piece.is_empty()) {
             self.faults = self.faults.saturating_add(1);
             return Err(SinkFailed);
         }

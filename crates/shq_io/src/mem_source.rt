@@ -3,15 +3,15 @@ ghost use Rattle.std.specs.Prelude.{◌≡◌, ◌<◌, ◌≤◌, ◌↔◌, �
 ghost use Rattle.std.specs.Io.{ReadsAtMost};
 ghost use Rattle.std.specs.Io.KnownBytes.{ReadConsumes};
 ghost use Rattle.shq_io.specs.Causes.{HasCause};
-ghost use Rattle.shq_io.specs.Memory.{read_fails, read_count, after_read};
+ghost use Rattle.shq_io.specs.Memory.{fresh_source, read_fails, read_count, after_read};
 
-use crate::calls::is_listed;
+use crate::calls::fails_at;
 use crate::{Source, SourceFailed};
 use shq_base::NoMemory;
 use std::alloc::Global;
 use std::marker::Model;
 
-/// Bytes in memory, given at most `step` at a call. The calls that are listed, counted from 1, fail.
+/// Bytes in memory, given at most `step` at a call. The listed calls, counted from 1, fail.
 #[derive(Drop)]
 pub struct MemSource {
     bytes: Vec<u8>,
@@ -39,7 +39,7 @@ impl Model for MemSource {
     ghost invariant = { λ s. (s.place ≤ length s.bytes.items) × (1 ≤ s.step) };
 }
 
-// Copies the first bytes, as many as there are, as fit and as the step allows.
+/// Copies the first bytes, as many as there are, fit and the step allows, and answers how many these are.
 fn give(rest: &[u8], buf: &mut [u8], step: usize) -> usize
     requires { 1 ≤ step }
     ensures count { result ≡ min (min (length rest.now) (length buf.old)) step }
@@ -52,6 +52,10 @@ fn give(rest: &[u8], buf: &mut [u8], step: usize) -> usize
 
 impl MemSource {
     /// A source of these bytes. `step` is at least 1, and `failing` lists the calls that fail, counted from 1.
+    ///
+    /// # Errors
+    ///
+    /// `NoMemory` where the allocator refuses a copy of either list.
     pub fn new(
         alloc: Global,
         bytes: &[u8],
@@ -59,7 +63,7 @@ impl MemSource {
         failing: &[u32],
     ) -> Result<MemSource, NoMemory>
         requires { 1 ≤ step }
-        ensures { IfOk result (λ s. s ≡ record { unread = bytes.now; step = step; failing = failing.now; calls = 0; faults = 0 }) }
+        ensures { IfOk result (λ s. s ≡ fresh_source bytes.now step failing.now) }
     {
         Ok(MemSource {
             bytes: bytes.to_vec(alloc)?,
@@ -82,13 +86,13 @@ impl Source for MemSource {
         ensures bytes { ReadConsumes (Some self.old.unread) (Some self.new.unread) result buf.new }
         ensures cause { HasCause self.old.faults self.new.faults result }
 
-        // Exactly the calls that are listed fail, and the others give as much as there is, fits and the step allows.
+        // Exactly the listed calls fail, and the others give as much as there is, fits and the step allows.
         ensures fails { IsErr result ↔ IsTrue (read_fails self.old) }
         ensures count { IfOk result (λ n. n ≡ read_count self.old (length buf.old)) }
         ensures after { self.new ≡ after_read self.old (length buf.old) }
     {
         self.calls = self.calls.saturating_add(1);
-        if is_listed(&self.failing, self.calls) {
+        if fails_at(&self.failing, self.calls) {
             self.faults = self.faults.saturating_add(1);
             return Err(SourceFailed);
         }

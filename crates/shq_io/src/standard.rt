@@ -1,14 +1,14 @@
 // The edge to the streams of std: a source over a reader, and a sink over a writer.
-ghost use Rattle.std.specs.Prelude.{◌≡◌, ◌<◌, ◌≤◌, length, take, None, IfOk, if◌then◌else◌, is_err};
+ghost use Rattle.std.specs.Prelude.{◌≡◌, ◌<◌, ◌≤◌, length, None, IfOk};
 ghost use Rattle.std.specs.Io.{ReadsAtMost, WritesAtMost};
-ghost use Rattle.std.specs.Io.KnownBytes.{ReadConsumes, WriteAppends, Appends};
-ghost use Rattle.shq_io.specs.Causes.{HasCause, one_more};
+ghost use Rattle.std.specs.Io.KnownBytes.{ReadConsumes, WriteAppends};
+ghost use Rattle.shq_io.specs.Causes.{HasCause, faults_after};
 
 use crate::{Sink, SinkFailed, Source, SourceFailed};
 use std::io::{Read, Write};
 
-/// A source over a reader of std. It tells the bytes that are left where the reader does, which a file or a
-/// terminal does not.
+/// A source over a reader of std. It tells the bytes that are left where the reader does; a file or a terminal tells
+/// none.
 #[derive(Drop)]
 pub struct StdSource<R> {
     inner: R,
@@ -16,11 +16,11 @@ pub struct StdSource<R> {
 }
 
 impl<R: Read> StdSource<R> {
-    ghost use Rattle.shq_io.specs.Standard.{reader_of, source_faults};
+    ghost use Rattle.shq_io.specs.Standard.{reader, source_faults};
 
     /// A source over this reader, without a fault so far.
     pub fn new(inner: R) -> StdSource<R>
-        ensures reader { reader_of result ≡ inner }
+        ensures reader { reader result ≡ inner }
         ensures no_fault { source_faults result ≡ 0 }
     {
         StdSource { inner, faults: 0 }
@@ -28,7 +28,7 @@ impl<R: Read> StdSource<R> {
 }
 
 impl<R: Read> Source for StdSource<R> {
-    ghost use Rattle.shq_io.specs.Standard.{reader_of, source_faults};
+    ghost use Rattle.shq_io.specs.Standard.{reader, source_faults};
 
     ghost left = { λ s. R.remaining s.inner };
 
@@ -36,11 +36,11 @@ impl<R: Read> Source for StdSource<R> {
 
     fn read(&mut self, buf: &mut [u8]) -> Result<usize, SourceFailed>
         ensures bound { ReadsAtMost result buf.new }
-        ensures bytes { ReadConsumes (R.remaining (reader_of self.old)) (R.remaining (reader_of self.new)) result buf.new }
+        ensures bytes { ReadConsumes (R.remaining (reader self.old)) (R.remaining (reader self.new)) result buf.new }
         ensures cause { HasCause (source_faults self.old) (source_faults self.new) result }
 
         // The count rises by one at a failure, and stands still otherwise.
-        ensures counted { source_faults self.new ≡ (if is_err result then one_more (source_faults self.old) else source_faults self.old) }
+        ensures counted { source_faults self.new ≡ faults_after result (source_faults self.old) }
     {
         match self.inner.read(buf) {
             Ok(count) => Ok(count),
@@ -52,8 +52,8 @@ impl<R: Read> Source for StdSource<R> {
     }
 }
 
-/// A sink over a writer of std, which flushes after each write. It tells no bytes: where the flush fails the writer
-/// may have taken some.
+/// A sink over a writer of std. It flushes after each write, and counts a write of no bytes of a piece that is not empty
+/// as a fault. It tells no bytes, since the writer may have taken some where its flush then fails.
 #[derive(Drop)]
 pub struct StdSink<W> {
     inner: W,
@@ -61,11 +61,11 @@ pub struct StdSink<W> {
 }
 
 impl<W: Write> StdSink<W> {
-    ghost use Rattle.shq_io.specs.Standard.{writer_of, sink_faults};
+    ghost use Rattle.shq_io.specs.Standard.{writer, sink_faults};
 
     /// A sink over this writer, without a fault so far.
     pub fn new(inner: W) -> StdSink<W>
-        ensures writer { writer_of result ≡ inner }
+        ensures writer { writer result ≡ inner }
         ensures no_fault { sink_faults result ≡ 0 }
     {
         StdSink { inner, faults: 0 }
@@ -73,7 +73,7 @@ impl<W: Write> StdSink<W> {
 }
 
 impl<W: Write> Sink for StdSink<W> {
-    ghost use Rattle.shq_io.specs.Standard.{writer_of, sink_faults};
+    ghost use Rattle.shq_io.specs.Standard.{writer, sink_faults, HasGrown};
 
     ghost taken = { λ s. None };
 
@@ -86,10 +86,10 @@ impl<W: Write> Sink for StdSink<W> {
         ensures cause { HasCause (sink_faults self.old) (sink_faults self.new) result }
 
         // The count rises by one at a failure, and stands still otherwise.
-        ensures counted { sink_faults self.new ≡ (if is_err result then one_more (sink_faults self.old) else sink_faults self.old) }
+        ensures counted { sink_faults self.new ≡ faults_after result (sink_faults self.old) }
 
-        // What the writer holds has grown by what was taken.
-        ensures written { IfOk result (λ n. Appends (W.contents (writer_of self.old)) (W.contents (writer_of self.new)) (take n piece.now)) }
+        // Where the writer tells its bytes, they have grown by what was taken.
+        ensures written { HasGrown (W.contents (writer self.old)) (W.contents (writer self.new)) result piece.now }
     {
         match self.inner.write(piece) {
             Ok(count) if count > 0 || piece.is_empty() => {

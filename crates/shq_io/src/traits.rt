@@ -6,41 +6,49 @@ ghost use Rattle.shq_io.specs.Causes.{HasCause};
 
 use thiserror::Error;
 
-/// A source failed at a call, and gave nothing at it.
+/// A source failed at a call. It gave no bytes at it.
 #[derive(Clone, Copy, Debug, PartialEq, Eq, Error)]
 #[error("the source failed")]
 pub struct SourceFailed;
 
-/// A sink failed at a call, and took nothing at it.
+/// A sink failed at a call. Where it tells its bytes, it took none at the call.
 #[derive(Clone, Copy, Debug, PartialEq, Eq, Error)]
 #[error("the sink failed")]
 pub struct SinkFailed;
 
-/// Gives bytes in order, and counts its faults.
+/// Gives bytes in order, and counts the calls that failed.
 pub trait Source {
     /// The bytes that are left, where the source tells them.
     ghost left: { Self → Option (List ℕ) };
 
-    /// How often the source has failed. The count never falls, and stands still at its type's end.
+    /// How many calls have failed. The count never falls, and stands still at the greatest u64.
     ghost faults: { Self → ℕ };
 
-    /// Fills a front of the buffer with the first of the bytes that are left, and answers how many it gave.
+    /// Puts the first of the bytes that are left at the start of the buffer, and answers how many they are.
     /// `Ok(0)` on a buffer that is not empty is the end of the input.
+    ///
+    /// # Errors
+    ///
+    /// `SourceFailed` only where `faults` rose in the call, or stands at the greatest u64.
     fn read(&mut self, buf: &mut [u8]) -> Result<usize, SourceFailed>
         ensures bound { ReadsAtMost result buf.new }
         ensures bytes { ReadConsumes (left self.old) (left self.new) result buf.new }
         ensures cause { HasCause (faults self.old) (faults self.new) result };
 }
 
-/// Takes bytes in order, and counts its faults.
+/// Takes bytes in order, and counts the calls that failed.
 pub trait Sink {
     /// The bytes that were taken, where the sink tells them.
     ghost taken: { Self → Option (List ℕ) };
 
-    /// How often the sink has failed. The count never falls, and stands still at its type's end.
+    /// How many calls have failed. The count never falls, and stands still at the greatest u64.
     ghost faults: { Self → ℕ };
 
-    /// Takes a front of the piece, at least one byte of a piece that is not empty, and answers how many it took.
+    /// Takes the first bytes of the piece, at least one where it is not empty, and answers how many it took.
+    ///
+    /// # Errors
+    ///
+    /// `SinkFailed` only where `faults` rose in the call, or stands at the greatest u64.
     fn write(&mut self, piece: &[u8]) -> Result<usize, SinkFailed>
         ensures bound { WritesAtMost result piece.now }
         ensures bytes { WriteAppends (taken self.old) (taken self.new) result piece.now }

@@ -1,7 +1,7 @@
 // Reading to the end, and writing a whole text.
 ghost use Rattle.std.specs.Prelude.{◌≡◌, ◌<◌, ◌≤◌, ◌+◌, ℕ, length, IfOk, IfSome, OnOk, OnErr, Err};
 ghost use Rattle.std.specs.Io.KnownBytes.{Consumes, Appends, IsAtEnd};
-ghost use Rattle.shq_io.specs.Causes.{HasCause, Rose, TakesOut, TakesOutAtMost, TakesFront};
+ghost use Rattle.shq_io.specs.Causes.{HasCause, Rose, TakesOut, TakesOutAtMost, TakesPrefix};
 
 use crate::{Sink, SinkFailed, Source, SourceFailed};
 use std::alloc::{AllocError, Global};
@@ -10,11 +10,14 @@ use thiserror::Error;
 /// Why not all was read.
 #[derive(Clone, Copy, Debug, PartialEq, Eq, Error)]
 pub enum ReadEnd {
+    /// A call of the source failed.
     #[error("the source failed")]
     Fault,
+    /// The source gave more bytes than the limit.
     #[error("the source has more bytes than the limit")]
     TooLong,
-    #[error("memory was refused")]
+    /// Out of memory.
+    #[error("out of memory")]
     NoMemory,
 }
 
@@ -40,7 +43,7 @@ impl From<AllocError> for ReadEnd {
     }
 }
 
-/// The sink failed before the whole text was taken.
+/// A call of the sink failed before the whole text was taken.
 #[derive(Clone, Copy, Debug, PartialEq, Eq, Error)]
 #[error("the sink failed")]
 pub struct WriteFailed;
@@ -51,22 +54,24 @@ impl From<SinkFailed> for WriteFailed {
     }
 }
 
-// How many bytes a read offers room for.
+/// How many bytes a read offers room for, at most.
 const CHUNK: usize = 4096;
 
-/// Reads to the end, where there are at most `limit` bytes.
+/// Reads to the end a source of at most `limit` bytes, and answers all of them.
 ///
-/// Each read offers room for 4,096 bytes, or for as many as are left to the limit plus 1 where that is fewer.
+/// Each read offers room for 4,096 bytes, or for as many as are missing to `limit + 1` where these are fewer.
 ///
 /// # Errors
 ///
-/// `Fault` where the source failed, `TooLong` where more than `limit` bytes were given, and `NoMemory`.
+/// `Fault` where a call of the source failed: its count of faults then rose, or stands at the greatest u64. `TooLong`
+/// exactly where `limit + 1` bytes were given; no more are taken then. `NoMemory` where there is no room for what was
+/// given. After each of them at most `limit + 1` bytes were taken out of the source.
 pub fn read_all<S: Source>(alloc: Global, source: &mut S, limit: u32) -> Result<Vec<u8>, ReadEnd>
     ensures whole { IfOk result (λ bytes. Consumes (S.left source.old) (S.left source.new) bytes.items) }
     ensures ended { OnOk result (IsAtEnd (S.left source.new)) }
     ensures bounded { IfOk result (λ bytes. length bytes.items ≤ limit) }
 
-    // Where the source tells its bytes, only as many as the limit allows are read to the end, and only more are too long.
+    // Where the source tells its bytes, at most `limit` of them are read to the end, and only more are too long.
     ensures fits { OnOk result (IfSome (S.left source.old) (λ bytes. length bytes ≤ limit)) }
     ensures longer { result ≡ Err ReadEnd.TooLong → IfSome (S.left source.old) (λ bytes. limit < length bytes) }
 
@@ -89,14 +94,15 @@ pub fn read_all<S: Source>(alloc: Global, source: &mut S, limit: u32) -> Result<
     Err(ReadEnd::TooLong)
 }
 
-/// Writes the whole text. Each write offers all that is left, and no memory is taken.
+/// Writes the whole text. Each write offers all that is left of it, and no memory is taken.
 ///
 /// # Errors
 ///
-/// `WriteFailed` where the sink failed. A front of the text was taken then.
+/// `WriteFailed` where a call of the sink failed: its count of faults then rose, or stands at the greatest u64. The sink
+/// took a prefix of the text, if any of it.
 pub fn write_whole<K: Sink>(sink: &mut K, text: &[u8]) -> Result<(), WriteFailed>
     ensures whole { OnOk result (Appends (K.taken sink.old) (K.taken sink.new) text.now) }
-    ensures front { OnErr result (TakesFront text.now (K.taken sink.old) (K.taken sink.new)) }
+    ensures prefix { OnErr result (TakesPrefix text.now (K.taken sink.old) (K.taken sink.new)) }
     ensures cause { HasCause (K.faults sink.old) (K.faults sink.new) result }
 {
     let mut done = 0;

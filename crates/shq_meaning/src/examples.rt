@@ -1,11 +1,12 @@
-// Examples that were worked out by hand.
+// Small interpretations in which the meaning of axioms and class expressions was worked out by hand.
 ghost use Rattle.std.specs.Prelude.{IsTrue, IsFalse, [], ◌∷◌};
 ghost use Rattle.shq_base.specs.Concept.{top, name, complement, some_of, all_of, at_most, exactly};
 ghost use Rattle.shq_terms.specs.declared.axioms.Axiom.TheVariants as axioms;
 ghost use Rattle.shq_meaning.specs.Truth.{holds, meets, refutes_at};
 ghost use Rattle.shq_meaning.specs.Examples.{complete, path, two_successors, split, split_twice, others, is_nothing};
 
-/// Each clause is an example of its own.
+/// Each clause is an example of its own: an axiom that an interpretation meets or breaks, or an element that is in a class
+/// expression or outside.
 pub fn examples_hold()
     ensures two_are_counted { IsTrue (meets (complete 2) two_successors) }
     ensures one_is_not_two { IsFalse (meets (complete 1) two_successors) }

@@ -5,6 +5,7 @@ use Rattle.std.specs.List.{prefix_len, list_any}
 use Rattle.std.specs.Str.{bytes_eq}
 use Rattle.std.proofs.lemmas.Slice.Eq.{bytes_eq-Decides}
 use Rattle.std.proofs.lemmas.Option.{slice_get_within}
+use Rattle.std.proofs.lemmas.Bool.{cases_lt}
 use Rattle.std.proofs.lemmas.Bool.Decides.{nat_tests}
 use Rattle.shq_terms.specs.Names.{with_at, with_name}
 use Rattle.shq_terms.specs.Distinct.{AreDistinct}
@@ -55,13 +56,7 @@ absent : (names : List (List ℕ)) (w : List ℕ) (i : ℕ) → position (bytes_
 absent names w i none at = let clash : true ≡ false = sym (found_any names w i at) ∙ list_any-none (bytes_eq w) names none in absurd (cc clash)
 
 before_or_last : (i n : ℕ) → i < n + 1 → (i < n) ⊎ (i ≡ n)
-before_or_last zero zero less = inr refl
-before_or_last zero (suc n) less = inl (omega arith)
-before_or_last (suc i) zero less = absurd (omega arith)
-before_or_last (suc i) (suc n) less = elim (before_or_last i n (omega arith)) [
-  | inl lt ↦ inl (omega arith)
-  | inr same ↦ inr (ap suc same)
-]
+before_or_last i n less = elim (cases_lt i n) [ inl lt ↦ inl lt | inr past ↦ inr (omega arith) ]
 
 module _ (names : List (List ℕ)) (w : List ℕ) (none : position (bytes_eq w) names ≡ None) (distinct : AreDistinct names) where
   last : (k : ℕ) → k ≡ length names → slice_get (names ++ w ∷ []) k ≡ Some w

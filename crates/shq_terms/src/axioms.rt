@@ -2,7 +2,8 @@
 
 use crate::{Concept, ConceptList, NumberList};
 
-/// A numbered axiom (OWL 2 Structural Specification, sections 9.1 and 9.2), in which classes and roles are numbers.
+/// A class axiom or an object property axiom (OWL 2 Structural Specification, sections 9.1 and 9.2) of a kind that SHQ
+/// has. Classes and roles are numbers.
 #[derive(Drop)]
 pub enum Axiom {
     SubClassOf(Concept, Concept),
@@ -17,14 +18,14 @@ pub enum Axiom {
     Transitive(u32),
 }
 
-/// An axiom with the line on which it stands.
+/// An axiom with the line on which it stands, counted from 1. Its number is its place in the ontology.
 #[derive(Drop)]
 pub struct Numbered {
     pub axiom: Axiom,
     pub line: u32,
 }
 
-/// Whether each element of the one class is in the other.
+/// The question whether each element of `sub` is an element of `sup`, in each model of the axioms.
 #[derive(Drop)]
 pub struct Query {
     pub sub: Concept,

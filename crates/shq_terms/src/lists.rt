@@ -6,7 +6,7 @@ use smallvec::SmallVec;
 use std::alloc::Global;
 use std::marker::Model;
 
-/// Puts an item last, or changes nothing and lets the item go.
+/// Puts an item last, or changes nothing and drops the item.
 pub(crate) fn push_item<T: Drop>(items: &mut Vec<T>, item: T) -> Result<(), NoMemory>
     ensures pushed { OnOk result (items.new.items ≡ items.old.items ++ item ∷ []) }
     ensures unchanged { OnErr result (items.new.items ≡ items.old.items) }
@@ -44,7 +44,7 @@ impl ConceptList {
         }
     }
 
-    /// Puts the item last, or changes nothing.
+    /// Puts the item last. Out of memory, it changes nothing.
     pub fn push(&mut self, item: Concept) -> Result<(), NoMemory>
         ensures pushed { OnOk result (self.new ≡ self.old ++ item ∷ []) }
         ensures unchanged { OnErr result (self.new ≡ self.old) }
@@ -53,6 +53,7 @@ impl ConceptList {
         Ok(())
     }
 
+    /// The class expressions, in order.
     pub fn items(&self) -> &[Concept]
         ensures { result.now ≡ self.now }
     {
@@ -60,7 +61,7 @@ impl ConceptList {
     }
 }
 
-/// Numbers in order. The first four are kept in place.
+/// Numbers in order. Up to four take no memory of their own.
 #[derive(Drop)]
 pub struct NumberList {
     numbers: SmallVec<u32, 4>,
@@ -84,7 +85,7 @@ impl NumberList {
         }
     }
 
-    /// Puts the item last, or changes nothing.
+    /// Puts the item last. Out of memory, it changes nothing.
     pub fn push(&mut self, item: u32) -> Result<(), NoMemory>
         ensures pushed { OnOk result (self.new ≡ self.old ++ item ∷ []) }
         ensures unchanged { OnErr result (self.new ≡ self.old) }
@@ -93,6 +94,7 @@ impl NumberList {
         Ok(())
     }
 
+    /// The numbers, in order.
     pub fn items(&self) -> &[u32]
         ensures { result.now ≡ self.now }
     {

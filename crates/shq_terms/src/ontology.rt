@@ -1,12 +1,12 @@
 // The numbered axioms of a document, with the names of its classes and roles.
-ghost use Rattle.std.specs.Prelude.{◌≡◌, ◌<◌, ◌≤◌, ◌+◌, ◌-◌, ◌↔◌, [], ◌∷◌, ◌++◌, IsTrue, OnOk, OnErr, IfOk, Err, length, take, slice_get, Some, None, position};
+ghost use Rattle.std.specs.Prelude.{◌≡◌, ◌<◌, ◌≤◌, ◌+◌, ◌-◌, ◌↔◌, [], IsTrue, OnOk, OnErr, IfOk, Err, length, slice_get, Some, position};
 ghost use Rattle.std.specs.Str.{bytes_eq};
-ghost use Rattle.shq_terms.specs.Names.{number_of, with_name};
+ghost use Rattle.shq_terms.specs.Names.{number_of, with_name, HasNoRoomFor};
 ghost use Rattle.shq_terms.specs.Uses.{axiom_uses_listed, all_use_listed};
 ghost use Rattle.shq_terms.specs.Distinct.{AreDistinct};
 
 use crate::lists::push_item;
-use crate::names::NameList;
+use crate::name_list::NameList;
 use crate::{AddFault, Axiom, Numbered};
 use std::alloc::Global;
 use std::marker::Model;
@@ -49,7 +49,7 @@ impl Model for Ontology {
 }
 
 impl Ontology {
-    ghost use Rattle.shq_terms.specs.Listed.{Listed};
+    ghost use Rattle.shq_terms.specs.Listed.{Listed, with_axiom, with_names_cut};
 
     /// No axioms and no names.
     pub fn new(alloc: Global) -> Ontology
@@ -62,6 +62,7 @@ impl Ontology {
         }
     }
 
+    /// How many axioms there are.
     pub fn axiom_count(&self) -> u32
         ensures count { result ≡ length self.now.axioms }
         ensures within { result ≤ MAX_AXIOMS }
@@ -69,6 +70,7 @@ impl Ontology {
         self.axioms.len() as u32
     }
 
+    /// How many class names are listed.
     pub fn class_count(&self) -> u32
         ensures count { result ≡ length self.now.classes }
         ensures within { result ≤ MAX_CLASSES }
@@ -77,6 +79,7 @@ impl Ontology {
         self.classes.len()
     }
 
+    /// How many role names are listed.
     pub fn role_count(&self) -> u32
         ensures count { result ≡ length self.now.roles }
         ensures within { result ≤ MAX_ROLES }
@@ -148,33 +151,45 @@ impl Ontology {
     }
 
     /// The number of a class. A listed name keeps its number, and a new name goes last.
+    ///
+    /// # Errors
+    ///
+    /// `Full` exactly where the name is new and `MAX_CLASSES` names are listed; `NoMemory`.
     pub fn add_class(&mut self, iri: &str) -> Result<u32, AddFault>
         ensures number { IfOk result (λ k. k ≡ number_of self.old.classes iri.now) }
         ensures added { OnOk result (self.new ≡ record self.old { classes = with_name self.old.classes iri.now }) }
         ensures within { length self.new.classes ≤ MAX_CLASSES }
         ensures unchanged { OnErr result (self.new ≡ self.old) }
-        ensures full { (result ≡ Err AddFault.Full) ↔ ((MAX_CLASSES ≤ length self.old.classes) × (position (bytes_eq iri.now) self.old.classes ≡ None)) }
+        ensures full { (result ≡ Err AddFault.Full) ↔ HasNoRoomFor MAX_CLASSES self.old.classes iri.now }
     {
         self.classes.add(iri, MAX_CLASSES)
     }
 
     /// The number of a role. A listed name keeps its number, and a new name goes last.
+    ///
+    /// # Errors
+    ///
+    /// `Full` exactly where the name is new and `MAX_ROLES` names are listed; `NoMemory`.
     pub fn add_role(&mut self, iri: &str) -> Result<u32, AddFault>
         ensures number { IfOk result (λ k. k ≡ number_of self.old.roles iri.now) }
         ensures added { OnOk result (self.new ≡ record self.old { roles = with_name self.old.roles iri.now }) }
         ensures within { length self.new.roles ≤ MAX_ROLES }
         ensures unchanged { OnErr result (self.new ≡ self.old) }
-        ensures full { (result ≡ Err AddFault.Full) ↔ ((MAX_ROLES ≤ length self.old.roles) × (position (bytes_eq iri.now) self.old.roles ≡ None)) }
+        ensures full { (result ≡ Err AddFault.Full) ↔ HasNoRoomFor MAX_ROLES self.old.roles iri.now }
     {
         self.roles.add(iri, MAX_ROLES)
     }
 
-    /// Puts an axiom last and answers its number. The axiom's names are listed.
+    /// Puts an axiom last and answers its number. The axiom uses listed names alone.
+    ///
+    /// # Errors
+    ///
+    /// `Full` exactly where there are `MAX_AXIOMS` axioms; `NoMemory`. The axiom is dropped then.
     #[tactic(auto, using(crate::proofs::Uses::all_use_push))]
     pub fn add_axiom(&mut self, axiom: Axiom, line: u32) -> Result<u32, AddFault>
         requires { IsTrue (axiom_uses_listed (length self.old.classes) (length self.old.roles) «axiom») }
         ensures number { IfOk result (λ n. n ≡ length self.old.axioms + 1) }
-        ensures added { OnOk result (self.new ≡ record self.old { axioms = self.old.axioms ++ record { «axiom» = «axiom»; line = line } ∷ [] }) }
+        ensures added { OnOk result (self.new ≡ with_axiom self.old «axiom» line) }
         ensures unchanged { OnErr result (self.new ≡ self.old) }
         ensures full { (result ≡ Err AddFault.Full) ↔ (length self.old.axioms ≡ MAX_AXIOMS) }
     {
@@ -187,13 +202,13 @@ impl Ontology {
         Ok(self.axioms.len() as u32)
     }
 
-    /// Keeps the first names of each kind alone. No axiom uses a name that is cut.
+    /// Keeps the first `classes` class names and the first `roles` role names. No axiom uses a name that is cut.
     #[tactic(auto, using(crate::proofs::Distinct::taken_distinct))]
     pub fn cut_names(&mut self, classes: u32, roles: u32)
         requires classes { classes ≤ length self.old.classes }
         requires roles { roles ≤ length self.old.roles }
         requires unused { IsTrue (all_use_listed classes roles self.old.axioms) }
-        ensures { self.new ≡ record self.old { classes = take classes self.old.classes; roles = take roles self.old.roles } }
+        ensures { self.new ≡ with_names_cut self.old classes roles }
     {
         self.classes.truncate(classes);
         self.roles.truncate(roles);

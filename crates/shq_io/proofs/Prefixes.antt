@@ -1,4 +1,4 @@
--- Longer fronts, of what a source gave and of what a sink took.
+-- More bytes that a source gave, and longer prefixes that a sink took.
 use Rattle.std.proofs.Common.{◌≡◌, ℕ, ◌+◌, ◌-◌, ◌≤◌, List, length, take, drop, ◌++◌, length-drop, length-append, subst, sym, arith}
 use Rattle.std.proofs.Math.Seq.{take-add}
 use Rattle.std.proofs.lemmas.List.{take_all}
@@ -7,13 +7,13 @@ use Rattle.std.specs.Prelude.{Option, Result, Ok, Err, OnErr}
 use Rattle.std.specs.Io.KnownBytes.{Appends, Consumes}
 use Rattle.shq_io.specs.Causes.{TakesOutAtMost}
 
--- a sink that took a front of a text, and then a front of the rest, took a longer front
-pub Appends-front : (a b c : Option (List ℕ)) (text : List ℕ) (done count : ℕ) → Appends a b (take done text) → Appends b c (take count (take (length text - done) (drop done text))) → Appends a c (take (done + count) text)
-Appends-front a b c text done count first second =
+-- a sink that took a prefix of a text, and then a prefix of the rest, took a longer prefix
+pub Appends-prefix : (a b c : Option (List ℕ)) (text : List ℕ) (done count : ℕ) → Appends a b (take done text) → Appends b c (take count (take (length text - done) (drop done text))) → Appends a c (take (done + count) text)
+Appends-prefix a b c text done count first second =
     let rest : take (length text - done) (drop done text) ≡ drop done text = take_all (length text - done) (drop done text) (omega (arith, length-drop done text)) in
     subst (Appends a c) (sym (take-add done count text)) (Appends-trans a b c (take done text) (take count (drop done text)) first (subst (λ l. Appends b c (take count l)) rest second))
 
--- what holds anyhow holds after a failure
+-- what holds in any case holds after a failure
 pub OnErr-intro : {T E : Type 0} (r : Result T E) (P : Type 0) → P → OnErr r P
 OnErr-intro (Ok x) P p = tt
 OnErr-intro (Err e) P p = p

@@ -1,7 +1,7 @@
-// A list of names, each once, which contracts see as the list of their bytes.
+// Names, each once, which contracts see as the list of their bytes.
 ghost use Rattle.std.specs.Prelude.{◌≡◌, take, max, ◌<◌, ◌≤◌, ◌↔◌, Err, [], ◌∷◌, ◌++◌, OnOk, OnErr, IfOk, length, slice_get, slice_index_or, option_map, Some, None, position, map, string_bytes};
 ghost use Rattle.std.specs.Str.{bytes_eq};
-ghost use Rattle.shq_terms.specs.Names.{number_of, with_name};
+ghost use Rattle.shq_terms.specs.Names.{number_of, with_name, HasNoRoomFor};
 
 use crate::{AddFault, NoMemory};
 use indexmap::IndexSet;
@@ -43,7 +43,7 @@ impl NameList {
         self.names.len() as u32
     }
 
-    /// The number of a name.
+    /// The number of a name. `None` exactly where it is not listed.
     pub(crate) fn number(&self, name: &str) -> Option<u32>
         ensures { result ≡ position (bytes_eq name.now) self.now }
     {
@@ -53,7 +53,7 @@ impl NameList {
         }
     }
 
-    /// The number of a name that is given by its bytes, which may be no text.
+    /// The number of the name with these bytes, which may be no text. `None` exactly where none is listed.
     pub(crate) fn number_of_bytes(&self, name: &[u8]) -> Option<u32>
         ensures { result ≡ position (bytes_eq name.now) self.now }
     {
@@ -77,7 +77,7 @@ impl NameList {
         }
     }
 
-    /// The first names alone.
+    /// Keeps the first names alone.
     #[tactic(auto, using(crate::proofs::Cut::map_take))]
     pub(crate) fn truncate(&mut self, len: u32)
         ensures { self.new ≡ take len self.old }
@@ -85,13 +85,13 @@ impl NameList {
         self.names.truncate(len as usize);
     }
 
-    /// A listed name keeps its number, and a new name goes last, unless the list holds its limit.
+    /// The number of a name. A listed name keeps its number, and a new name goes last, unless the list holds its limit.
     pub(crate) fn add(&mut self, name: &str, limit: u32) -> Result<u32, AddFault>
         ensures number { IfOk result (λ k. k ≡ number_of self.old name.now) }
         ensures added { OnOk result (self.new ≡ with_name self.old name.now) }
         ensures room { OnOk result (length self.new ≤ max limit (length self.old)) }
         ensures unchanged { OnErr result (self.new ≡ self.old) }
-        ensures full { (result ≡ Err AddFault.Full) ↔ ((limit ≤ length self.old) × (position (bytes_eq name.now) self.old ≡ None)) }
+        ensures full { (result ≡ Err AddFault.Full) ↔ HasNoRoomFor limit self.old name.now }
     {
         if let Some(number) = self.number(name) {
             return Ok(number);
@@ -106,7 +106,7 @@ impl NameList {
     }
 }
 
-// Puts a new name last, or changes nothing.
+/// Puts a new name last. Out of memory, it changes nothing.
 fn insert_new(names: &mut IndexSet<String>, name: String) -> Result<(), NoMemory>
     requires { position (bytes_eq (string_bytes name)) (map string_bytes names.old.keys) ≡ None }
     ensures pushed { OnOk result (names.new.keys ≡ names.old.keys ++ name ∷ []) }
