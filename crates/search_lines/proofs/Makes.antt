@@ -22,7 +22,7 @@ use Rattle.search_lines.proofs.Lines.{at_shape}
 
 -- ---- the number of nodes after new ones
 
-count-append : (fs gs : List (Fact ℕ)) → node_count (fs ++ gs) ≡ max (node_count fs) (node_count gs)
+pub count-append : (fs gs : List (Fact ℕ)) → node_count (fs ++ gs) ≡ max (node_count fs) (node_count gs)
 count-append [] gs = omega (arith, count_pos gs)
 count-append (Has x c ∷ fs) gs = count-append fs gs
 count-append (Edge r x y ∷ fs) gs = omega (arith, count-append fs gs)
@@ -41,7 +41,7 @@ count-nodes : (x s e first n : ℕ) (rest : List (Fact ℕ)) → node_count rest
 count-nodes x s e first zero rest one pos = omega (arith, one, pos)
 count-nodes x s e first (suc n) rest one pos = omega (arith, count-nodes x s e (first + 1) n rest one (omega arith))
 
-count-fresh : (fs : List (Fact ℕ)) (x s e n : ℕ) → node_count (fs ++ fresh_facts x s e (node_count fs) n) ≡ node_count fs + n
+pub count-fresh : (fs : List (Fact ℕ)) (x s e n : ℕ) → node_count (fs ++ fresh_facts x s e (node_count fs) n) ≡ node_count fs + n
 count-fresh fs x s e n =
     count-append fs (fresh_facts x s e (node_count fs) n)
     ∙ count-nodes x s e (node_count fs) n (pairwise_apart (node_count fs) n) (count-pairs (node_count fs) n) (count_pos fs)
@@ -71,7 +71,7 @@ module _ (t : ℕ → Concept) where
   nodes-read x s e first zero rest = refl
   nodes-read x s e first (suc n) rest = ap (λ (l : List (Fact Concept)). Edge s x first ∷ Has first (t e) ∷ l) (nodes-read x s e (first + 1) n rest)
 
-  fresh-read : (x s e first n : ℕ) → read_facts t (fresh_facts x s e first n) ≡ fresh_facts x s (t e) first n
+  pub fresh-read : (x s e first n : ℕ) → read_facts t (fresh_facts x s e first n) ≡ fresh_facts x s (t e) first n
   fresh-read x s e first n =
       nodes-read x s e first n (pairwise_apart first n) ∙ ap (λ (l : List (Fact Concept)). new_nodes x s (t e) first n ++ l) (pairs-read first n)
 

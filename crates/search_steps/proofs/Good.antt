@@ -59,11 +59,11 @@ count_le (Edge s v w ∷ fs) f = omega (arith, count_le fs f)
 count_le (Apart v w ∷ fs) f = count_le fs f
 count_le (Same v w ∷ fs) f = count_le fs f
 
-abbrev or_else : Option ℕ → Option ℕ → Option ℕ
+abbrev pub or_else : Option ℕ → Option ℕ → Option ℕ
 or_else None p = p
 or_else (Some q) p = Some q
 
-origin-snoc : (fs : List (Fact ℕ)) (f : Fact ℕ) (x : ℕ) → first_origin (fs ++ f ∷ []) x ≡ or_else (first_origin fs x) (first_origin (f ∷ []) x)
+pub origin-snoc : (fs : List (Fact ℕ)) (f : Fact ℕ) (x : ℕ) → first_origin (fs ++ f ∷ []) x ≡ or_else (first_origin fs x) (first_origin (f ∷ []) x)
 origin-snoc [] f x = refl
 origin-snoc (Has v c ∷ fs) f x = origin-snoc fs f x
 origin-snoc (Edge r v w ∷ fs) f x =
@@ -72,7 +72,7 @@ origin-snoc (Edge r v w ∷ fs) f x =
 origin-snoc (Apart v w ∷ fs) f x = origin-snoc fs f x
 origin-snoc (Same v w ∷ fs) f x = origin-snoc fs f x
 
-origin_is_node : (fs : List (Fact ℕ)) (x p : ℕ) → first_origin fs x ≡ Some p → x < node_count fs
+pub origin_is_node : (fs : List (Fact ℕ)) (x p : ℕ) → first_origin fs x ≡ Some p → x < node_count fs
 origin_is_node [] x p h = cc
 origin_is_node (Has v c ∷ fs) x p h = origin_is_node fs x p h
 origin_is_node (Edge r v w ∷ fs) x p h = elim (cases_Bool (eqb w x)) [
@@ -82,7 +82,7 @@ origin_is_node (Edge r v w ∷ fs) x p h = elim (cases_Bool (eqb w x)) [
 origin_is_node (Apart v w ∷ fs) x p h = origin_is_node fs x p h
 origin_is_node (Same v w ∷ fs) x p h = origin_is_node fs x p h
 
-origin_stays : (fs : List (Fact ℕ)) (f : Fact ℕ) (x p : ℕ) → first_origin fs x ≡ Some p → first_origin (fs ++ f ∷ []) x ≡ Some p
+pub origin_stays : (fs : List (Fact ℕ)) (f : Fact ℕ) (x p : ℕ) → first_origin fs x ≡ Some p → first_origin (fs ++ f ∷ []) x ≡ Some p
 origin_stays fs f x p h = origin-snoc fs f x ∙ ap (λ (o : Option ℕ). or_else o (first_origin (f ∷ []) x)) h
 
 pub parent_of_origin : (fs : List (Fact ℕ)) (x p : ℕ) → ¬ (x ≡ 0) → first_origin fs x ≡ Some p → parent fs x ≡ Some p
@@ -222,11 +222,11 @@ edge_before m m' (Edge r v w ∷ fs) from to h =
 up_stays : (fs : List (Fact ℕ)) (f : Fact ℕ) (from to : ℕ) → HasUp (rep fs) fs from to → HasUp (rep fs) (fs ++ f ∷ []) from to
 up_stays fs f from to u = record { up = u.up; is_origin = origin_stays fs f to u.up u.is_origin; not_first = u.not_first; is_joined = u.is_joined }
 
-none_or_some : (o : Option ℕ) (P : Type 0) → ((p : ℕ) → o ≡ Some p → P) → (o ≡ None → P) → P
+pub none_or_some : (o : Option ℕ) (P : Type 0) → ((p : ℕ) → o ≡ Some p → P) → (o ≡ None → P) → P
 none_or_some None P some none = none refl
 none_or_some (Some p) P some none = some p refl
 
-no_origin : (fs : List (Fact ℕ)) (x : ℕ) → node_count fs ≤ x → first_origin fs x ≡ None
+pub no_origin : (fs : List (Fact ℕ)) (x : ℕ) → node_count fs ≤ x → first_origin fs x ≡ None
 no_origin fs x le = none_or_some (first_origin fs x) (first_origin fs x ≡ None) (λ p e. absurd (omega (arith, origin_is_node fs x p e))) (λ e. e)
 
 -- an edge to a new node
@@ -320,7 +320,7 @@ up_after fs (Edge r x y) s g from to h =
       | inr here ↦ up_of_new fs r x y from to s.1 g here
     ]
 
-or_else-none : (o : Option ℕ) → or_else o None ≡ o
+pub or_else-none : (o : Option ℕ) → or_else o None ≡ o
 or_else-none None = refl
 or_else-none (Some p) = refl
 

@@ -30,7 +30,7 @@ use Rattle.search_steps.proofs.Good.{good_built, count-edge, or_right}
 
 -- ---- Add
 
-adds_supported : (w : World) (fs : List (Fact ℕ)) (x d : ℕ) → Adds w fs x d → x < node_count fs
+pub adds_supported : (w : World) (fs : List (Fact ℕ)) (x d : ℕ) → Adds w fs x d → x < node_count fs
 adds_supported w fs x d (by_and x' c d' parts lt h sh m) = lt
 adds_supported w fs x d (by_all x' y c s e lt mt h sh edge) = mt
 adds_supported w fs x d (by_carry x' y c s t e d' carried sh) = carried.end_is_node

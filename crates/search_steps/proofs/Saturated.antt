@@ -64,21 +64,21 @@ range_ascending : (n : ℕ) → AllPairs (λ y z. y < z) (range_with_len 0 n)
 range_ascending n i j d lt mt =
     omega (arith, lt, get_or-range_with_len 0 n i d (omega (arith, mt, length-range_with_len 0 n)), get_or-range_with_len 0 n j d (omega (arith, mt, length-range_with_len 0 n)))
 
-in_range : (z a n : ℕ) → a ≤ z → z < a + n → list_any (eqb z) (range_with_len a n) ≡ true
+pub in_range : (z a n : ℕ) → a ≤ z → z < a + n → list_any (eqb z) (range_with_len a n) ≡ true
 in_range z a zero le lt = absurd (omega arith)
 in_range z a (suc n) le lt = elim (cases_Bool (eqb z a)) [
   | inl hit ↦ rw hit refl
   | inr miss ↦ rw miss (in_range z (a + 1) n (not_first z a le miss) (omega arith))
 ]
 
-in_filter : (p : ℕ → Bool) (z : ℕ) (xs : List ℕ) → p z ≡ true → list_any (eqb z) xs ≡ true → list_any (eqb z) (filter p xs) ≡ true
+pub in_filter : (p : ℕ → Bool) (z : ℕ) (xs : List ℕ) → p z ≡ true → list_any (eqb z) xs ≡ true → list_any (eqb z) (filter p xs) ≡ true
 in_filter p z xs h there = any-filter_same (eqb z) p true (λ k e. ap p (sym (eqb-true z k e)) ∙ h) xs ∙ there
 
 module _ (w : World) (fs : List (Fact ℕ)) (x s e : ℕ) where
   abbrev fits : List ℕ
   fits = fitting (below_of w) fs x s e
 
-  filler_fits : (y : ℕ) → IsFiller (below_of w) fs x s e y → list_any (eqb (rep fs y)) fits ≡ true
+  pub filler_fits : (y : ℕ) → IsFiller (below_of w) fs x s e y → list_any (eqb (rep fs y)) fits ≡ true
   filler_fits y f =
       let z = rep fs y in
       let roles : ℕ → Bool = λ r. below_of w r s in
@@ -99,7 +99,7 @@ module _ (w : World) (fs : List (Fact ℕ)) (x s e : ℕ) where
       ]
 
   -- as many fit as a rule line may count
-  counted : IsGood fs → (ys : List ℕ) → All (IsFiller (below_of w) fs x s e) ys → all_apart fs ys ≡ true → length ys ≤ length fits
+  pub counted : IsGood fs → (ys : List ℕ) → All (IsFiller (below_of w) fs x s e) ys → all_apart fs ys ≡ true → length ys ≤ length fits
   counted g ys all apart =
       omega (arith, length-map ys (rep fs), length-le_from_is_member nat_eq_equiv (map (rep fs) ys) fits (distinct_reps fs g ys apart) (λ q h. fillers_fit q ys all h))
 

@@ -6,7 +6,7 @@ use Rattle.std.proofs.lemmas.List.Elements.{All-nil, All-cons}
 use Rattle.shape_specs.specs.Shape.{Shape, shape_of}
 use Rattle.shape_specs.specs.Shape.Shape.{top, bottom, name, not_name, intersection, union, some_of, at_most}
 use Rattle.fact_specs.specs.declared.Fact.{Fact}
-use Rattle.fact_specs.specs.declared.Fact.TheVariants.{Has, Edge}
+use Rattle.fact_specs.specs.declared.Fact.TheVariants.{Has, Edge, Same}
 use Rattle.fact_specs.specs.State.{node_count, has, fresh_facts}
 use Rattle.search_specs.specs.declared.Branch.TheVariants.{Or}
 use Rattle.search_specs.specs.declared.Choice.{Choice}
@@ -15,7 +15,7 @@ use Rattle.search_specs.specs.declared.Item.TheVariants.{Fact as Says, Mark}
 use Rattle.search_specs.specs.Items.{facts_of, says}
 use Rattle.search_specs.specs.Clash.IsClash.{of_names}
 use Rattle.search_specs.specs.Clash.IsPlainClash.{plain_bottom, plain_names, plain_most}
-use Rattle.search_steps.specs.Steps.{World, Makes, IsLegal, HasClash, HasPlainClash}
+use Rattle.search_steps.specs.Steps.{World, is_run, Makes, IsLegal, HasClash, HasPlainClash}
 use Rattle.search_steps.specs.Steps.Adds.{by_and}
 use Rattle.search_steps.specs.Steps.Makes.{by_some, by_least}
 use Rattle.search_steps.specs.Steps.MayBranch.{on_union}
@@ -147,3 +147,13 @@ adds_nothing h = not_again (half ++ Says (Has 0 1) ∷ []) h refl
 -- node 0 has 'some of role 7 in 1', and no successor yet
 pub generates : IsLegal world (start 6 6) (start 6 6 ++ Says (Edge 7 0 1) ∷ Says (Has 1 1) ∷ [])
 generates = generate (Edge 7 0 1 ∷ Has 1 1 ∷ []) (no_plain (start 6 6) refl refl) (by_some 0 6 7 1 (record { is_node = lit< tt; is_rep = refl; is_clear = refl }) refl refl refl)
+
+-- ---- runs
+
+-- node 1 is 'some of role 7 in 1' of node 0, nodes 2 and 3 are 'at least 2', and node 2 has been joined to node 1
+abbrev joined : List (Fact ℕ)
+joined = Edge 7 0 1 ∷ Has 1 1 ∷ fresh_facts 0 7 1 2 2 ++ Same 1 2 ∷ []
+
+-- nodes 2 and 3 still are two that are apart, so that none need be made again
+pub still_runs : is_run world joined 0 7 1 2 2 ≡ true
+still_runs = refl

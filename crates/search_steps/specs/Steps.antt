@@ -1,5 +1,5 @@
 -- The steps of a search. The table of legal steps fixes no strategy.
-use Rattle.std.specs.Prelude.{◌≡◌, ℕ, ◌+◌, ◌<◌, ◌==◌, ◌&&◌, Bool, true, false, List, [], ◌∷◌, ◌++◌, length, take, Option, Some, slice_get, All, Contains}
+use Rattle.std.specs.Prelude.{◌≡◌, ℕ, ◌+◌, ◌<◌, ◌==◌, nat_lt, ◌&&◌, Bool, true, false, List, [], ◌∷◌, ◌++◌, length, take, Option, Some, slice_get, All, Contains}
 use Rattle.std.specs.List.{list_any, list_all, range_with_len}
 use Rattle.shq_base.specs.Concept.{Concept, name}
 use Rattle.shape_specs.specs.Shape.{Shape, shape_of}
@@ -68,10 +68,13 @@ is_used_at w fs row x = is_triggered w fs x (part_at w.theory row.axiom_number r
 
 -- ---- runs of successors
 
--- whether the n nodes from y on are successors of x by roles below s that have e, and pairwise apart
+-- whether z is a node at the end of an edge below s from x, and has e; z may have been joined to another
+abbrev pub is_filler : World → List (Fact ℕ) → ℕ → ℕ → ℕ → ℕ → Bool
+is_filler w fs x s e z = nat_lt z (node_count fs) && has_edge fs (λ r. below_of w r s) x z && has fs z e
+
+-- whether the n nodes from y on are such nodes, and pairwise apart
 abbrev pub is_run : World → List (Fact ℕ) → ℕ → ℕ → ℕ → ℕ → ℕ → Bool
-is_run w fs x s e n y =
-    list_all (λ z. is_successor fs (λ r. below_of w r s) x z && has fs z e) (range_with_len y n) && all_apart fs (range_with_len y n)
+is_run w fs x s e n y = list_all (is_filler w fs x s e) (range_with_len y n) && all_apart fs (range_with_len y n)
 
 module _ (w : World) (fs : List (Fact ℕ)) where
   -- ---- Add
