@@ -1,5 +1,5 @@
 -- The test of trees is equality.
-use Rattle.std.proofs.Common.{◌≡◌, ◌&&◌, Bool, true, false, eqb, eq-eqb, refl, ap}
+use Rattle.std.proofs.Common.{◌≡◌, ◌&&◌, true, eqb, eq-eqb, refl, ap}
 use Rattle.std.proofs.lemmas.Bool.{eqb-true, and_parts}
 use Rattle.shq_base.specs.Concept.{Concept, top, bottom, name, complement, intersection, union, some_of, all_of, at_least, at_most, exactly, Parts, no_parts, part}
 use Rattle.shape_specs.specs.Same.{is_same, are_same}

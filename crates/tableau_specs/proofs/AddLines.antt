@@ -1,11 +1,11 @@
 -- What is added without a choice as rule lines.
-use Rattle.std.proofs.Common.{◌≡◌, ℕ, zero, suc, ◌+◌, ◌<◌, ◌&&◌, ◌||◌, eqb, cond, Bool, true, false, List, [], ◌∷◌, map, get_or, Option, Some, None, refl, ap, ◌∙◌, sym, subst, arith, inl, inr, eq-eqb}
+use Rattle.std.proofs.Common.{◌≡◌, ℕ, zero, suc, ◌+◌, ◌<◌, ◌&&◌, ◌||◌, eqb, cond, Bool, true, List, [], ◌∷◌, map, get_or, Option, Some, None, refl, ap, ◌∙◌, sym, arith, inl, inr, eq-eqb}
 use Rattle.std.specs.List.{list_any, list_all, range_with_len, Contains}
 use Rattle.std.proofs.lemmas.Bool.{cases_Bool, or_cases, eqb-true, and_parts, or_right}
 use Rattle.std.proofs.lemmas.List.{length-map}
 use Rattle.std.proofs.lemmas.List.Elements.{All-contains}
 use Rattle.std.proofs.Math.ListN.{get_or-map}
-use Rattle.shq_base.specs.Concept.{Concept, top, name, all_of, parts_of, part_list}
+use Rattle.shq_base.specs.Concept.{Concept, top, name, all_of}
 use Rattle.shape_specs.specs.Shape.{Shape, shape_of}
 use Rattle.shape_specs.specs.Shape.Shape.{name as name_shape, intersection as and_shape, all_of as all_shape}
 use Rattle.shape_specs.specs.Tree.{tree_of, trees_of}
@@ -22,7 +22,7 @@ use Rattle.refutation_specs.specs.Rules.{Known, knows, when, with_facts, and_chi
 use Rattle.tableau_specs.specs.Steps.{SearchContext, below_of, Adds, IsCarried, is_named, has_name, is_triggered, ends_edge}
 use Rattle.tableau_specs.specs.Steps.Adds.{by_and, by_all, by_carry, by_row}
 use Rattle.tableau_specs.proofs.Listed.{listed}
-use Rattle.tableau_specs.specs.Lines.{known_by, children_in, first_passing, first_begin, line_of_row, line_of_add, facts_of_add}
+use Rattle.tableau_specs.specs.Lines.{known_by, children_in, first_passing, first_begin, line_of_row}
 use Rattle.tableau_specs.specs.LineLaws.{IsOver, RangesAreFirst, AddIsLine}
 use Rattle.tableau_specs.proofs.KnownFacts.{is_known, reads, holds, edge_reads, at_shape}
 use Rattle.shape_specs.proofs.Unique.{part_list-parts_of}

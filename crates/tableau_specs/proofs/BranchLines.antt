@@ -5,7 +5,7 @@ use Rattle.std.specs.Option.{option_map}
 use Rattle.std.proofs.lemmas.Option.{slice_get-map, slice_get_within}
 use Rattle.std.proofs.lemmas.List.{length-map}
 use Rattle.std.proofs.lemmas.List.Elements.{All-contains}
-use Rattle.shq_base.specs.Concept.{Concept, top, parts_of, part_list}
+use Rattle.shq_base.specs.Concept.{Concept, top}
 use Rattle.shape_specs.specs.Normal.{negated_form}
 use Rattle.shape_specs.specs.Shape.{Shape, shape_of}
 use Rattle.shape_specs.specs.Shape.Shape.{union as or_shape}

@@ -1,5 +1,5 @@
 -- Successors with the filler, and that those which a plain clash counts are premises of a rule line.
-use Rattle.std.proofs.Common.{◌≡◌, ℕ, zero, suc, ◌+◌, ◌<◌, ◌&&◌, eqb, ltb, Bool, true, false, List, [], ◌∷◌, take, get_or, refl, arith, inl, inr}
+use Rattle.std.proofs.Common.{◌≡◌, ℕ, zero, suc, ◌+◌, ◌<◌, ◌&&◌, eqb, ltb, Bool, true, List, [], ◌∷◌, take, get_or, refl, arith, inl, inr}
 use Rattle.std.specs.List.{list_any, list_all, range_with_len, All}
 use Rattle.std.proofs.lemmas.Bool.{eqb-true, ltb-true, lt-ltb, or_cases, and_parts}
 use Rattle.std.proofs.lemmas.List.{length-take-le}

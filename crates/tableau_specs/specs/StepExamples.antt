@@ -161,7 +161,9 @@ no_run true has_filler rest apart = refl
 no_run false has_filler rest apart = refl
 
 no_run_at_first : (y : ℕ) → is_run context (facts_of (start 7 7)) 0 7 1 2 y ≡ false
-no_run_at_first y = no_run (nat_lt y 1) (has (facts_of (start 7 7)) y 1) (list_all (is_filled_successor (below_of context) (facts_of (start 7 7)) 0 7 1) (range_with_len (y + 1) 1)) (all_apart (facts_of (start 7 7)) (range_with_len y 2))
+no_run_at_first y =
+    let fs = facts_of (start 7 7) in
+    no_run (nat_lt y 1) (has fs y 1) (list_all (is_filled_successor (below_of context) fs 0 7 1) (range_with_len (y + 1) 1)) (all_apart fs (range_with_len y 2))
 
 pub generates_two : IsLegal context (start 7 7) (start 7 7 ++ says (fresh_facts 0 7 1 1 2))
 generates_two =

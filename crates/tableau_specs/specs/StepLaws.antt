@@ -1,4 +1,4 @@
--- Laws of the trails that a search reaches. They hold over any world, from any start.
+-- Laws of the trails that a search reaches. They hold in any context, from any start.
 use Rattle.std.specs.Prelude.{◌≡◌, ℕ, ◌<◌, Bool, true, false, List, ◌++◌, length, take, Some, slice_get}
 use Rattle.shq_base.specs.Concept.{Concept}
 use Rattle.shape_specs.specs.Shape.{Shape, shape_of, IsTable}
@@ -62,7 +62,7 @@ abbrev pub JoinsAreOfSiblings : Type 0
 JoinsAreOfSiblings = (w : SearchContext) (sub not_sup k : ℕ) (trail : List Item) → Follows w (start sub not_sup) k trail
     → (place y z : ℕ) → slice_get trail place ≡ Some (Says (Same y z)) → AreSiblings (facts_of (take place trail)) y z
 
--- the representative of each successor of x has a parent, and x is that parent's representative
+-- y is a child of x, read through joins: the representative of y has a parent, which is joined to x
 pub record IsChild (fs : List (Fact ℕ)) (x y : ℕ) : Type 0 where
   pub up : ℕ
   pub is_parent : parent fs (rep fs y) ≡ Some up
