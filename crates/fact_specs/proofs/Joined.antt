@@ -2,8 +2,9 @@
 use Rattle.std.proofs.Common.{◌≡◌, ℕ, ◌≤◌, ◌&&◌, ◌||◌, min, List, [], ◌∷◌, ◌++◌, Bool, true, false, eqb, refl, ap, ◌∙◌, sym, subst, arith, inl, inr, eq-eqb}
 use Rattle.std.specs.List.{list_any}
 use Rattle.std.proofs.lemmas.List.{append-nil, append_assoc}
-use Rattle.std.proofs.lemmas.Bool.{cases_Bool, eqb-true, cases_lt, or_cases}
+use Rattle.std.proofs.lemmas.Bool.{cases_Bool, eqb-true, cases_lt, or_cases, and_parts, or_right}
 use Rattle.std.proofs.lemmas.Bool.Decides.{nat_tests}
+use Rattle.std.proofs.Math.Bool.{or_comm}
 use Rattle.fact_specs.specs.declared.Fact.{Fact}
 use Rattle.fact_specs.specs.declared.Fact.TheVariants.{Has, Edge, Apart, Same}
 use Rattle.fact_specs.specs.Joins.{merged, rep_after, rep_from, rep, joins, IsJoined}
@@ -50,22 +51,18 @@ after-same m (Apart v w) x y e = e
 merged_ends : (y z : ℕ) → merged y z y ≡ merged y z z
 merged_ends y z = grind (arith, nat_tests)
 
-both : (x y : Bool) → (x && y) ≡ true → (x ≡ true) × (y ≡ true)
-both true y h = (refl, h)
-both false y h = cc
-
 -- the nodes of a joining have one representative after it
 after-joins : {C : Type 0} → (m : ℕ → ℕ) (f : Fact C) (y z : ℕ) → joins y z f ≡ true → rep_after m f y ≡ rep_after m f z
 after-joins m (Same v w) y z h =
     elim (or_cases (eqb v y && eqb w z) (eqb v z && eqb w y) h) [
-      | inl a ↦ let t = both (eqb v y) (eqb w z) a in rw (← eqb-true v y t.0, ← eqb-true w z t.1) (merged_ends (m v) (m w))
-      | inr a ↦ let t = both (eqb v z) (eqb w y) a in rw (← eqb-true v z t.0, ← eqb-true w y t.1) (sym (merged_ends (m v) (m w)))
+      | inl a ↦ let t = and_parts (eqb v y) (eqb w z) a in rw (← eqb-true v y t.0, ← eqb-true w z t.1) (merged_ends (m v) (m w))
+      | inr a ↦ let t = and_parts (eqb v z) (eqb w y) a in rw (← eqb-true v z t.0, ← eqb-true w y t.1) (sym (merged_ends (m v) (m w)))
     ]
 after-joins m (Has v c) y z h = cc
 after-joins m (Edge r v w) y z h = cc
 after-joins m (Apart v w) y z h = cc
 
-any-snoc : {X : Type 0} (p : X → Bool) (xs : List X) (x : X) → list_any p (xs ++ x ∷ []) ≡ (list_any p xs || p x)
+pub any-snoc : {X : Type 0} (p : X → Bool) (xs : List X) (x : X) → list_any p (xs ++ x ∷ []) ≡ (list_any p xs || p x)
 any-snoc p [] x = elim (p x) as (λ b. (b || false) ≡ b) [ true ↦ refl | false ↦ refl ]
 any-snoc p (y ∷ xs) x = elim (p y) as (λ b. (b || list_any p (xs ++ x ∷ [])) ≡ ((b || list_any p xs) || p x)) [ true ↦ refl | false ↦ any-snoc p xs x ]
 
@@ -85,12 +82,6 @@ pub joined_on : {C : Type 0} → (fs : List (Fact C)) (x y z : ℕ) → IsJoined
 joined_on fs x y z h (itself v) = h
 joined_on fs x y z h (by_fact a b c any g) = by_fact x b c any (joined_on fs x a b h g)
 
-or_comm : (a b : Bool) → (a || b) ≡ (b || a)
-or_comm true true = refl
-or_comm true false = refl
-or_comm false true = refl
-or_comm false false = refl
-
 joins_back : {C : Type 0} → (f : Fact C) (y z : ℕ) → joins y z f ≡ joins z y f
 joins_back (Same v w) y z = or_comm (eqb v y && eqb w z) (eqb v z && eqb w y)
 joins_back (Has v c) y z = refl
@@ -109,13 +100,9 @@ pub joined_more : {C : Type 0} → (fs : List (Fact C)) (f : Fact C) (x y : ℕ)
 joined_more fs f x x' (itself y) = itself y
 joined_more fs f x x' (by_fact a b c any h) = by_fact a b c (any-snoc (joins b c) fs f ∙ ap (λ (t : Bool). t || joins b c f) any) (joined_more fs f a b h)
 
-or_right : (a : Bool) → (a || true) ≡ true
-or_right true = refl
-or_right false = refl
-
 -- the two nodes of a joining, after it
 ends : {C : Type 0} → (fs : List (Fact C)) (v w : ℕ) → IsJoined (fs ++ Same v w ∷ []) v w
-ends fs v w = by_fact v v w (any-snoc (joins v w) fs (Same v w) ∙ ap (λ (t : Bool). list_any (joins v w) fs || t) (rw (eq-eqb v v refl, eq-eqb w w refl) refl) ∙ or_right (list_any (joins v w) fs)) (itself v)
+ends fs v w = by_fact v v w (any-snoc (joins v w) fs (Same v w) ∙ ap (λ (t : Bool). list_any (joins v w) fs || t) (rw (eq-eqb v v refl, eq-eqb w w refl) refl) ∙ or_right (list_any (joins v w) fs) true refl) (itself v)
 
 min_cases : (P : ℕ → Type 0) (a b : ℕ) → P a → P b → P (min a b)
 min_cases P a b pa pb = elim (cases_lt a b) [ inl lt ↦ subst P (let e : a ≡ min a b = omega arith in e) pa | inr ge ↦ subst P (let e : b ≡ min a b = omega arith in e) pb ]

@@ -1,7 +1,7 @@
 -- What a reading of the concepts keeps.
 use Rattle.std.proofs.Common.{◌≡◌, ℕ, ◌+◌, ◌<◌, ◌&&◌, ◌||◌, max, cond, eqb, ltb, Bool, true, false, List, [], ◌∷◌, length, Option, Some, None, refl, ap, ◌∙◌, sym, eq-eqb}
 use Rattle.std.specs.List.{list_any}
-use Rattle.std.proofs.lemmas.Bool.{eqb-true, ltb-true}
+use Rattle.std.proofs.lemmas.Bool.{eqb-true, ltb-true, and_parts}
 use Rattle.shq_base.specs.Concept.{Concept, top}
 use Rattle.shape_specs.specs.Same.{is_same}
 use Rattle.shape_specs.specs.Normal.{is_top}
@@ -15,10 +15,6 @@ use Rattle.fact_specs.specs.Joins.{rep, rep_from, rep_after}
 use Rattle.fact_specs.specs.State.{node_count, first_origin, gives_concept, is_given, has, has_tree, gives_edge, gives_apart}
 use Rattle.fact_specs.specs.Reading.{read_facts, are_listed}
 use Rattle.fact_specs.specs.Laws.{KeepsState}
-
-both : (x y : Bool) → (x && y) ≡ true → (x ≡ true) × (y ≡ true)
-both true y h = (refl, h)
-both false y h = cc
 
 -- ---- nodes, edges and joins
 
@@ -102,7 +98,7 @@ module _ (table : List Shape) (good : IsTable table) where
       → list_any (gives_concept (λ t. is_same t (tree_of table c)) m at) (read_facts (tree_of table) fs) ≡ list_any (gives_concept (λ d. eqb d c) m at) fs
   given-read m at c [] lt h = refl
   given-read m at c (Has y d ∷ fs) lt h =
-      let t = both (ltb d (length table)) (are_listed (length table) fs) h in
+      let t = and_parts (ltb d (length table)) (are_listed (length table) fs) h in
       ap (λ (b : Bool). (eqb (m y) at && b) || list_any (gives_concept (λ t. is_same t (tree_of table c)) m at) (read_facts (tree_of table) fs)) (same_number c d lt (ltb-true d (length table) t.0))
       ∙ ap (λ (b : Bool). (eqb (m y) at && eqb d c) || b) (given-read m at c fs lt t.1)
   given-read m at c (Edge r y z ∷ fs) lt h = given-read m at c fs lt h

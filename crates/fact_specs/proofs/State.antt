@@ -2,6 +2,7 @@
 use Rattle.std.proofs.Common.{◌≡◌, ℕ, ◌&&◌, ◌||◌, List, [], ◌∷◌, Bool, true, false, eqb, cond, refl, ap, ◌∙◌, sym, inl, inr, eq-eqb}
 use Rattle.std.specs.List.{list_any}
 use Rattle.std.proofs.lemmas.Bool.{eqb-true, cases_Bool}
+use Rattle.std.proofs.Math.Bool.{or_comm}
 use Rattle.fact_specs.specs.declared.Fact.{Fact}
 use Rattle.fact_specs.specs.declared.Fact.TheVariants.{Has, Edge, Apart, Same}
 use Rattle.fact_specs.specs.Joins.{rep}
@@ -31,12 +32,6 @@ pub any-label : (fs : List (Fact ℕ)) (x c : ℕ) → list_any (λ d. eqb d c) 
 any-label fs x c = rw (eqb-comm 0 c, any-concepts_at c (rep fs) (rep fs x) fs) refl
 
 -- ---- apart
-
-or_comm : (a b : Bool) → (a || b) ≡ (b || a)
-or_comm true true = refl
-or_comm true false = refl
-or_comm false true = refl
-or_comm false false = refl
 
 gives_apart_back : {C : Type 0} (m : ℕ → ℕ) (a b : ℕ) (f : Fact C) → gives_apart m a b f ≡ gives_apart m b a f
 gives_apart_back m a b (Apart y z) = or_comm (eqb (m y) a && eqb (m z) b) (eqb (m y) b && eqb (m z) a)

@@ -14,11 +14,11 @@ abbrev pub read_facts : {C D : Type 0} → (C → D) → List (Fact C) → List 
 read_facts read fs = map (read_fact read) fs
 
 -- whether the fact's concept, if it has one, is among the first n numbers
-abbrev pub is_listed : ℕ → Fact ℕ → Bool
-is_listed n (Has x c) = nat_lt c n
-is_listed n (Edge r x y) = true
-is_listed n (Apart x y) = true
-is_listed n (Same x y) = true
+abbrev pub is_fact_listed : ℕ → Fact ℕ → Bool
+is_fact_listed n (Has x c) = nat_lt c n
+is_fact_listed n (Edge r x y) = true
+is_fact_listed n (Apart x y) = true
+is_fact_listed n (Same x y) = true
 
 abbrev pub are_listed : ℕ → List (Fact ℕ) → Bool
-are_listed n fs = list_all (is_listed n) fs
+are_listed n fs = list_all (is_fact_listed n) fs

@@ -1,3 +1,4 @@
+pub mod Ascending
 pub mod Same
 pub mod Tree
 pub mod Unique

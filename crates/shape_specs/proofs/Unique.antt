@@ -1,8 +1,8 @@
 -- Trees of shapes, and that equal trees have equal numbers.
-use Rattle.std.proofs.Common.{◌≡◌, ℕ, zero, suc, ◌+◌, ◌<◌, ◌&&◌, ltb, List, [], ◌∷◌, ◌++◌, map, length, get_or, take, drop, Bool, true, false, refl, ap, ◌∙◌, sym, arith}
+use Rattle.std.proofs.Common.{◌≡◌, ℕ, zero, suc, ◌+◌, ◌<◌, ltb, List, [], ◌∷◌, ◌++◌, map, length, get_or, take, drop, true, refl, ap, ◌∙◌, sym, arith}
 use Rattle.std.specs.List.{list_all}
 use Rattle.std.proofs.lemmas.List.{length-take-le}
-use Rattle.std.proofs.lemmas.Bool.{ltb-true}
+use Rattle.std.proofs.lemmas.Bool.{ltb-true, and_parts}
 use Rattle.std.proofs.Math.Seq.{split_at}
 use Rattle.shq_base.specs.Concept.{Concept, top, intersection, union, some_of, all_of, at_least, at_most, parts_of, part_list}
 use Rattle.shape_specs.specs.Shape.{Shape, shape_of, has_parts_below, IsTable}
@@ -10,17 +10,13 @@ use Rattle.shape_specs.specs.Shape.Shape.{top as top_shape, bottom as bottom_sha
 use Rattle.shape_specs.specs.Tree.{tree_over, trees_of, tree_of}
 use Rattle.shape_specs.proofs.Tree.{tree_of_new, tree_of-append}
 
-both : (x y : Bool) → (x && y) ≡ true → (x ≡ true) × (y ≡ true)
-both true y h = (refl, h)
-both false y h = cc
-
 -- ---- only the trees below a bound matter to a shape whose parts are below it
 
 map_agree : (ts us : List Concept) (n : ℕ) (cs : List ℕ) → list_all (λ c. ltb c n) cs ≡ true → ((c : ℕ) → c < n → get_or ts c top ≡ get_or us c top)
     → map (λ c. get_or ts c top) cs ≡ map (λ c. get_or us c top) cs
 map_agree ts us n [] h agree = refl
 map_agree ts us n (c ∷ cs) h agree =
-    let t = both (ltb c n) (list_all (λ d. ltb d n) cs) h in
+    let t = and_parts (ltb c n) (list_all (λ d. ltb d n) cs) h in
     let e = agree c (ltb-true c n t.0) in
     let f = map_agree ts us n cs t.1 agree in
     cc
@@ -52,7 +48,7 @@ tree_of_shape table c lt h =
 
 -- ---- shapes of equal trees
 
-part_list-parts_of : (cs : List Concept) → part_list (parts_of cs) ≡ cs
+pub part_list-parts_of : (cs : List Concept) → part_list (parts_of cs) ≡ cs
 part_list-parts_of [] = refl
 part_list-parts_of (c ∷ cs) = ap (λ (l : List Concept). c ∷ l) (part_list-parts_of cs)
 
@@ -68,8 +64,8 @@ module _ (trees : List Concept) (m n : ℕ) (unique : (p q : ℕ) → p < m → 
   map_unique [] (d ∷ ds) h g e = cc
   map_unique (c ∷ cs) [] h g e = cc
   map_unique (c ∷ cs) (d ∷ ds) h g e =
-      let t = both (ltb c m) (list_all (λ p. ltb p m) cs) h in
-      let u = both (ltb d n) (list_all (λ p. ltb p n) ds) g in
+      let t = and_parts (ltb c m) (list_all (λ p. ltb p m) cs) h in
+      let u = and_parts (ltb d n) (list_all (λ p. ltb p n) ds) g in
       let head : get_or trees c top ≡ get_or trees d top = cc in
       let tail : map (λ p. get_or trees p top) cs ≡ map (λ p. get_or trees p top) ds = cc in
       let a = unique c d (ltb-true c m t.0) (ltb-true d n u.0) head in

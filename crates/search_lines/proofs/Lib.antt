@@ -1,5 +1,0 @@
-pub mod Lines
-pub mod Branches
-pub mod Makes
-pub mod Adds
-pub mod Clashes

@@ -1,5 +1,0 @@
-use Rattle.search_specs.proofs.Blocks.{blocks_say}
-use Rattle.search_specs.proofs.blocks_say_what_they_mean.Goals as goal
-
-pub returns : goal.returns
-returns c = blocks_say

@@ -1,0 +1,16 @@
+pub mod PlainClash
+pub mod Blocks
+pub mod Built
+pub mod TreeShaped
+pub mod Legal
+pub mod Reached
+pub mod Saturated
+pub mod Under
+pub mod Listed
+pub mod Longer
+pub mod End
+pub mod KnownFacts
+pub mod BranchLines
+pub mod GenerateLines
+pub mod AddLines
+pub mod ClashLines

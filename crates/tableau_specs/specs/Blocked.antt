@@ -1,0 +1,40 @@
+-- Which representatives are blocked, by recursion on the number of the node.
+use Rattle.std.specs.Prelude.{ℕ, zero, suc, ◌+◌, ◌==◌, ◌&&◌, Bool, true, false, List, [], ◌∷◌, ◌++◌, Option, Some, None, if◌then◌else◌, slice_index_or}
+use Rattle.fact_specs.specs.declared.Fact.{Fact}
+use Rattle.fact_specs.specs.Joins.{rep}
+use Rattle.fact_specs.specs.State.{parent, is_label_part}
+use Rattle.tableau_specs.specs.declared.Block.{Block}
+use Rattle.tableau_specs.specs.declared.Block.TheVariants.{Clear, By, Under}
+
+abbrev pub is_clear : Block → Bool
+is_clear Clear = true
+is_clear (By z) = false
+is_clear Under = false
+
+-- whether the representative of the parent, if there is one, is clear, where `blocks` are those of the nodes from 0 on
+abbrev pub is_parent_clear : List (Fact ℕ) → List Block → Option ℕ → Bool
+is_parent_clear fs blocks None = true
+is_parent_clear fs blocks (Some p) = is_clear (slice_index_or blocks (rep fs p) Under)
+
+-- whether z is a clear representative that has the label of x
+abbrev pub may_block : List (Fact ℕ) → List Block → ℕ → ℕ → Bool
+may_block fs blocks x z = rep fs z == z && is_clear (slice_index_or blocks z Under) && is_label_part fs x z
+
+-- x is blocked by the least of the n nodes from z on that may block it; where there is none it is clear
+abbrev pub blocked_from : List (Fact ℕ) → List Block → ℕ → ℕ → ℕ → Block
+blocked_from fs blocks x z zero = Clear
+blocked_from fs blocks x z (suc n) = if may_block fs blocks x z then By z else blocked_from fs blocks x (z + 1) n
+
+-- the block of node x, where `blocks` are those of the nodes below it
+abbrev pub block_at : List (Fact ℕ) → List Block → ℕ → Block
+block_at fs blocks x =
+    if x == 0 then Clear else (if is_parent_clear fs blocks (parent fs x) then blocked_from fs blocks x 0 x else Under)
+
+-- the blocks of the first n nodes
+abbrev pub blocks_to : List (Fact ℕ) → ℕ → List Block
+blocks_to fs zero = []
+blocks_to fs (suc n) = blocks_to fs n ++ block_at fs (blocks_to fs n) n ∷ []
+
+-- the block of a representative
+abbrev pub block_of : List (Fact ℕ) → ℕ → Block
+block_of fs x = block_at fs (blocks_to fs x) x

@@ -1,0 +1,12 @@
+pub mod Items
+pub mod Blocked
+pub mod Clash
+pub mod StateLaws
+pub mod StateExamples
+pub mod Steps
+pub mod Reached
+pub mod StepLaws
+pub mod StepExamples
+pub mod SearchExample
+pub mod Lines
+pub mod LineLaws

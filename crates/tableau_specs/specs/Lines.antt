@@ -1,0 +1,108 @@
+-- The rule line that each clash and each step of a search is, and what is known in its children.
+use Rattle.std.specs.Prelude.{ℕ, nat_lt, Bool, List, [], ◌∷◌, map, length, Option, Some, None, if◌then◌else◌}
+use Rattle.std.specs.List.{range_with_len}
+use Rattle.shq_base.specs.Concept.{Concept}
+use Rattle.shape_specs.specs.Normal.{negated_form}
+use Rattle.shape_specs.specs.Shape.{Shape, shape_of}
+use Rattle.shape_specs.specs.Shape.Shape.{union}
+use Rattle.shape_specs.specs.Tree.{tree_of}
+use Rattle.shape_specs.specs.Rows.{Trigger}
+use Rattle.shape_specs.specs.Rows.Trigger.{always, names, edge, end_of}
+use Rattle.fact_specs.specs.declared.Fact.{Fact}
+use Rattle.fact_specs.specs.declared.Fact.TheVariants.{Has, Apart, Same}
+use Rattle.fact_specs.specs.State.{node_count, has_edge}
+use Rattle.fact_specs.specs.Reading.{read_facts}
+use Rattle.refutation_specs.specs.Line.{Line}
+use Rattle.refutation_specs.specs.Line.Line.{and_line, or_line, all_line, carry_line, row_line, range_line, some_line, least_line, choose_line, pair_line, bottom_line, clash_line, most_line}
+use Rattle.refutation_specs.specs.Rules.{Known, with_facts, children_of}
+use Rattle.tableau_specs.specs.declared.Branch.{Branch}
+use Rattle.tableau_specs.specs.declared.Branch.TheVariants.{Or, Choose, Pair}
+use Rattle.tableau_specs.specs.Clash.{IsClash}
+use Rattle.tableau_specs.specs.Clash.IsClash.{of_bottom, of_names, of_most}
+use Rattle.tableau_specs.specs.Steps.{SearchContext, below_of, Adds, Generates}
+use Rattle.tableau_specs.specs.Steps.Adds.{by_and, by_all, by_carry, by_row}
+use Rattle.tableau_specs.specs.Steps.Generates.{by_some, by_least}
+
+-- ---- what the facts of a trail make known to rule lines
+
+-- their nodes, and themselves over trees
+abbrev pub known_by : List Shape → List (Fact ℕ) → Known
+known_by table fs = record { nodes = range_with_len 0 (node_count fs); facts = read_facts (tree_of table) fs }
+
+-- the concept of a number of the table
+abbrev pub concept_in : List Shape → ℕ → Option Concept
+concept_in table c = if nat_lt c (length table) then Some (tree_of table c) else None
+
+-- the children of a line in that state, in a search whether `sub` is in `sup`
+abbrev pub children_in : SearchContext → Concept → Concept → List (Fact ℕ) → Line → Option (List Known)
+children_in w sub sup fs line = children_of w.theory sub sup (concept_in w.table) (known_by w.table fs) line
+
+-- ---- clashes
+
+abbrev pub line_of_clash : (below : ℕ → ℕ → Bool) (table : List Shape) (fs : List (Fact ℕ)) → IsClash below table fs → Line
+line_of_clash below table fs (of_bottom x c lt h sh) = bottom_line x
+line_of_clash below table fs (of_names x c d a lt h sh g th) = clash_line x c
+line_of_clash below table fs (of_most x c n s e ys lt h sh len all apart) = most_line x c ys
+
+-- ---- Add
+
+-- the first that passes a test; 0 where none does
+abbrev pub first_passing : (ℕ → Bool) → List ℕ → ℕ
+first_passing p [] = 0
+first_passing p (x ∷ xs) = if p x then x else first_passing p xs
+
+-- the first node from which an edge below s leads to x
+abbrev pub first_begin : SearchContext → List (Fact ℕ) → ℕ → ℕ → ℕ
+first_begin w fs s x = first_passing (λ z. has_edge fs (λ r. below_of w r s) z x) (range_with_len 0 (node_count fs))
+
+-- the line of a row at x, by its axiom, its part and its trigger
+abbrev pub line_of_row : SearchContext → List (Fact ℕ) → ℕ → ℕ → ℕ → Trigger → Line
+line_of_row w fs x a p always = row_line x a p []
+line_of_row w fs x a p (names positions) = row_line x a p positions
+line_of_row w fs x a p (edge s) = row_line x a p []
+line_of_row w fs x a p (end_of s) = range_line (first_begin w fs s x) x a
+
+abbrev pub line_of_add : (w : SearchContext) (fs : List (Fact ℕ)) (x d : ℕ) → Adds w fs x d → Line
+line_of_add w fs x d (by_and x' c d' parts lt h sh m) = and_line x c
+line_of_add w fs x d (by_all x' y c s e lt mt h sh leads) = all_line x' x c
+line_of_add w fs x d (by_carry x' y c s t e d' carried sh) = carry_line x' x t c
+line_of_add w fs x d (by_row x' row lt m used) = line_of_row w fs x row.axiom_number row.part_number row.trigger
+
+-- the facts of its child: all parts of an intersection, and the one fact otherwise
+abbrev pub facts_of_add : (w : SearchContext) (fs : List (Fact ℕ)) (x d : ℕ) → Adds w fs x d → List (Fact ℕ)
+facts_of_add w fs x d (by_and x' c d' parts lt h sh m) = map (Has x) parts
+facts_of_add w fs x d (by_all x' y c s e lt mt h sh leads) = Has x d ∷ []
+facts_of_add w fs x d (by_carry x' y c s t e d' carried sh) = Has x d ∷ []
+facts_of_add w fs x d (by_row x' row lt m used) = Has x d ∷ []
+
+-- ---- Generate
+
+abbrev pub line_of_generate : (w : SearchContext) (fs new : List (Fact ℕ)) → Generates w fs new → Line
+line_of_generate w fs new (by_some x c s e at h sh none) = some_line x (node_count fs) c
+line_of_generate w fs new (by_least x c n s e at h sh none) = least_line x (node_count fs) c
+
+-- ---- Choose
+
+abbrev pub line_of_branch : Branch → Line
+line_of_branch (Or x c) = or_line x c
+line_of_branch (Choose y e) = choose_line y e
+line_of_branch (Pair y z) = pair_line y z
+
+-- the parts of a union
+abbrev pub disjuncts : Shape → List ℕ
+disjuncts (union parts) = parts
+disjuncts _ = []
+
+-- the facts of the alternatives of a branch over trees, in order
+abbrev pub alternatives : List Shape → Branch → List (Fact Concept)
+alternatives table (Or x c) = map (λ d. Has x (tree_of table d)) (disjuncts (shape_of table c))
+alternatives table (Choose y e) = Has y (tree_of table e) ∷ Has y (negated_form (tree_of table e)) ∷ []
+alternatives table (Pair y z) = Same y z ∷ Apart y z ∷ []
+
+-- what is known after one fact more
+abbrev pub known_with : List Shape → List (Fact ℕ) → Fact Concept → Known
+known_with table fs f = with_facts (known_by table fs) (f ∷ [])
+
+-- what is known in each child of a branch
+abbrev pub children_of_branch : List Shape → List (Fact ℕ) → Branch → List Known
+children_of_branch table fs b = map (known_with table fs) (alternatives table b)

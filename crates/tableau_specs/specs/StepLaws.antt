@@ -1,0 +1,113 @@
+-- Laws of the trails that a search reaches. They hold in any context, from any start.
+use Rattle.std.specs.Prelude.{◌≡◌, ℕ, ◌<◌, Bool, true, false, List, ◌++◌, length, take, Some, slice_get}
+use Rattle.shq_base.specs.Concept.{Concept}
+use Rattle.shape_specs.specs.Shape.{Shape, shape_of, IsTable}
+use Rattle.shape_specs.specs.Shape.Shape.{all_of}
+use Rattle.shape_specs.specs.Rows.{Theory, Row}
+use Rattle.fact_specs.specs.declared.Fact.{Fact}
+use Rattle.fact_specs.specs.declared.Fact.TheVariants.{Has, Edge, Apart, Same}
+use Rattle.fact_specs.specs.Joins.{rep}
+use Rattle.fact_specs.specs.State.{node_count, parent, has_edge, is_successor, are_apart}
+use Rattle.fact_specs.specs.Reading.{are_listed}
+use Rattle.tableau_specs.specs.declared.Block.TheVariants.{Clear, Under}
+use Rattle.tableau_specs.specs.Blocked.{block_of}
+use Rattle.tableau_specs.specs.declared.Branch.{Branch}
+use Rattle.tableau_specs.specs.declared.Branch.TheVariants.{Or, Choose, Pair}
+use Rattle.tableau_specs.specs.declared.Item.{Item}
+use Rattle.tableau_specs.specs.declared.Item.TheVariants.{Fact as Says, Mark}
+use Rattle.tableau_specs.specs.Items.{facts_of}
+use Rattle.tableau_specs.specs.Steps.{SearchContext, IsCarried, IsLegal, IsSaturated, HasClash, HasPlainClash}
+use Rattle.tableau_specs.specs.Reached.{start, Follows, IsReached}
+
+-- whether a role is any role
+abbrev pub any_role : ℕ → Bool
+any_role r = true
+
+-- ---- each node stands before it is spoken of
+
+abbrev pub BranchIsOn : ℕ → Branch → Type 0
+BranchIsOn n (Or x c) = x < n
+BranchIsOn n (Choose y e) = y < n
+BranchIsOn n (Pair y z) = (y < n) × (z < n)
+
+-- the item speaks of the first n nodes alone; an edge leads to the next
+abbrev pub IsOn : ℕ → Item → Type 0
+IsOn n (Says (Has x c)) = x < n
+IsOn n (Says (Edge r x y)) = (x < n) × (y ≡ n)
+IsOn n (Says (Apart y z)) = (y < n) × (z < n)
+IsOn n (Says (Same y z)) = (y < n) × (z < n)
+IsOn n (Mark c) = BranchIsOn n c.branch
+
+abbrev pub NodesStandBefore : Type 0
+NodesStandBefore = (w : SearchContext) (sub not_sup k : ℕ) (trail : List Item) → Follows w (start sub not_sup) k trail
+    → (place : ℕ) (item : Item) → slice_get trail place ≡ Some item → IsOn (node_count (facts_of (take place trail))) item
+
+-- ---- no node is apart from itself
+
+abbrev pub NoneIsApartFromItself : Type 0
+NoneIsApartFromItself = (w : SearchContext) (sub not_sup k : ℕ) (trail : List Item) → Follows w (start sub not_sup) k trail
+    → (x : ℕ) → are_apart (facts_of trail) x x ≡ false
+
+-- ---- joined nodes are successors of one node
+
+-- y and z are two successors of one node that are not apart
+pub record AreSiblings (fs : List (Fact ℕ)) (y z : ℕ) : Type 0 where
+  pub above : ℕ
+  pub first : is_successor fs any_role above y ≡ true
+  pub second : is_successor fs any_role above z ≡ true
+  pub are_two : ¬ (y ≡ z)
+  pub not_apart : are_apart fs y z ≡ false
+
+abbrev pub JoinsAreOfSiblings : Type 0
+JoinsAreOfSiblings = (w : SearchContext) (sub not_sup k : ℕ) (trail : List Item) → Follows w (start sub not_sup) k trail
+    → (place y z : ℕ) → slice_get trail place ≡ Some (Says (Same y z)) → AreSiblings (facts_of (take place trail)) y z
+
+-- y is a child of x, read through joins: the representative of y has a parent, which is joined to x
+pub record IsChild (fs : List (Fact ℕ)) (x y : ℕ) : Type 0 where
+  pub up : ℕ
+  pub is_parent : parent fs (rep fs y) ≡ Some up
+  pub is_joined : rep fs up ≡ rep fs x
+
+abbrev pub SuccessorsAreChildren : Type 0
+SuccessorsAreChildren = (w : SearchContext) (sub not_sup k : ℕ) (trail : List Item) → Follows w (start sub not_sup) k trail
+    → (roles : ℕ → Bool) (x y : ℕ) → has_edge (facts_of trail) roles x y ≡ true → IsChild (facts_of trail) x y
+
+-- a parent is less than its node, so that blocked nodes are found by recursion on the number
+abbrev pub ParentsAreLess : Type 0
+ParentsAreLess = (w : SearchContext) (sub not_sup k : ℕ) (trail : List Item) → Follows w (start sub not_sup) k trail
+    → (x p : ℕ) → parent (facts_of trail) x ≡ Some p → p < x
+
+-- ---- below a clear node no successor is under a block
+
+abbrev pub ClearHasNoneUnder : Type 0
+ClearHasNoneUnder = (w : SearchContext) (sub not_sup k : ℕ) (trail : List Item) → Follows w (start sub not_sup) k trail
+    → (roles : ℕ → Bool) (x y : ℕ) → rep (facts_of trail) x ≡ x → block_of (facts_of trail) x ≡ Clear → is_successor (facts_of trail) roles x y ≡ true
+    → ¬ (block_of (facts_of trail) y ≡ Under)
+
+-- ---- the concepts of a trail are in the table
+
+abbrev pub NumbersAreListed : Type 0
+NumbersAreListed = (theory : Theory) (sub sup : Concept) (table : List Shape) (rows : List Row) (k : ℕ) (trail : List Item)
+    → IsReached theory sub sup table rows k trail → are_listed (length table) (facts_of trail) ≡ true
+
+-- ---- a table may grow while a search goes on
+
+abbrev pub TablesMayGrow : Type 0
+TablesMayGrow = (theory : Theory) (sub sup : Concept) (table more : List Shape) (rows : List Row) (k : ℕ) (trail : List Item)
+    → IsReached theory sub sup table rows k trail → IsTable (table ++ more) → IsReached theory sub sup (table ++ more) rows k trail
+
+-- ---- a saturated trail has no clash of any kind
+
+abbrev pub SaturatedHasNoClash : Type 0
+SaturatedHasNoClash = (w : SearchContext) (sub not_sup k : ℕ) (trail : List Item) → Follows w (start sub not_sup) k trail → IsSaturated w trail → ¬ HasClash w trail
+
+-- ---- saturated trails are those from which no step is legal
+
+-- each concept that is to be carried has a number in the table
+abbrev pub CarriedAreListed : SearchContext → List (Fact ℕ) → Type 0
+CarriedAreListed w fs = (x y c s t e : ℕ) → IsCarried w fs x y c s t e → (d : ℕ) × (shape_of w.table d ≡ all_of t e)
+
+abbrev pub SaturatedIsTheEnd : Type 0
+SaturatedIsTheEnd = (w : SearchContext) (sub not_sup k : ℕ) (trail : List Item) → Follows w (start sub not_sup) k trail
+    → (IsSaturated w trail → (new : List Item) → ¬ IsLegal w trail new)
+    × (¬ HasPlainClash w trail → CarriedAreListed w (facts_of trail) → ((new : List Item) → ¬ IsLegal w trail new) → IsSaturated w trail)
