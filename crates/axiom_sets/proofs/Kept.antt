@@ -1,6 +1,7 @@
 -- Words that are kept for the numbers up to a limit.
 use Rattle.std.proofs.Common.{◌≡◌, ℕ, zero, suc, ◌+◌, ◌-◌, ◌*◌, ◌/◌, ◌%◌, ◌^◌, ◌<◌, ◌≤◌, ◌&&◌, not, Bool, false, eqb, List, ◌++◌, length, set, take, drop, refl, sym, ap, ◌∙◌, arith, inl, inr, eq-eqb}
 use Rattle.std.specs.Prelude.{nat_le, replicate}
+use Rattle.std.specs.Cmp.{nat_cmp_total}
 use Rattle.std.specs.FinSet as sets
 use Rattle.std.proofs.lemmas.Bool.{leb-true, ne_eqb, cases_eq, cases_lt, cases_Bool, false≢true, le-leb, lt-leb, eqb-true, and_parts, or_cases}
 use Rattle.std.proofs.lemmas.List.{get_or_past, get_or-replicate, length-replicate, length-set}
@@ -23,6 +24,13 @@ put_within limit n s within low high k h =
 
 pub take_within : (limit n : ℕ) (s : NumberSet) → IsWithin limit s → IsWithin limit (sets.remove s n)
 take_within limit n s within k h = within k (and_parts (not (eqb k n)) (sets.contains s k) (sym (contains_remove s n k) ∙ h)).1
+
+pub union_within : (limit : ℕ) (s t : NumberSet) → IsWithin limit s → IsWithin limit t → IsWithin limit (sets.union s t)
+union_within limit s t within within' k h =
+    elim (or_cases (sets.contains s k) (sets.contains t k) (sym (sets.contains-union nat_cmp_total s t k) ∙ h)) [ inl old ↦ within k old | inr more ↦ within' k more ]
+
+pub difference_within : (limit : ℕ) (s t : NumberSet) → IsWithin limit s → IsWithin limit (sets.difference s t)
+difference_within limit s t within k h = within k (and_parts (sets.contains s k) (not (sets.contains t k)) (sym (sets.contains-difference nat_cmp_total s t k) ∙ h)).0
 
 -- other words of the same length
 pub kept_after : (limit : ℕ) (words words' : List ℕ) (s : NumberSet) → IsKept limit words → length words' ≡ length words → number_set words' ≡ s → IsWithin limit s → IsKept limit words'

@@ -1,5 +1,5 @@
 -- Sets of axiom numbers.
-use Rattle.std.specs.Prelude.{◌≡◌, ℕ, ◌+◌, ◌/◌, ◌^◌, ◌<◌, ◌≤◌, true, List, length, refl}
+use Rattle.std.specs.Prelude.{◌≡◌, ℕ, ◌+◌, ◌/◌, ◌^◌, ◌<◌, ◌≤◌, ◌&&◌, nat_le, true, List, length, refl}
 use Rattle.std.specs.FinSet as set
 use Rattle.std.specs.Coded.{Coded, code_by, coded×, coded_ℕ}
 use Rattle.std.specs.Ordering.{nat_cmp}
@@ -14,6 +14,10 @@ pub record Limited : Type 0 where
 
 abbrev pub limited_code : Coded Limited
 limited_code = code_by (ℕ × NumberSet) (coded× coded_ℕ (set.code coded_ℕ)) (λ s. (s.limit, s.members)) (λ p. record { limit = p.0; members = p.1 }) (λ _. refl)
+
+-- the members are the numbers from 1 to the limit
+abbrev pub IsFull : ℕ → NumberSet → Type 0
+IsFull limit members = (k : ℕ) → set.contains members k ≡ (nat_le 1 k && nat_le k limit)
 
 -- each member is a number from 1 to the limit
 abbrev pub IsWithin : ℕ → NumberSet → Type 0

@@ -1,5 +1,5 @@
 -- Sets of marks.
-use Rattle.std.specs.Prelude.{◌≡◌, ℕ, ◌-◌, ◌^◌, ◌<◌, ◌≤◌, true, false, List, [], length, slice_index, Option, Some, None}
+use Rattle.std.specs.Prelude.{◌≡◌, ℕ, ◌-◌, ◌/◌, ◌^◌, ◌<◌, ◌≤◌, true, false, List, [], length, slice_index, Option, Some, None}
 use Rattle.std.specs.FinSet as set
 use Rattle.lane_sieve.specs.Sets.{NumberSet}
 
@@ -17,3 +17,11 @@ pub record IsTrimmed (words : List ℕ) : Type 0 where
 pub record IsGreatest (s : NumberSet) (k : ℕ) : Type 0 where
   pub member : set.contains s k ≡ true
   pub bound : (j : ℕ) → k < j → set.contains s j ≡ false
+
+-- the word at a place keeps a member other than the mark
+abbrev pub HasOther : NumberSet → ℕ → ℕ → Type 0
+HasOther s place mark = (k : ℕ) × (k / 64 ≡ place) × (set.contains s k ≡ true) × (¬ (k ≡ mark))
+
+-- the word at a place keeps no member other than the mark
+abbrev pub LacksOther : NumberSet → ℕ → ℕ → Type 0
+LacksOther s place mark = (k : ℕ) → k / 64 ≡ place → set.contains s k ≡ true → k ≡ mark

@@ -11,7 +11,7 @@ use Rattle.std.proofs.lemmas.Bool.{cases_lt}
 use Rattle.std.proofs.lemmas.Cmp.{tied_itself}
 use Rattle.std.proofs.lemmas.Nat.{xor_lt}
 use Rattle.std.proofs.lemmas.Nat.Bits.{shr_and_one, bit_at-zero, bit_at-lt, bit_at_xor, bit_at-trailing_zeros, same_from_bits}
-use Rattle.lane_sieve.specs.Sets.{NumberSet, number_set, members_below}
+use Rattle.lane_sieve.specs.Sets.{NumberSet, number_set, members_below, words_cmp}
 use Rattle.lane_sieve.proofs.Ranges.{first_before, first_behind}
 use Rattle.lane_sieve.proofs.Bits.{has_bit-is, contains-number_set}
 use Rattle.lane_sieve.proofs.Next.{contains_in, contains-at}
@@ -96,9 +96,6 @@ order_same xs ys e =
 
 -- ---- the order of two lists of words of one length
 
-abbrev pub compared : List ℕ → List ℕ → Ordering
-compared xs ys = slice_cmp nat_cmp (members_below (number_set xs) (64 * length xs)) (members_below (number_set ys) (64 * length ys))
-
 module _ (xs ys : List ℕ) (i : ℕ) (same : (j : ℕ) → j < i → get_or xs j 0 ≡ get_or ys j 0) (differ : get_or xs i 0 ≡ get_or ys i 0 → ⊥)
     (fits : get_or xs i 0 < 2 ^ 64) (fits' : get_or ys i 0 < 2 ^ 64) (long : length xs ≡ length ys) (within : i < length xs) where
   abbrev place : ℕ
@@ -113,13 +110,13 @@ module _ (xs ys : List ℕ) (i : ℕ) (same : (j : ℕ) → j < i → get_or xs 
   bit_is : bit_and (get_or xs i 0 / 2 ^ trailing_zeros w64 (bit_xor (get_or xs i 0) (get_or ys i 0))) 1 ≡ bit_at (get_or xs i 0) (trailing_zeros w64 (bit_xor (get_or xs i 0) (get_or ys i 0)))
   bit_is = shr_and_one (get_or xs i 0) (trailing_zeros w64 (bit_xor (get_or xs i 0) (get_or ys i 0)))
 
-  pub compared-first : bit_and (get_or xs i 0 / 2 ^ trailing_zeros w64 (bit_xor (get_or xs i 0) (get_or ys i 0))) 1 ≡ 1 → (o : Ordering) → GoesOn (number_set ys) (64 * length ys) place o → o ≡ compared xs ys
+  pub compared-first : bit_and (get_or xs i 0 / 2 ^ trailing_zeros w64 (bit_xor (get_or xs i 0) (get_or ys i 0))) 1 ≡ 1 → (o : Ordering) → GoesOn (number_set ys) (64 * length ys) place o → o ≡ words_cmp xs ys
   compared-first one o h =
       let has = first_has xs ys i same differ fits fits' (sym bit_is ∙ one) in
       order_is (number_set xs) (number_set ys) (64 * length ys) place o (omega (arith, place-within)) below has.0 has.1 h
       ∙ ap (λ (n : ℕ). slice_cmp nat_cmp (members_below (number_set xs) (64 * n)) (members_below (number_set ys) (64 * length ys))) (sym long)
 
-  pub compared-second : (bit_and (get_or xs i 0 / 2 ^ trailing_zeros w64 (bit_xor (get_or xs i 0) (get_or ys i 0))) 1 ≡ 1 → ⊥) → (o : Ordering) → GoesOn (number_set xs) (64 * length xs) place o → ordering_reverse o ≡ compared xs ys
+  pub compared-second : (bit_and (get_or xs i 0 / 2 ^ trailing_zeros w64 (bit_xor (get_or xs i 0) (get_or ys i 0))) 1 ≡ 1 → ⊥) → (o : Ordering) → GoesOn (number_set xs) (64 * length xs) place o → ordering_reverse o ≡ words_cmp xs ys
   compared-second none o h =
       let has = second_has xs ys i same differ fits fits' (λ e. none (bit_is ∙ e)) in
       order_reversed (members_below (number_set xs) (64 * length xs)) (members_below (number_set ys) (64 * length ys)) o

@@ -1,15 +1,16 @@
 -- What the tests of words, place by place, say of the sets.
 use Rattle.std.proofs.Common.{◌≡◌, ℕ, zero, suc, ◌+◌, ◌-◌, ◌*◌, ◌≤◌, ◌/◌, ◌%◌, ◌^◌, ◌<◌, ◌&&◌, ◌||◌, not, Bool, true, false, eqb, List, [], ◌∷◌, ◌++◌, length, get_or, take, drop, refl, sym, ap, ◌∙◌, arith, inl, inr, eq-eqb, max, min}
 use Rattle.std.specs.Prelude.{bit_and, bit_or}
-use Rattle.std.specs.Int.{bit_at, w64, trailing_zeros}
+use Rattle.std.specs.Int.{bit_at, bit_not, w64, trailing_zeros}
 use Rattle.std.specs.Simd.Lanes.{zip2}
 use Rattle.std.specs.Cmp.{nat_cmp_total}
 use Rattle.std.specs.FinSet as sets
+use Rattle.std.proofs.Math.Bool.{and-true, and-false}
 use Rattle.std.proofs.lemmas.Bool.{ne_eqb, cases_eq, cases_lt, cases_Bool, false≢true, eqb-true, eqb-false, and_parts}
 use Rattle.std.proofs.lemmas.List.{get_or_past, get_or_append_left, get_or-append_right, get_or-take, get_or-drop, length-take-le}
 use Rattle.std.proofs.lemmas.Simd.{get_or-zip2, length-zip2}
 use Rattle.std.proofs.lemmas.Nat.{and_le_l}
-use Rattle.std.proofs.lemmas.Nat.Bits.{bit_at-zero, bit_at-lt, bit_at_and, bit_at_or, bit_at-trailing_zeros, same_from_bits}
+use Rattle.std.proofs.lemmas.Nat.Bits.{bit_at-zero, bit_at-lt, bit_at_and, bit_at_or, bit_at_not, bit_at-trailing_zeros, same_from_bits}
 use Rattle.lane_sieve.specs.Words.{each_pair, is_part, is_apart, is_subset, do_meet}
 use Rattle.lane_sieve.specs.Sets.{has_bit, number_set}
 use Rattle.lane_sieve.proofs.Bits.{has_bit-is, has_bit-within, contains-number_set, number_set_same}
@@ -160,3 +161,30 @@ united_at xs ys ws i short e =
           let back : n + (i - n) ≡ i = omega arith in
           get_or-append_right (zip2 bit_or (take n xs) ys) (drop n xs) n i 0 zipped ge ∙ get_or-drop n xs (i - n) 0 ∙ ap (λ (k : ℕ). get_or xs k 0) back ∙ sym (ap (bit_or (get_or xs i 0)) (get_or_past ys i 0 ge) ∙ or-zero (get_or xs i 0))
     ])
+
+and_not_bits : (a b : ℕ) → a < 2 → b < 2 → eqb (min a (1 - b)) 1 ≡ (eqb a 1 && not (eqb b 1))
+and_not_bits a b ha hb =
+    elim (cases_eq b 1) [
+      | inl e ↦
+          let m : min a (1 - b) ≡ 0 = omega arith in
+          rw (m, eq-eqb b 1 e) (sym (and-false (eqb a 1)))
+      | inr ne ↦
+          let m : min a (1 - b) ≡ a = omega arith in
+          rw (m, ne_eqb b 1 ne) (sym (and-true (eqb a 1)))
+    ]
+
+-- words that are, place by place, what one list's words have and another's have not
+pub number_set-difference : (ws xs ys : List ℕ) → ((i : ℕ) → get_or ys i 0 < 2 ^ 64) → ((i : ℕ) → get_or ws i 0 ≡ bit_and (get_or xs i 0) (bit_not w64 (get_or ys i 0))) → number_set ws ≡ sets.difference (number_set xs) (number_set ys)
+number_set-difference ws xs ys fits each =
+    number_set_same ws (sets.difference (number_set xs) (number_set ys))
+    (λ k.
+    let j = k % 64 in
+    let x = get_or xs (k / 64) 0 in
+    let y = get_or ys (k / 64) 0 in
+    let turned : bit_at (bit_not w64 y) j ≡ 1 - bit_at y j = bit_at_not w64 y j (fits (k / 64)) (omega arith) in
+    let left : has_bit ws k ≡ (eqb (bit_at x j) 1 && not (eqb (bit_at y j) 1)) =
+    has_bit-is ws k ∙ ap (λ (w : ℕ). eqb (bit_at w j) 1) (each (k / 64)) ∙ ap (λ (b : ℕ). eqb b 1) (bit_at_and x (bit_not w64 y) j ∙ ap (min (bit_at x j)) turned) ∙ and_not_bits (bit_at x j) (bit_at y j) (bit_at-lt x j) (bit_at-lt y j) in
+    let right : sets.contains (sets.difference (number_set xs) (number_set ys)) k ≡ (eqb (bit_at x j) 1 && not (eqb (bit_at y j) 1)) =
+    sets.contains-difference nat_cmp_total (number_set xs) (number_set ys) k ∙ ap (λ (b : Bool). b && not (sets.contains (number_set ys) k)) (contains-number_set xs k ∙ has_bit-is xs k)
+    ∙ ap (λ (b : Bool). eqb (bit_at x j) 1 && not b) (contains-number_set ys k ∙ has_bit-is ys k) in
+    left ∙ sym right)

@@ -2,7 +2,7 @@
 
 ghost use Rattle.std.specs.Prelude.{◌≡◌, ℕ, ◌+◌, ◌-◌, ◌*◌, ◌/◌, ◌^◌, ◌<◌, ◌≤◌, length, true, false, IfSome, IfNone, slice_index};
 ghost use Rattle.std.specs.FinSet as set;
-ghost use Rattle.lane_sieve.specs.Sets.{number_set, members_below};
+ghost use Rattle.lane_sieve.specs.Sets.{number_set, members_below, LacksFrom, LacksBetween, LacksGreater};
 
 /// Whether the number is in the set.
 pub fn has_number(words: &[u64], number: u32) -> bool
@@ -31,10 +31,10 @@ pub fn take_number(words: &mut [u64], number: u32)
 /// The least number of the set that is at least `from`.
 pub fn next_number(words: &[u64], from: usize) -> Option<usize>
     requires { length words.now ≤ 2 ^ 26 }
-    ensures none { IfNone result ((k : ℕ) → from ≤ k → set.contains (number_set words.now) k ≡ false) }
+    ensures none { IfNone result (LacksFrom (number_set words.now) from) }
     ensures member { IfSome result (λ n. set.contains (number_set words.now) n ≡ true) }
     ensures from { IfSome result (λ n. from ≤ n) }
-    ensures least { IfSome result (λ n. (k : ℕ) → from ≤ k → k < n → set.contains (number_set words.now) k ≡ false) }
+    ensures least { IfSome result (LacksBetween (number_set words.now) from) }
     ensures within { IfSome result (λ n. n < 64 * length words.now) }
 {
     let place = from / 64;
@@ -72,7 +72,7 @@ pub fn last_number(words: &[u64]) -> usize
     requires some { 0 < length words.now }
     requires trimmed { 0 < slice_index words.now (length words.now - 1) }
     ensures member { set.contains (number_set words.now) result ≡ true }
-    ensures greatest { (k : ℕ) → result < k → set.contains (number_set words.now) k ≡ false }
+    ensures greatest { LacksGreater (number_set words.now) result }
     ensures within { result < 64 * length words.now }
 {
     let last = words.len() - 1;

@@ -4,7 +4,7 @@ ghost use Rattle.std.specs.Prelude.{◌≡◌, ℕ, ◌+◌, ◌*◌, ◌^◌, �
 ghost use Rattle.std.specs.FinSet as set;
 ghost use Rattle.std.specs.Ordering.{nat_cmp, MatchOrdering};
 ghost use Rattle.std.specs.Cmp.Lexicographic.{slice_cmp};
-ghost use Rattle.lane_sieve.specs.Sets.{number_set, members_below};
+ghost use Rattle.lane_sieve.specs.Sets.{number_set, words_cmp, HasGreater, LacksGreater};
 
 use crate::members::next_number;
 use std::cmp::Ordering;
@@ -14,7 +14,7 @@ use std::cmp::Ordering;
 pub fn compare_numbers(xs: &[u64], ys: &[u64]) -> Ordering
     requires same { length xs.now ≡ length ys.now }
     requires short { length xs.now ≤ 2 ^ 26 }
-    ensures { result ≡ slice_cmp nat_cmp (members_below (number_set xs.now) (64 * length xs.now)) (members_below (number_set ys.now) (64 * length ys.now)) }
+    ensures { result ≡ words_cmp xs.now ys.now }
 {
     let Some(place) = first_difference(xs, ys) else {
         return Ordering::Equal;
@@ -44,7 +44,7 @@ fn first_difference(xs: &[u64], ys: &[u64]) -> Option<usize>
 fn order_by_first(words: &[u64], first: usize) -> Ordering
     requires short { length words.now ≤ 2 ^ 26 }
     requires within { first < 64 * length words.now }
-    ensures { MatchOrdering result ((k : ℕ) × (first < k) × (k < 64 * length words.now) × (set.contains (number_set words.now) k ≡ true)) ⊥ ((k : ℕ) → first < k → set.contains (number_set words.now) k ≡ false) }
+    ensures { MatchOrdering result (HasGreater (number_set words.now) (64 * length words.now) first) ⊥ (LacksGreater (number_set words.now) first) }
 {
     match next_number(words, first + 1) {
         Some(_) => Ordering::Less,

@@ -29,3 +29,13 @@ pub fn unite(xs: &mut [u64], ys: &[u64])
 {
     union_words(&mut xs[..ys.len()], ys);
 }
+
+/// Takes the numbers of the second set, which has as many words, out of the first.
+pub fn subtract(xs: &mut [u64], ys: &[u64])
+    requires { length ys.now ≡ length xs.old }
+    ensures { number_set xs.new ≡ set.difference (number_set xs.old) (number_set ys.now) }
+{
+    for place in 0..xs.len() {
+        xs[place] &= !ys[place];
+    }
+}

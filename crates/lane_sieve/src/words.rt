@@ -1,4 +1,4 @@
-// The kernels over two lists of words of equal length: whole blocks first, then the words behind the last block.
+// The kernels over two lists of words of equal length: whole blocks first, then the words after the last block.
 
 ghost use Rattle.std.specs.Prelude.{◌≡◌, length, bit_or};
 ghost use Rattle.std.specs.Simd.Lanes.{zip2};

@@ -73,6 +73,15 @@ fn against_lists(rt: HostRuntime) -> Result<(), Fail> {
             full.contains_all(&copy) && copy.contains_all(&set) && !set.contains_all(&copy)
         );
         assert_eq!(rt; full.meets(&set), limit > 1);
+        let mut rest = AxiomSet::full(rt.alloc(), limit)?;
+        rest.take_all(&set);
+        assert_eq!(rt; set.len() as u64 + rest.len() as u64, limit as u64);
+        assert!(rt; !rest.meets(&set), "rest at {limit}");
+        rest.put_all(&set);
+        assert!(rt;
+            rest.is_same(&full) && !rest.is_same(&set),
+            "both at {limit}"
+        );
         let last = set_of(rt.alloc(), limit, &[limit])?;
         assert_eq!(rt; last.limit(), limit);
         assert!(rt; copy.meets(&last) && !set.meets(&last), "last of {limit}");

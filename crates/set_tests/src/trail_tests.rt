@@ -1,8 +1,10 @@
 //! Each call once, over the heap and over an arena.
 
-use trail_core::*;
 use bumpalo::Bump;
+use shq_base::NoMemory;
+use std::alloc::Allocator;
 use std::process::Abort;
+use trail_core::{NodeEntries, Trail};
 
 fn check_calls<A: Allocator + Copy>(rt: &impl Abort, alloc: A) -> Result<(), NoMemory> {
     let mut trail = Trail::new_in(alloc);

@@ -1,6 +1,6 @@
 use lane_sieve::{
     Numbers, compare_numbers, copy_words, count_numbers, do_meet, has_number, is_part, last_number,
-    next_number, put_number, repeat_word, take_number, unite,
+    next_number, put_number, repeat_word, subtract, take_number, unite,
 };
 use std::cmp::Ordering;
 use std::test::Fail;
@@ -31,6 +31,8 @@ fn calls(rt: HostRuntime) -> Result<(), Fail> {
     assert_eq!(rt; words, [1 << 63, 1, 0b100]);
     unite(&mut words, &[3]);
     assert_eq!(rt; words, [3 | 1 << 63, 1, 0b100]);
+    subtract(&mut words, &[1, 2, 0b110]);
+    assert_eq!(rt; words, [2 | 1 << 63, 1, 0]);
     assert_eq!(rt;
         repeat_word(rt.alloc(), 9, 2)?.as_slice(),
         [9, 9].as_slice()

@@ -1,7 +1,9 @@
-//! An undoable list of entries, each of one node, over any allocator.
+//! The trail of a backtracking search: a list of entries, each of one node, that is cut back to an earlier length.
 //!
-//! A [`Trail`] is seen as a list of pairs of a node and an entry. Entries are put last, and a search that goes back
-//! cuts the list to an earlier length, a [`Mark`]. Reading and undoing take no memory.
+//! Solvers keep what they derived on a trail and undo it from its end (the trail of Prolog machines and of SAT solvers).
+//! A [`Trail`] is generic over the entries and over the allocator, so that a whole search can stand in one arena. It is
+//! seen as a list of pairs of a node and an entry: [`Trail::push`] puts one last, and [`Trail::undo_to`] cuts the list to
+//! a [`Mark`] that was taken before. Reading and undoing take no memory.
 #![tactic(auto)]
 
 ghost use Rattle.std.specs.Prelude.{◌≡◌, ℕ, ◌+◌, ◌<◌, ◌≤◌, [], ◌∷◌, ◌++◌, length, take, slice_get, Some, OnOk, OnErr};
