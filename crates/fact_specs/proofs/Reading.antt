@@ -1,8 +1,9 @@
 -- What a reading of the concepts keeps.
-use Rattle.std.proofs.Common.{◌≡◌, ℕ, ◌+◌, ◌<◌, ◌&&◌, ◌||◌, max, cond, eqb, ltb, Bool, true, false, List, [], ◌∷◌, length, Option, Some, None, refl, ap, ◌∙◌, sym, eq-eqb}
+use Rattle.std.proofs.Common.{◌≡◌, ℕ, ◌+◌, ◌<◌, ◌&&◌, ◌||◌, max, cond, eqb, ltb, Bool, true, List, [], ◌∷◌, length, Option, Some, None, refl, ap, ◌∙◌, sym, eq-eqb}
 use Rattle.std.specs.List.{list_any}
 use Rattle.std.proofs.lemmas.Bool.{eqb-true, ltb-true, and_parts}
 use Rattle.shq_base.specs.Concept.{Concept, top}
+use Rattle.shq_base.proofs.Bools.{same_truth}
 use Rattle.shape_specs.specs.Same.{is_same}
 use Rattle.shape_specs.specs.Normal.{is_top}
 use Rattle.shape_specs.specs.Shape.{Shape, IsTable}
@@ -68,11 +69,6 @@ module _ (C D : Type 0) (read : C → D) where
 
 -- ---- concepts
 
-same_tests : (a b : Bool) → (a ≡ true → b ≡ true) → (b ≡ true → a ≡ true) → a ≡ b
-same_tests true b to back = sym (to refl)
-same_tests false true to back = back refl
-same_tests false false to back = refl
-
 top_is_top : (t : Concept) → is_top t ≡ true → t ≡ top
 top_is_top top h = refl
 top_is_top _ h = cc
@@ -84,13 +80,13 @@ module _ (table : List Shape) (good : IsTable table) where
 
   same_number : (c d : ℕ) → c < length table → d < length table → is_same (tree_of table d) (tree_of table c) ≡ eqb d c
   same_number c d lt mt =
-      same_tests (is_same (tree_of table d) (tree_of table c)) (eqb d c)
+      same_truth (is_same (tree_of table d) (tree_of table c)) (eqb d c)
       (λ h. eq-eqb d c (numbers_unique table good d c mt lt (same_to_eq (tree_of table d) (tree_of table c) h)))
       (λ h. eq_to_same (tree_of table d) (tree_of table c) (ap (tree_of table) (eqb-true d c h)))
 
   is_top_number : (c : ℕ) → c < length table → is_top (tree_of table c) ≡ eqb c 0
   is_top_number c lt =
-      same_tests (is_top (tree_of table c)) (eqb c 0)
+      same_truth (is_top (tree_of table c)) (eqb c 0)
       (λ h. eq-eqb c 0 (numbers_unique table good c 0 lt good.has_top (top_is_top (tree_of table c) h ∙ sym tree_of_zero)))
       (λ h. ap is_top (ap (tree_of table) (eqb-true c 0 h) ∙ tree_of_zero))
 

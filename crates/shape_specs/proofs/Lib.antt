@@ -1,4 +1,5 @@
 pub mod Ascending
+pub mod Depth
 pub mod Same
 pub mod Tree
 pub mod Unique

@@ -1,6 +1,8 @@
 -- Laws of the definitions.
-use Rattle.std.specs.Prelude.{◌≡◌, ℕ, ◌<◌, ◌↔◌, true, List, ◌∷◌, ◌++◌, length}
+use Rattle.std.specs.Prelude.{◌≡◌, ℕ, ◌<◌, ◌≤◌, ◌↔◌, true, List, ◌∷◌, ◌++◌, length}
 use Rattle.shq_base.specs.Concept.{Concept}
+use Rattle.shape_specs.specs.Normal.{normal_form, negated_form}
+use Rattle.shape_specs.specs.Depth.{role_depth}
 use Rattle.shape_specs.specs.Same.{is_same}
 use Rattle.shape_specs.specs.Shape.{Shape, shape_of, has_parts_below, IsTable}
 use Rattle.shape_specs.specs.Tree.{tree_over, trees_of, tree_of}
@@ -8,6 +10,10 @@ use Rattle.shape_specs.specs.Tree.{tree_over, trees_of, tree_of}
 -- the test says that two trees are equal exactly where they are
 abbrev pub TestIsEquality : Type 0
 TestIsEquality = (c d : Concept) → (is_same c d ≡ true) ↔ (c ≡ d)
+
+-- the normal forms of a concept and of its complement are not deeper than the concept
+abbrev pub NormalFormsAreNotDeeper : Type 0
+NormalFormsAreNotDeeper = (c : Concept) → (role_depth (normal_form c) ≤ role_depth c) × (role_depth (negated_form c) ≤ role_depth c)
 
 -- a longer table gives the numbers of the shorter one the same trees, and its next number that of the shape put there
 abbrev pub TableGrows : Type 0

@@ -1,5 +1,6 @@
 pub mod Same
 pub mod Normal
+pub mod Depth
 pub mod Shape
 pub mod Tree
 pub mod Rows

@@ -13,7 +13,12 @@
 //! - **Role inclusion and simple roles** are those of the OWL 2 Structural Specification, section 11.
 #![tactic(auto)]
 
-ghost use Rattle.shape_specs.specs.Laws.{TestIsEquality, TableGrows, TreesFollowShapes, NumbersAreUnique};
+ghost use Rattle.shape_specs.specs.Laws.{NormalFormsAreNotDeeper, TestIsEquality, TableGrows, TreesFollowShapes, NumbersAreUnique};
+
+/// The roles of a normal form, or of that of the complement, nest no deeper than those of the concept.
+pub fn normal_forms_are_not_deeper()
+    ensures { NormalFormsAreNotDeeper }
+{}
 
 /// The test whether two concepts are the same tree answers yes for equal trees, and for no others.
 pub fn equal_trees_are_found_equal()

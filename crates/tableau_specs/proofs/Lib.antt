@@ -7,6 +7,7 @@ pub mod Reached
 pub mod Saturated
 pub mod Under
 pub mod Listed
+pub mod KeptKinds
 pub mod Longer
 pub mod End
 pub mod KnownFacts

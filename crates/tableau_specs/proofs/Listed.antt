@@ -103,28 +103,28 @@ fresh_listed n x s e first k lt = nodes_listed n x s e first k (pairwise_apart f
 -- ---- steps
 
 module _ (theory : Theory) (table : List Shape) (rows : List Row) (good : IsTable table) (fits : IsChoice theory table rows) where
-  abbrev world : SearchContext
-  world = record { theory = theory; table = table; rows = rows }
+  abbrev context : SearchContext
+  context = record { theory = theory; table = table; rows = rows }
 
-  adds_listed : (fs : List (Fact ℕ)) (x d : ℕ) → Adds world fs x d → d < length table
-  adds_listed fs x d (by_and x' c d' parts lt h sh m) = part_listed world good c d parts sh m
-  adds_listed fs x d (by_all x' y c s e lt mt h sh edge) = all_listed world good c s d sh
+  adds_listed : (fs : List (Fact ℕ)) (x d : ℕ) → Adds context fs x d → d < length table
+  adds_listed fs x d (by_and x' c d' parts lt h sh m) = part_listed context good c d parts sh m
+  adds_listed fs x d (by_all x' y c s e lt mt h sh edge) = all_listed context good c s d sh
   adds_listed fs x d (by_carry x' y c s t e d' carried sh) = listed table d (λ k. (let l = sym sh ∙ k in cc))
   adds_listed fs x d (by_row x' row lt m used) = (All-contains (IsRowOf theory table) rows row fits.rows_fit m).listed
 
-  generates_listed : (fs new : List (Fact ℕ)) → Generates world fs new → are_listed (length table) new ≡ true
-  generates_listed fs new (by_some x c s e at h sh none) = fresh_listed (length table) x s e (node_count fs) 1 (some_listed world good c s e sh)
-  generates_listed fs new (by_least x c n s e at h sh none) = fresh_listed (length table) x s e (node_count fs) n (least_listed world good c n s e sh)
+  generates_listed : (fs new : List (Fact ℕ)) → Generates context fs new → are_listed (length table) new ≡ true
+  generates_listed fs new (by_some x c s e at h sh none) = fresh_listed (length table) x s e (node_count fs) 1 (some_listed context good c s e sh)
+  generates_listed fs new (by_least x c n s e at h sh none) = fresh_listed (length table) x s e (node_count fs) n (least_listed context good c n s e sh)
 
-  pub branch_listed : (fs : List (Fact ℕ)) (b : Branch) → MayBranch world fs b → BranchListed (length table) b
+  pub branch_listed : (fs : List (Fact ℕ)) (b : Branch) → MayBranch context fs b → BranchListed (length table) b
   branch_listed fs b (on_union x c parts lt h sh none) = tt
-  branch_listed fs b (on_filler x c n s e y lt h sh next none out) = most_listed world good c n s e sh
+  branch_listed fs b (on_filler x c n s e y lt h sh next none out) = most_listed context good c n s e sh
   branch_listed fs b (on_pair x c n s e y z lt h sh more cy cz ne apart) = tt
 
   alternative_listed : (b : Branch) (k : ℕ) (f : Fact ℕ) → IsAlternative table b k f → BranchListed (length table) b → is_fact_listed (length table) f ≡ true
   alternative_listed b k f (of_union x c k' d parts sh read) h =
       let m : Contains parts d = (k', slice_get_within parts k' d read, get_or_from_slice_get parts k' d d read) in
-      lt-ltb d (length table) (disjunct_listed world good c d parts sh m)
+      lt-ltb d (length table) (disjunct_listed context good c d parts sh m)
   alternative_listed b k f (of_filler y e) h = lt-ltb e (length table) h
   alternative_listed b k f (of_complement y e d neg) h = lt-ltb d (length table) neg.listed
   alternative_listed b k f (of_joining y z) h = refl
@@ -137,16 +137,16 @@ module _ (theory : Theory) (table : List Shape) (rows : List Row) (good : IsTabl
       (All-cons (ItemListed (length table)) (Mark c) (Says f ∷ []) about
       (All-cons (ItemListed (length table)) (Says f) [] (alternative_listed c.branch k f alt about) (All-nil (ItemListed (length table)))))
 
-  legal_listed : (old new : List Item) → All (ItemListed (length table)) old → IsLegal world old new → All (ItemListed (length table)) new
+  legal_listed : (old new : List Item) → All (ItemListed (length table)) old → IsLegal context old new → All (ItemListed (length table)) new
   legal_listed old new h (add x d nc adds out) = All-push (ItemListed (length table)) old (Says (Has x d)) h (lt-ltb d (length table) (adds_listed (facts_of old) x d adds))
   legal_listed old new h (generate fs nc makes) = All-append (ItemListed (length table)) old (says fs) h (says_listed (length table) fs (generates_listed (facts_of old) fs makes))
   legal_listed old new h (choose c f nc may one alt) = branched_listed old c 1 f h (branch_listed (facts_of old) c.branch may) alt
   legal_listed old new h (back place c f clash read alt) =
       let about : BranchListed (length table) c.branch =
       (let g = All-get_or (ItemListed (length table)) old place (Mark c) (slice_get_within old place (Mark c) read) h in rw (get_or_from_slice_get old place (Mark c) (Mark c) read) at g) in
-      branched_listed (take place old) (next_choice world c) (c.alternative + 1) f (All-take (ItemListed (length table)) place old h) about alt
+      branched_listed (take place old) (next_choice context c) (c.alternative + 1) f (All-take (ItemListed (length table)) place old h) about alt
 
-  pub follows_listed : (first : List Item) (k : ℕ) (trail : List Item) → All (ItemListed (length table)) first → Follows world first k trail → All (ItemListed (length table)) trail
+  pub follows_listed : (first : List Item) (k : ℕ) (trail : List Item) → All (ItemListed (length table)) first → Follows context first k trail → All (ItemListed (length table)) trail
   follows_listed first zero trail h r = subst (All (ItemListed (length table))) (sym r) h
   follows_listed first (suc k) trail h r = legal_listed r.0 trail (follows_listed first k r.0 h r.1) r.2
 

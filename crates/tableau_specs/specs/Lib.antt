@@ -5,6 +5,7 @@ pub mod StateLaws
 pub mod StateExamples
 pub mod Steps
 pub mod Reached
+pub mod KeptKinds
 pub mod StepLaws
 pub mod StepExamples
 pub mod SearchExample

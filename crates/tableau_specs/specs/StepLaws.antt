@@ -1,13 +1,15 @@
 -- Laws of the trails that a search reaches. They hold in any context, from any start.
 use Rattle.std.specs.Prelude.{◌≡◌, ℕ, ◌<◌, Bool, true, false, List, ◌++◌, length, take, Some, slice_get}
 use Rattle.shq_base.specs.Concept.{Concept}
+use Rattle.shape_specs.specs.Normal.{normal_form, negated_form}
 use Rattle.shape_specs.specs.Shape.{Shape, shape_of, IsTable}
 use Rattle.shape_specs.specs.Shape.Shape.{all_of}
+use Rattle.shape_specs.specs.Tree.{tree_of}
 use Rattle.shape_specs.specs.Rows.{Theory, Row}
 use Rattle.fact_specs.specs.declared.Fact.{Fact}
 use Rattle.fact_specs.specs.declared.Fact.TheVariants.{Has, Edge, Apart, Same}
 use Rattle.fact_specs.specs.Joins.{rep}
-use Rattle.fact_specs.specs.State.{node_count, parent, has_edge, is_successor, are_apart}
+use Rattle.fact_specs.specs.State.{node_count, parent, has, has_edge, is_successor, are_apart}
 use Rattle.fact_specs.specs.Reading.{are_listed}
 use Rattle.tableau_specs.specs.declared.Block.TheVariants.{Clear, Under}
 use Rattle.tableau_specs.specs.Blocked.{block_of}
@@ -17,6 +19,7 @@ use Rattle.tableau_specs.specs.declared.Item.{Item}
 use Rattle.tableau_specs.specs.declared.Item.TheVariants.{Fact as Says, Mark}
 use Rattle.tableau_specs.specs.Items.{facts_of}
 use Rattle.tableau_specs.specs.Steps.{SearchContext, IsCarried, IsLegal, IsSaturated, HasClash, HasPlainClash}
+use Rattle.tableau_specs.specs.KeptKinds.{IsKept}
 use Rattle.tableau_specs.specs.Reached.{start, Follows, IsReached}
 
 -- whether a role is any role
@@ -89,6 +92,20 @@ ClearHasNoneUnder = (w : SearchContext) (sub not_sup k : ℕ) (trail : List Item
 abbrev pub NumbersAreListed : Type 0
 NumbersAreListed = (theory : Theory) (sub sup : Concept) (table : List Shape) (rows : List Row) (k : ℕ) (trail : List Item)
     → IsReached theory sub sup table rows k trail → are_listed (length table) (facts_of trail) ≡ true
+
+-- ---- what the rules keep
+
+-- each concept that the facts give is of the kind, and so is the role of each edge
+pub record AreOfKind (table : List Shape) (fs : List (Fact ℕ)) (p : Concept → Bool) (e : ℕ → Bool) : Type 0 where
+  pub concepts : (x c : ℕ) → has fs x c ≡ true → p (tree_of table c) ≡ true
+  pub edges : (roles : ℕ → Bool) (x y : ℕ) → has_edge fs roles x y ≡ true → (r : ℕ) × (roles r ≡ true) × (e r ≡ true)
+
+-- where the concepts of the start are of a kind that the rules keep, so is all that a reached trail says
+abbrev pub KeptKindsStay : Type 0
+KeptKindsStay = (theory : Theory) (sub sup : Concept) (table : List Shape) (rows : List Row) (k : ℕ) (trail : List Item)
+    → IsReached theory sub sup table rows k trail
+    → (p : Concept → Bool) (e : ℕ → Bool) → IsKept theory (λ c. p c ≡ true) (λ r. e r ≡ true)
+    → p (normal_form sub) ≡ true → p (negated_form sup) ≡ true → AreOfKind table (facts_of trail) p e
 
 -- ---- a table may grow while a search goes on
 

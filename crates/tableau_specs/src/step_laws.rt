@@ -1,5 +1,5 @@
 //! Laws of the trails that legal steps reach.
-ghost use Rattle.tableau_specs.specs.StepLaws.{NodesStandBefore, NoneIsApartFromItself, JoinsAreOfSiblings, SuccessorsAreChildren, ParentsAreLess, ClearHasNoneUnder, NumbersAreListed, TablesMayGrow, SaturatedHasNoClash, SaturatedIsTheEnd};
+ghost use Rattle.tableau_specs.specs.StepLaws.{NodesStandBefore, NoneIsApartFromItself, JoinsAreOfSiblings, SuccessorsAreChildren, ParentsAreLess, ClearHasNoneUnder, NumbersAreListed, KeptKindsStay, TablesMayGrow, SaturatedHasNoClash, SaturatedIsTheEnd};
 
 /// Each item of a reached trail speaks of nodes that stand before it.
 pub fn nodes_stand_before_they_are_spoken_of()
@@ -34,6 +34,11 @@ pub fn no_successor_of_a_clear_node_is_under_a_block()
 /// Each concept number of a reached trail is in the table.
 pub fn numbers_are_listed()
     ensures { NumbersAreListed }
+{}
+
+/// What the rules keep of concepts and of the roles of edges holds of each concept and edge of a reached trail.
+pub fn kept_kinds_stay()
+    ensures { KeptKindsStay }
 {}
 
 /// A trail that is reached over a table is reached over each longer one.
