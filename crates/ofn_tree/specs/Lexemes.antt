@@ -17,16 +17,16 @@ abbrev pub is_space : ℕ → Bool
 is_space b = nat_eq b 32 || nat_eq b 9 || nat_eq b 10 || nat_eq b 13
 
 -- neither whitespace nor a control character; each byte of a character beyond ASCII is plain
-abbrev pub is_plain : ℕ → Bool
-is_plain b = nat_lt 32 b && not (nat_eq b 127)
+abbrev pub is_printing : ℕ → Bool
+is_printing b = nat_lt 32 b && not (nat_eq b 127)
 
 -- of an IRI: none of `< > "`
 abbrev pub is_iri_byte : ℕ → Bool
-is_iri_byte b = is_plain b && not (nat_eq b 60) && not (nat_eq b 62) && not (nat_eq b 34)
+is_iri_byte b = is_printing b && not (nat_eq b 60) && not (nat_eq b 62) && not (nat_eq b 34)
 
 -- of a name: none of `( ) = < > " # @ ^`
 abbrev pub is_name_byte : ℕ → Bool
-is_name_byte b = is_plain b && not (nat_eq b 40) && not (nat_eq b 41) && not (nat_eq b 61) && not (nat_eq b 60) && not (nat_eq b 62) && not (nat_eq b 34) && not (nat_eq b 35) && not (nat_eq b 64) && not (nat_eq b 94)
+is_name_byte b = is_printing b && not (nat_eq b 40) && not (nat_eq b 41) && not (nat_eq b 61) && not (nat_eq b 60) && not (nat_eq b 62) && not (nat_eq b 34) && not (nat_eq b 35) && not (nat_eq b 64) && not (nat_eq b 94)
 
 -- of a tag behind its `@`: an ASCII letter or digit, or `-`
 abbrev pub is_tag_byte : ℕ → Bool
