@@ -2,7 +2,7 @@
 use Rattle.std.proofs.Common.{◌≡◌, ◌≢◌, ℕ, List, Option, Some, refl, ap, sym, ◌∙◌, subst}
 use Rattle.ofn_tree.specs.Lexemes.{end_line}
 use Rattle.ofn_tree.specs.Items.{Item}
-use Rattle.ofn_tree.specs.Document.{Reading, reading}
+use Rattle.ofn_tree.specs.Document.{DocumentTokens, reading}
 use Rattle.ofn_tree.specs.Faults.{IsFaultOf, token_fault, bracket_fault}
 use Rattle.ofn_tree.specs.declared.fault.TextFault.{TextFault}
 use Rattle.ofn_tree.specs.declared.fault.TextFault.TheVariants as faults
@@ -31,7 +31,7 @@ module _ (tests : List Item → List Test) (s : Counts) (text : List ℕ) (fault
   pub token_fault_refuses : IsFaultOf (token_fault text) fault → refusal_of fault ≢ NoMemory → IsRefusedBy tests s text (refusal_of fault)
   token_fault_refuses is = fault_refuses tests s text fault (first_fault (token_fault text) (tree_fault (end_line text) (reading text)) fault is)
 
-  pub tree_fault_refuses : (r : Reading) (end : ℕ) → reading text ≡ Some r → end ≡ end_line text → IsFaultOf (bracket_fault end 0 r.tokens) fault → refusal_of fault ≢ NoMemory → IsRefusedBy tests s text (refusal_of fault)
+  pub tree_fault_refuses : (r : DocumentTokens) (end : ℕ) → reading text ≡ Some r → end ≡ end_line text → IsFaultOf (bracket_fault end 0 r.tokens) fault → refusal_of fault ≢ NoMemory → IsRefusedBy tests s text (refusal_of fault)
   tree_fault_refuses r end cut line is =
       let whole : text_fault text ≡ bracket_fault end 0 r.tokens =
       ap (λ (t : Option TextFault). fault_or_else t (tree_fault (end_line text) (reading text))) (no_token_fault text r cut)

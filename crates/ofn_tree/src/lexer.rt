@@ -3,7 +3,7 @@ ghost use Rattle.std.specs.Prelude.{◌≡◌, ℕ, List, ◌<◌, ◌≤◌, �
 ghost use Rattle.std.specs.Str.{IsUtf8, IsCharBoundary};
 ghost use Rattle.ofn_tree.specs.Token.{PlainToken, plain_token};
 ghost use Rattle.ofn_tree.specs.Lexemes.{utf8_front, bad_byte_line, mark_len, unended_fault};
-ghost use Rattle.ofn_tree.specs.Document.{Reading, nothing_met, is_last, met_after, behind_name, behind_carets, is_document_name, latest_after, reading};
+ghost use Rattle.ofn_tree.specs.Document.{DocumentTokens, nothing_met, is_last, met_after, behind_name, behind_carets, is_document_name, latest_after, reading};
 ghost use Rattle.ofn_tree.specs.Spans.{AreSpans, HaveLines};
 ghost use Rattle.ofn_tree.specs.Group.{EndsDocument};
 ghost use Rattle.ofn_tree.specs.Faults.{IsFaultOf, token_fault};
@@ -247,19 +247,19 @@ pub fn tokens(alloc: Global, text: &[u8]) -> Result<(Vec<Token<'_>>, usize), Tex
 /// The tokens that are read are slices of the text, in order and apart, up to the place behind the last byte that was
 /// read.
 pub fn tokens_are_slices()
-    ensures { (input : List ℕ) (r : Reading) → reading input ≡ Some r → AreSpans input 0 r.tokens r.place_behind × (r.place_behind ≤ length input) }
+    ensures { (input : List ℕ) (r : DocumentTokens) → reading input ≡ Some r → AreSpans input 0 r.tokens r.place_behind × (r.place_behind ≤ length input) }
 {}
 
 /// The line of each token that is read is that on which the text before it ends.
 pub fn tokens_have_lines()
-    ensures { (input : List ℕ) (r : Reading) → reading input ≡ Some r → HaveLines input r.tokens }
+    ensures { (input : List ℕ) (r : DocumentTokens) → reading input ≡ Some r → HaveLines input r.tokens }
 {}
 
 /// The tokens that are read end with the first bracket that closes a group whose name is `Ontology` and which begins
 /// where no bracket is open; without such a bracket the whole text is read.
 pub fn tokens_end_with_the_document()
-    ensures ends { (input : List ℕ) (r : Reading) → reading input ≡ Some r → EndsDocument r.tokens ⊎ (r.place_behind ≡ length input) }
-    ensures first { (input : List ℕ) (r : Reading) (front rest : List PlainToken) (t : PlainToken) → reading input ≡ Some r → r.tokens ≡ front ++ t ∷ rest → EndsDocument (front ++ t ∷ []) → rest ≡ [] }
+    ensures ends { (input : List ℕ) (r : DocumentTokens) → reading input ≡ Some r → EndsDocument r.tokens ⊎ (r.place_behind ≡ length input) }
+    ensures first { (input : List ℕ) (r : DocumentTokens) (front rest : List PlainToken) (t : PlainToken) → reading input ≡ Some r → r.tokens ≡ front ++ t ∷ rest → EndsDocument (front ++ t ∷ []) → rest ≡ [] }
 {}
 
 /// A text either has tokens, or a first fault.
