@@ -8,7 +8,7 @@ use Rattle.std.proofs.lemmas.Str.{IsCharBoundary-after_ascii, IsCharBoundary-pas
 use Rattle.std.specs.Str.{IsUtf8, IsCharBoundary}
 use lib.Utf8.{encode}
 use Rattle.std.specs.List.{prefix_len, starts_with}
-use Rattle.ofn_tree.specs.Lexemes.{is_space, is_name_byte, is_comment_byte, is_tag_byte, byte_order_mark}
+use Rattle.ofn_tree.specs.Lexemes.{is_whitespace, is_name_byte, is_comment_byte, is_tag_byte, byte_order_mark}
 
 -- `&text[1..]`
 pub behind_first : (text : List ℕ) → take (length text - 1) (drop 1 text) ≡ drop 1 text
@@ -53,7 +53,7 @@ behind_tag text rest n utf8 some behind is more =
     subst (IsCharBoundary text) there
     (behind_close text rest (n - 1) (get_or rest (n - 1) 0) utf8 some behind inside refl (tag_byte-low (get_or rest (n - 1) 0) (prefix_len_passes is_tag_byte rest (n - 1) 0 before)))
 
-pub space-low : (b : ℕ) → is_space b ≡ true → b < 128
+pub space-low : (b : ℕ) → is_whitespace b ≡ true → b < 128
 space-low b h = grind (arith, common_steps, h)
 
 pub name_stop-low : (b : ℕ) → is_name_byte b ≡ false → b < 128

@@ -10,7 +10,7 @@ use Rattle.std.specs.Str.Lossy.{utf8_valid_len}
 use Rattle.ofn_tree.specs.declared.token.Kind.TheVariants.{OpenBracket, CloseBracket, Equals, Iri, Tag, Carets}
 use Rattle.ofn_tree.specs.declared.fault.TextFault.{TextFault}
 use Rattle.ofn_tree.specs.Token.{PlainToken}
-use Rattle.ofn_tree.specs.Lexemes.{Lexeme, Cut, gap, token, wrong, unended, cut_short, iri_at, Quoted, closes, breaks, runs_on, longer, quoted, string_at, tag_at, carets_at, name_at, sign_at, cut_at, is_space, is_comment_byte, is_iri_byte, is_tag_byte, is_name_byte, line_behind, Piece, whole, faulty, token_of, end_pieces, pieces_with, pieces_from, mark_len, utf8_front, bad_byte_line, front_pieces}
+use Rattle.ofn_tree.specs.Lexemes.{Lexeme, Cut, gap, token, wrong, unended, cut_short, iri_at, Quoted, closes, breaks, runs_on, longer, quoted, string_at, tag_at, carets_at, name_at, sign_at, cut_at, is_whitespace, is_comment_byte, is_iri_byte, is_tag_byte, is_name_byte, line_behind, Piece, whole, faulty, token_of, end_pieces, pieces_with, pieces_from, mark_len, utf8_front, bad_byte_line, front_pieces}
 use Rattle.ofn_tree.specs.Document.{Met, DocumentTokens, nothing_met, is_last, met_after, document_front, with_token, document, reading}
 use Rattle.ofn_tree.specs.Spans.{around, width, IsSlice, AreSpans}
 
@@ -98,7 +98,7 @@ either b bs false x y first rest = rest
 
 cut-fits : (b : ℕ) (bs : List ℕ) → CutFits b bs (cut_at b bs)
 cut-fits b bs =
-    either b bs (is_space b) (gap 0) _ tt
+    either b bs (is_whitespace b) (gap 0) _ tt
     (either b bs (nat_eq b 35) (gap (prefix_len is_comment_byte bs)) _ tt
     (either b bs (nat_eq b 40) (sign_at OpenBracket b) _ (record { slice = refl; size = refl; within = omega arith })
     (either b bs (nat_eq b 41) (sign_at CloseBracket b) _ (record { slice = refl; size = refl; within = omega arith })

@@ -13,8 +13,8 @@ use Rattle.ofn_tree.specs.Token.{PlainToken}
 -- ---- bytes
 
 -- blank, tab, line feed and carriage return
-abbrev pub is_space : ℕ → Bool
-is_space b = nat_eq b 32 || nat_eq b 9 || nat_eq b 10 || nat_eq b 13
+abbrev pub is_whitespace : ℕ → Bool
+is_whitespace b = nat_eq b 32 || nat_eq b 9 || nat_eq b 10 || nat_eq b 13
 
 -- neither whitespace nor a control character; each byte of a character beyond ASCII is plain
 abbrev pub is_printing : ℕ → Bool
@@ -121,7 +121,7 @@ sign_at kind b = token (record { kind = kind; text = b ∷ []; more = 0 })
 -- what begins with b, behind which bs stand
 abbrev pub cut_at : ℕ → List ℕ → Cut
 cut_at b bs =
-    if is_space b then gap 0
+    if is_whitespace b then gap 0
     else if nat_eq b 35 then gap (prefix_len is_comment_byte bs)
     else if nat_eq b 40 then sign_at OpenBracket b
     else if nat_eq b 41 then sign_at CloseBracket b

@@ -6,7 +6,7 @@ ghost use Rattle.ofn_tree.specs.Lexemes.{is_iri_byte, is_name_byte, is_tag_byte,
 ghost use Rattle.ofn_tree.specs.Scanned.{cut_of, quoted_of, IsCutWithin, ClosesWithin, HasFeeds, ClosesBehind};
 
 use crate::Kind;
-use crate::bytes::{comment_len, feeds_in, iri_len, is_name_byte, is_space, name_len, tag_len};
+use crate::bytes::{comment_len, feeds_in, iri_len, is_name_byte, is_whitespace, name_len, tag_len};
 
 // A token, how many bytes it takes up, and how many of them are line feeds.
 #[derive(Clone, Copy)]
@@ -216,7 +216,7 @@ pub(crate) fn cut_at(text: &str) -> Cut<'_>
     ensures feeds { HasFeeds text.now result }
 {
     match text.as_bytes()[0] {
-        first if is_space(first) => Cut::Gap {
+        first if is_whitespace(first) => Cut::Gap {
             len: 1,
             line_feeds: feeds_in(first),
         },

@@ -10,7 +10,7 @@ use Rattle.ofn_tree.specs.declared.token.Kind.{Kind}
 use Rattle.ofn_tree.specs.declared.token.Kind.TheVariants.{OpenBracket, CloseBracket, Equals, Iri, String, Tag, Carets, Name}
 use Rattle.ofn_tree.specs.declared.fault.TextFault.{TextFault}
 use Rattle.ofn_tree.specs.Token.{PlainToken}
-use Rattle.ofn_tree.specs.Lexemes.{is_space, is_iri_byte, is_name_byte, is_tag_byte, is_comment_byte, line_behind, Lexeme, Cut, gap, wrong, unended, cut_short, sign_at, Quoted, closes, breaks, runs_on, longer, quoted, string_at, tag_at, carets_at, iri_at, name_at, cut_at, Piece, whole, faulty, end_pieces, token_of, pieces_with, pieces_from, utf8_front, byte_order_mark, mark_len, bad_byte_line, pieces}
+use Rattle.ofn_tree.specs.Lexemes.{is_whitespace, is_iri_byte, is_name_byte, is_tag_byte, is_comment_byte, line_behind, Lexeme, Cut, gap, wrong, unended, cut_short, sign_at, Quoted, closes, breaks, runs_on, longer, quoted, string_at, tag_at, carets_at, iri_at, name_at, cut_at, Piece, whole, faulty, end_pieces, token_of, pieces_with, pieces_from, utf8_front, byte_order_mark, mark_len, bad_byte_line, pieces}
 use Rattle.ofn_tree.specs.Lexemes as lexemes
 use Rattle.ofn_tree.specs.Document.{Met, DocumentTokens, is_last, met_after, nothing_met, with_token, document_front, document, reading}
 use Rattle.ofn_tree.specs.Items.{Item, name_item, iri_item, literal_item, sign_item, group_item, Items, no_items, item, items_of, Mark, opening, closing, single, mark_of, mark_at, is_head, unmarked, marks_from, written, written_all, IsTree}
@@ -160,7 +160,7 @@ cut_good b bs utf8 =
     let close : Cut = cond (nat_eq b 41) (sign_at CloseBracket b) equals in
     let open_ : Cut = cond (nat_eq b 40) (sign_at OpenBracket b) close in
     let comment : Cut = cond (nat_eq b 35) (gap (prefix_len is_comment_byte bs)) open_ in
-    either good (gap 0) comment (is_space b) (λ h. behind_low b bs utf8 (space-low b h)) (λ _.
+    either good (gap 0) comment (is_whitespace b) (λ h. behind_low b bs utf8 (space-low b h)) (λ _.
     either good (gap (prefix_len is_comment_byte bs)) open_ (nat_eq b 35) (λ h. comment_cut b bs utf8) (λ _.
     either good (sign_at OpenBracket b) close (nat_eq b 40) (λ h. (tt, rest 40 (omega arith) h)) (λ _.
     either good (sign_at CloseBracket b) equals (nat_eq b 41) (λ h. (tt, rest 41 (omega arith) h)) (λ _.
