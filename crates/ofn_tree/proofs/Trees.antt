@@ -10,7 +10,7 @@ use Rattle.ofn_tree.specs.declared.fault.TextFault.TheVariants.{Unbalanced, TooD
 use Rattle.ofn_tree.specs.Token.{PlainToken, plain_token, is_open, is_close, is_name, is_string, is_tag, is_carets, is_datatype}
 use Rattle.ofn_tree.specs.Items.{Item, group_item, items_of, Mark, opening, closing, mark_of, mark_at, is_head, begins_with_open, begins_with_datatype, begins_with_type, literal_rest, rest_behind, marks_from, marks, written, written_all, nesting, nesting_all}
 use Rattle.ofn_tree.specs.Parsed.{begins_with_close, begins_with_head, IsItems, IsGroup}
-use Rattle.ofn_tree.specs.Faults.{IsFaultOf, fault_or, bracket_fault}
+use Rattle.ofn_tree.specs.Faults.{TellsFault, fault_or, bracket_fault}
 
 written_all-append : (is : List Item) (i : Item) → written_all (items_of (is ++ i ∷ [])) ≡ written_all (items_of is) ++ written i
 written_all-append [] i = append-nil (written i)
@@ -379,8 +379,8 @@ group-at end depth head line tokens place stop is inside within opens room inner
     (subst (λ l. IsItems end (depth + 1) l (from tokens stop) is) (sym (behind tokens place no_token inside)) inner) closes)
 
 -- a fault that stands behind other tokens is theirs
-pub IsFaultOf-before : (there here : Option TextFault) (fault : TextFault) → here ≡ there → IsFaultOf there fault → IsFaultOf here fault
-IsFaultOf-before there here fault same h = subst (λ o. IsFaultOf o fault) (sym same) h
+pub TellsFault-before : (there here : Option TextFault) (fault : TextFault) → here ≡ there → TellsFault there fault → TellsFault here fault
+TellsFault-before there here fault same h = subst (λ o. TellsFault o fault) (sym same) h
 
 begins_inside : {A : Type 0} (f : A → PlainToken) (xs : List A) (n : ℕ) → begins_with_open (drop n (map f xs)) ≡ true → n < length xs
 begins_inside f [] zero h = cc

@@ -7,12 +7,12 @@ use Rattle.ofn_tree.specs.Token.{PlainToken, is_open, is_close}
 use Rattle.ofn_tree.specs.Document.{document}
 
 -- an answer tells the fault that there is, or that memory was refused
-abbrev pub IsFaultOf : Option TextFault → TextFault → Type 0
-IsFaultOf there NoMemory = Unit {0}
-IsFaultOf there (BadUtf8 line) = there ≡ Some (BadUtf8 line)
-IsFaultOf there (BadToken line) = there ≡ Some (BadToken line)
-IsFaultOf there (Unbalanced line) = there ≡ Some (Unbalanced line)
-IsFaultOf there (TooDeep line) = there ≡ Some (TooDeep line)
+abbrev pub TellsFault : Option TextFault → TextFault → Type 0
+TellsFault there NoMemory = Unit {0}
+TellsFault there (BadUtf8 line) = there ≡ Some (BadUtf8 line)
+TellsFault there (BadToken line) = there ≡ Some (BadToken line)
+TellsFault there (Unbalanced line) = there ≡ Some (Unbalanced line)
+TellsFault there (TooDeep line) = there ≡ Some (TooDeep line)
 
 -- the first fault of a text's tokens, which there is where a text has no reading
 abbrev pub token_fault : List ℕ → Option TextFault

@@ -6,7 +6,7 @@ ghost use Rattle.ofn_tree.specs.Lexemes.{utf8_front, bad_byte_line, mark_len, un
 ghost use Rattle.ofn_tree.specs.Document.{DocumentTokens, nothing_met, is_last, met_after, behind_name, behind_carets, is_document_name, latest_after, reading};
 ghost use Rattle.ofn_tree.specs.Spans.{AreSpans, HaveLines};
 ghost use Rattle.ofn_tree.specs.Group.{EndsDocument};
-ghost use Rattle.ofn_tree.specs.Faults.{IsFaultOf, token_fault};
+ghost use Rattle.ofn_tree.specs.Faults.{TellsFault, token_fault};
 ghost use Rattle.ofn_tree.specs.Lexed.{reading_of};
 ghost use Rattle.ofn_tree.specs.Scanned.{met_of};
 
@@ -205,7 +205,7 @@ pub fn tokens(alloc: Global, text: &[u8]) -> Result<(Vec<Token<'_>>, usize), Tex
     requires { length text.now ≤ 4_294_967_293 }
     ensures ok { IfOk result (λ r. reading text.now ≡ Some (reading_of r.0.items r.1)) }
     ensures within { IfOk result (λ r. r.1 ≤ length text.now) }
-    ensures fault { IfErr result (IsFaultOf (token_fault text.now)) }
+    ensures fault { IfErr result (TellsFault (token_fault text.now)) }
 {
     let front = utf8_front(text);
     let bad_line = bad_byte_line(front, text);

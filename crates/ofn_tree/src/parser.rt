@@ -4,7 +4,7 @@ ghost use Rattle.ofn_tree.specs.Token.{plain_token, PlainToken, is_open, is_clos
 ghost use Rattle.ofn_tree.specs.Items.{Item, IsTree, written, nesting, mark_of, begins_with_open, begins_with_datatype, begins_with_type, literal_rest, rest_behind};
 ghost use Rattle.ofn_tree.specs.Form.{head_text};
 ghost use Rattle.ofn_tree.specs.Parsed.{begins_with_close, begins_with_head, IsItems, IsGroup};
-ghost use Rattle.ofn_tree.specs.Faults.{IsFaultOf, bracket_fault};
+ghost use Rattle.ofn_tree.specs.Faults.{TellsFault, bracket_fault};
 
 use crate::{Form, Kind, TextFault, Token, Tree};
 use std::alloc::Global;
@@ -28,7 +28,7 @@ pub fn tree<'a>(
 ) -> Result<Vec<Tree<'a>>, TextFault>
     ensures ok { IfOk result (λ trees. IsTree (map plain_token tokens.now) trees.items) }
     ensures no_fault { OnOk result (bracket_fault end_line 0 (map plain_token tokens.now) ≡ None) }
-    ensures fault { IfErr result (IsFaultOf (bracket_fault end_line 0 (map plain_token tokens.now))) }
+    ensures fault { IfErr result (TellsFault (bracket_fault end_line 0 (map plain_token tokens.now))) }
 {
     let (trees, place) = items(alloc, tokens, 0, 0, end_line)?;
     if place < tokens.len() {
@@ -51,7 +51,7 @@ fn items<'a>(
     ensures within { IfOk result (λ r. (start ≤ r.1) × (r.1 ≤ length tokens.now)) }
     ensures read { IfOk result (λ r. IsItems end_line depth (drop start (map plain_token tokens.now)) (drop r.1 (map plain_token tokens.now)) r.0.items) }
     ensures ended { IfOk result (λ r. r.1 < length tokens.now → begins_with_close (drop r.1 (map plain_token tokens.now)) ≡ true) }
-    ensures fault { IfErr result (IsFaultOf (bracket_fault end_line depth (drop start (map plain_token tokens.now)))) }
+    ensures fault { IfErr result (TellsFault (bracket_fault end_line depth (drop start (map plain_token tokens.now)))) }
 {
     let mut trees = Vec::new(alloc);
     let mut place = start;
@@ -68,7 +68,7 @@ fn items<'a>(
 
 fn push_tree<'a>(trees: &mut Vec<Tree<'a>>, tree: Tree<'a>) -> Result<(), TextFault>
     ensures pushed { OnOk result (trees.new.items ≡ trees.old.items ++ tree.entry ∷ []) }
-    ensures refused { IfErr result (IsFaultOf None) }
+    ensures refused { IfErr result (TellsFault None) }
 {
     trees.push(tree)?;
     Ok(())
@@ -88,7 +88,7 @@ fn one<'a>(
     requires begins { begins_with_close (drop start (map plain_token tokens.now)) ≡ false }
     ensures within { IfOk result (λ r. (start < r.1) × (r.1 ≤ length tokens.now)) }
     ensures read { IfOk result (λ r. IsItems end_line depth (drop start (map plain_token tokens.now)) (drop r.1 (map plain_token tokens.now)) (r.0 ∷ [])) }
-    ensures fault { IfErr result (IsFaultOf (bracket_fault end_line depth (drop start (map plain_token tokens.now)))) }
+    ensures fault { IfErr result (TellsFault (bracket_fault end_line depth (drop start (map plain_token tokens.now)))) }
 {
     let token = tokens[start];
     if opens_at(tokens, start) {
@@ -254,7 +254,7 @@ fn group<'a>(
     requires begins { begins_with_open (drop place (map plain_token tokens.now)) ≡ true }
     ensures within { IfOk result (λ r. (place < r.1) × (r.1 ≤ length tokens.now)) }
     ensures read { IfOk result (λ r. IsGroup end_line depth (head_text head.entry) line (drop place (map plain_token tokens.now)) (drop r.1 (map plain_token tokens.now)) r.0) }
-    ensures fault { IfErr result (IsFaultOf (bracket_fault end_line depth (drop place (map plain_token tokens.now)))) }
+    ensures fault { IfErr result (TellsFault (bracket_fault end_line depth (drop place (map plain_token tokens.now)))) }
 {
     if depth == MAX_OPEN {
         return Err(TextFault::TooDeep(tokens[place].line));
