@@ -96,16 +96,16 @@ abbrev pub is_digit : ℕ → Bool
 is_digit b = nat_le 48 b && nat_le b 57
 
 -- the number that a name of ASCII digits stands for; leading zeros do not matter
-abbrev pub number_in : List ℕ → Option ℕ
-number_in [] = None
-number_in (b ∷ bs) = if list_all is_digit (b ∷ bs) then Some (digits_value 10 (b ∷ bs)) else None
+abbrev pub cardinality_in : List ℕ → Option ℕ
+cardinality_in [] = None
+cardinality_in (b ∷ bs) = if list_all is_digit (b ∷ bs) then Some (digits_value 10 (b ∷ bs)) else None
 
 abbrev pub number_tests_of : ℕ → Option ℕ → List Test
 number_tests_of line (Some n) = number line n ∷ []
 number_tests_of line None = shape line false ∷ []
 
 abbrev pub number_tests : Item → List Test
-number_tests (name_item w line) = number_tests_of line (number_in w)
+number_tests (name_item w line) = number_tests_of line (cardinality_in w)
 number_tests (iri_item w line) = shape line false ∷ []
 number_tests (literal_item line) = shape line false ∷ []
 number_tests (sign_item k line) = shape line false ∷ []
@@ -174,7 +174,7 @@ roles_of ps s no_items = []
 roles_of ps s (item i is) = role_of ps s i ∷ roles_of ps s is
 
 abbrev pub number_of : Item → ℕ
-number_of (name_item w line) = or_zero (number_in w)
+number_of (name_item w line) = or_zero (cardinality_in w)
 number_of (iri_item w line) = 0
 number_of (literal_item line) = 0
 number_of (sign_item k line) = 0

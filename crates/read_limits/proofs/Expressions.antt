@@ -8,7 +8,7 @@ use Rattle.ofn_expressions.specs.Counts.{Counts}
 use Rattle.ofn_expressions.specs.Walk.{Test, shape, nodes, number, after, walked}
 use Rattle.ofn_expressions.specs.Names.{Prefix, iri_of}
 use Rattle.ofn_expressions.specs.Keywords.{class_keyword}
-use Rattle.ofn_expressions.specs.Classes.{item_count, is_thing, is_nothing, place, or_zero, class_named, number_in, number_of, number_tests_of, number_tests, role_tests, joined, class_tests, each_class, first, concept_of, concepts_of}
+use Rattle.ofn_expressions.specs.Classes.{item_count, is_thing, is_nothing, place, or_zero, class_named, cardinality_in, number_of, number_tests_of, number_tests, role_tests, joined, class_tests, each_class, first, concept_of, concepts_of}
 use Rattle.written_ontologies.proofs.Checks.{and_left, and_right, and_both}
 use Rattle.written_ontologies.proofs.Counting.{held, both}
 use Rattle.written_ontologies.proofs.Words.{NoClass, class_words}
@@ -18,7 +18,7 @@ number_by (Some k) line s new h = (held s (number line k) [] new h).now
 number_by None line s new h = refl
 
 number_within : (i : Item) (s new : Counts) → walked s (number_tests i) ≡ Ok new → nat_le (number_of i) 100 ≡ true
-number_within (name_item w line) s new h = number_by (number_in w) line s new h
+number_within (name_item w line) s new h = number_by (cardinality_in w) line s new h
 number_within (iri_item w line) s new h = refl
 number_within (literal_item line) s new h = refl
 number_within (sign_item k line) s new h = refl

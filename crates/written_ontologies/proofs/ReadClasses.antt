@@ -15,7 +15,7 @@ use Rattle.ofn_expressions.specs.Names.{Prefix, item_line, has_colon, prefix_par
 use Rattle.ofn_expressions.specs.Constructs.{excluded_role, excluded_role_name}
 use Rattle.ofn_expressions.specs.Keywords.{class_keyword}
 use Rattle.ofn_expressions.specs.Classes as classes
-use Rattle.ofn_expressions.specs.Classes.{item_count, is_thing, is_nothing, listed_class, class_name_tests, listed_role, role_name_tests, role_group_tests, role_tests, roles_tests, number_in, number_tests_of, number_tests, joined, class_tests, each_class, place, or_zero, class_named, role_named, role_of, roles_of, concept_of, concepts_of, Keeps}
+use Rattle.ofn_expressions.specs.Classes.{item_count, is_thing, is_nothing, listed_class, class_name_tests, listed_role, role_name_tests, role_group_tests, role_tests, roles_tests, cardinality_in, number_tests_of, number_tests, joined, class_tests, each_class, place, or_zero, class_named, role_named, role_of, roles_of, concept_of, concepts_of, Keeps}
 use Rattle.ofn_expressions.specs.declared.construct.Construct.{Construct}
 use Rattle.ofn_expressions.proofs.Kept.{place_listed, place_within}
 use Rattle.written_ontologies.specs.Writable.{is_iri, is_class_iri, is_role_iri, is_whole, are_whole, brackets, most_brackets, expressions, all_expressions, is_named}
@@ -105,7 +105,7 @@ module _ (ps : List Prefix) (prefixes : AreGoodPrefixes ps) (f : Counts) where
   number_by None n s new ts h = absurd (never s new (shape n false) ts refl h)
 
   number_read : (i : Item) (s new : Counts) (ts : List Test) → walked s (number_tests i ++ ts) ≡ Ok new → (classes.number_of i ≤ 100) × (walked s ts ≡ Ok new)
-  number_read (name_item w n) s new ts h = number_by (number_in w) n s new ts h
+  number_read (name_item w n) s new ts h = number_by (cardinality_in w) n s new ts h
   number_read (iri_item w n) s new ts h = absurd (never s new (shape n false) ts refl h)
   number_read (literal_item n) s new ts h = absurd (never s new (shape n false) ts refl h)
   number_read (sign_item k n) s new ts h = absurd (never s new (shape n false) ts refl h)
