@@ -5,7 +5,7 @@ ghost use Rattle.std.specs.Char.{digit_value};
 ghost use Rattle.std.specs.Str.Parse.{digits_value};
 ghost use Rattle.ofn_expressions.specs.Counts.{Counts};
 ghost use Rattle.ofn_expressions.specs.Walk.{Judged};
-ghost use Rattle.ofn_expressions.specs.Classes.{is_digit, cardinality_in, number_tests, number_tests_of, number_of, or_zero};
+ghost use Rattle.ofn_expressions.specs.Classes.{is_digit, cardinality_in, number_tests, number_tests_of, cardinality_of, or_zero};
 
 use crate::{Refusal, Which};
 use ofn_tree::{Form, Tree};
@@ -20,7 +20,7 @@ const MAX_NUMBER: u32 = 100;
 /// `BadShape` where it is no name of ASCII digits, and the limit `Number` where it is above 100.
 pub(crate) fn read_number(tree: &Tree<'_>) -> Result<u32, Refusal>
     ensures tests { (s : Counts) → Judged result s (number_tests tree.now) s }
-    ensures value { IfOk result (λ n. number_of tree.now ≡ n) }
+    ensures value { IfOk result (λ n. cardinality_of tree.now ≡ n) }
 {
     match &tree.form {
         Form::Name(text, line) => read_digits(text.as_bytes(), *line),

@@ -104,7 +104,7 @@ module _ (ps : List Prefix) (prefixes : AreGoodPrefixes ps) (f : Counts) where
   number_by (Some k) n s new ts h = let test = held s (number n k) ts new h in (true_le k 100 test.now, test.later)
   number_by None n s new ts h = absurd (never s new (shape n false) ts refl h)
 
-  number_read : (i : Item) (s new : Counts) (ts : List Test) → walked s (number_tests i ++ ts) ≡ Ok new → (classes.number_of i ≤ 100) × (walked s ts ≡ Ok new)
+  number_read : (i : Item) (s new : Counts) (ts : List Test) → walked s (number_tests i ++ ts) ≡ Ok new → (classes.cardinality_of i ≤ 100) × (walked s ts ≡ Ok new)
   number_read (name_item w n) s new ts h = number_by (cardinality_in w) n s new ts h
   number_read (iri_item w n) s new ts h = absurd (never s new (shape n false) ts refl h)
   number_read (literal_item n) s new ts h = absurd (never s new (shape n false) ts refl h)
@@ -376,10 +376,10 @@ module _ (ps : List Prefix) (prefixes : AreGoodPrefixes ps) (f : Counts) where
 
   bounded_read : (con : ℕ → ℕ → Concept → Concept) → ((k r : ℕ) (c : Concept) → listed (con k r c) ≡ (nat_lt r (length f.roles) && listed c)) → ((k r : ℕ) (c : Concept) → is_whole (con k r c) ≡ (nat_le k 100 && is_whole c))
       → ((k r : ℕ) (c : Concept) → expressions (con k r c) ≡ 1 + expressions c) → ((k r : ℕ) (c : Concept) → brackets (con k r c) ≡ brackets c + 1) → (n : ℕ) (k r : Item) (is : Items) → IsGoodItem r → AllRead is → (s new : Counts)
-      → walked s (bound_tests n k r is) ≡ Ok new → Keeps new f → IsRead s new (con (classes.number_of k) (role_of ps f r) (classes.first (concepts_of ps f is))) (max (nesting k) (max (nesting r) (nesting_all is)) + 1)
+      → walked s (bound_tests n k r is) ≡ Ok new → Keeps new f → IsRead s new (con (classes.cardinality_of k) (role_of ps f r) (classes.first (concepts_of ps f is))) (max (nesting k) (max (nesting r) (nesting_all is)) + 1)
   bounded_read con lists wholes counts nests n k r is good reads s new h keeps =
       let c : Concept = classes.first (concepts_of ps f is) in
-      let m : ℕ = classes.number_of k in
+      let m : ℕ = classes.cardinality_of k in
       let role : ℕ = role_of ps f r in
       let head : ℕ = cond (nat_eq (item_count is + 1 + 1) 2) 2 1 in
       let mid : Counts = after s (nodes n head) in
@@ -411,7 +411,7 @@ module _ (ps : List Prefix) (prefixes : AreGoodPrefixes ps) (f : Counts) where
   unfolding class_keyword
   least_tests n k r is = refl
 
-  least_value : (n : ℕ) (k r : Item) (is : Items) → concept_of ps f (group_item (Some (codes "ObjectMinCardinality")) (item k (item r is)) n) ≡ at_least (classes.number_of k) (role_of ps f r) (classes.first (concepts_of ps f is))
+  least_value : (n : ℕ) (k r : Item) (is : Items) → concept_of ps f (group_item (Some (codes "ObjectMinCardinality")) (item k (item r is)) n) ≡ at_least (classes.cardinality_of k) (role_of ps f r) (classes.first (concepts_of ps f is))
   unfolding class_keyword
   least_value n k r is = refl
 
@@ -419,7 +419,7 @@ module _ (ps : List Prefix) (prefixes : AreGoodPrefixes ps) (f : Counts) where
   least_read n no_items good reads s new h keeps = absurd (few_items s new n 1 [] (ap (walked s) (sym (least_none n)) ∙ h))
   least_read n (item k no_items) good reads s new h keeps = absurd (few_items s new n 1 (joined (each_class ps (item k no_items))) (ap (walked s) (sym (least_one n k)) ∙ h))
   least_read n (item k (item r is)) good reads s new h keeps =
-      read_as s new (at_least (classes.number_of k) (role_of ps f r) (classes.first (concepts_of ps f is))) (concept_of ps f (group_item (Some (codes "ObjectMinCardinality")) (item k (item r is)) n)) (max (nesting k) (max (nesting r) (nesting_all is)) + 1) (least_value n k r is)
+      read_as s new (at_least (classes.cardinality_of k) (role_of ps f r) (classes.first (concepts_of ps f is))) (concept_of ps f (group_item (Some (codes "ObjectMinCardinality")) (item k (item r is)) n)) (max (nesting k) (max (nesting r) (nesting_all is)) + 1) (least_value n k r is)
       (bounded_read at_least (λ m j c. refl) (λ m j c. refl) (λ m j c. refl) (λ m j c. refl) n k r is good.1.0 reads.1.1 s new (ap (walked s) (sym (least_tests n k r is)) ∙ h) keeps)
 
   most_none : (n : ℕ) → class_tests ps (group_item (Some (codes "ObjectMaxCardinality")) no_items n) ≡ nodes n 1 ∷ (shape n false ∷ [])
@@ -434,7 +434,7 @@ module _ (ps : List Prefix) (prefixes : AreGoodPrefixes ps) (f : Counts) where
   unfolding class_keyword
   most_tests n k r is = refl
 
-  most_value : (n : ℕ) (k r : Item) (is : Items) → concept_of ps f (group_item (Some (codes "ObjectMaxCardinality")) (item k (item r is)) n) ≡ at_most (classes.number_of k) (role_of ps f r) (classes.first (concepts_of ps f is))
+  most_value : (n : ℕ) (k r : Item) (is : Items) → concept_of ps f (group_item (Some (codes "ObjectMaxCardinality")) (item k (item r is)) n) ≡ at_most (classes.cardinality_of k) (role_of ps f r) (classes.first (concepts_of ps f is))
   unfolding class_keyword
   most_value n k r is = refl
 
@@ -442,7 +442,7 @@ module _ (ps : List Prefix) (prefixes : AreGoodPrefixes ps) (f : Counts) where
   most_read n no_items good reads s new h keeps = absurd (few_items s new n 1 [] (ap (walked s) (sym (most_none n)) ∙ h))
   most_read n (item k no_items) good reads s new h keeps = absurd (few_items s new n 1 (joined (each_class ps (item k no_items))) (ap (walked s) (sym (most_one n k)) ∙ h))
   most_read n (item k (item r is)) good reads s new h keeps =
-      read_as s new (at_most (classes.number_of k) (role_of ps f r) (classes.first (concepts_of ps f is))) (concept_of ps f (group_item (Some (codes "ObjectMaxCardinality")) (item k (item r is)) n)) (max (nesting k) (max (nesting r) (nesting_all is)) + 1) (most_value n k r is)
+      read_as s new (at_most (classes.cardinality_of k) (role_of ps f r) (classes.first (concepts_of ps f is))) (concept_of ps f (group_item (Some (codes "ObjectMaxCardinality")) (item k (item r is)) n)) (max (nesting k) (max (nesting r) (nesting_all is)) + 1) (most_value n k r is)
       (bounded_read at_most (λ m j c. refl) (λ m j c. refl) (λ m j c. refl) (λ m j c. refl) n k r is good.1.0 reads.1.1 s new (ap (walked s) (sym (most_tests n k r is)) ∙ h) keeps)
 
   exact_none : (n : ℕ) → class_tests ps (group_item (Some (codes "ObjectExactCardinality")) no_items n) ≡ nodes n 1 ∷ (shape n false ∷ [])
@@ -457,7 +457,7 @@ module _ (ps : List Prefix) (prefixes : AreGoodPrefixes ps) (f : Counts) where
   unfolding class_keyword
   exact_tests n k r is = refl
 
-  exact_value : (n : ℕ) (k r : Item) (is : Items) → concept_of ps f (group_item (Some (codes "ObjectExactCardinality")) (item k (item r is)) n) ≡ exactly (classes.number_of k) (role_of ps f r) (classes.first (concepts_of ps f is))
+  exact_value : (n : ℕ) (k r : Item) (is : Items) → concept_of ps f (group_item (Some (codes "ObjectExactCardinality")) (item k (item r is)) n) ≡ exactly (classes.cardinality_of k) (role_of ps f r) (classes.first (concepts_of ps f is))
   unfolding class_keyword
   exact_value n k r is = refl
 
@@ -465,7 +465,7 @@ module _ (ps : List Prefix) (prefixes : AreGoodPrefixes ps) (f : Counts) where
   exact_read n no_items good reads s new h keeps = absurd (few_items s new n 1 [] (ap (walked s) (sym (exact_none n)) ∙ h))
   exact_read n (item k no_items) good reads s new h keeps = absurd (few_items s new n 1 (joined (each_class ps (item k no_items))) (ap (walked s) (sym (exact_one n k)) ∙ h))
   exact_read n (item k (item r is)) good reads s new h keeps =
-      read_as s new (exactly (classes.number_of k) (role_of ps f r) (classes.first (concepts_of ps f is))) (concept_of ps f (group_item (Some (codes "ObjectExactCardinality")) (item k (item r is)) n)) (max (nesting k) (max (nesting r) (nesting_all is)) + 1) (exact_value n k r is)
+      read_as s new (exactly (classes.cardinality_of k) (role_of ps f r) (classes.first (concepts_of ps f is))) (concept_of ps f (group_item (Some (codes "ObjectExactCardinality")) (item k (item r is)) n)) (max (nesting k) (max (nesting r) (nesting_all is)) + 1) (exact_value n k r is)
       (bounded_read exactly (λ m j c. refl) (λ m j c. refl) (λ m j c. refl) (λ m j c. refl) n k r is good.1.0 reads.1.1 s new (ap (walked s) (sym (exact_tests n k r is)) ∙ h) keeps)
 
   other_read : (w : List ℕ) → NoClass w → GroupReads w
