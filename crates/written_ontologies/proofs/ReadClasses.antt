@@ -10,7 +10,7 @@ use Rattle.shq_terms.specs.Uses.{uses_listed, parts_use_listed}
 use Rattle.ofn_tree.specs.Lexemes.{is_iri_byte}
 use Rattle.ofn_tree.specs.Items.{Item, name_item, iri_item, literal_item, sign_item, group_item, Items, no_items, item, nesting, nesting_all}
 use Rattle.ofn_expressions.specs.Counts.{Counts}
-use Rattle.ofn_expressions.specs.Walk.{Test, shape, prefix, outside, nodes, class, role, number, after, walked}
+use Rattle.ofn_expressions.specs.Walk.{Test, shape, prefix, outside, nodes, class, role, number, counts_after, walked}
 use Rattle.ofn_expressions.specs.Names.{Prefix, item_line, has_colon, prefix_part, prefix_iri, name_tests, iri_of}
 use Rattle.ofn_expressions.specs.Constructs.{excluded_role, excluded_role_name}
 use Rattle.ofn_expressions.specs.Keywords.{class_keyword}
@@ -54,7 +54,7 @@ module _ (ps : List Prefix) (prefixes : AreGoodPrefixes ps) (f : Counts) where
   role_by w n s new good (Some c) is h keeps = absurd (never s new (outside n c) [] refl h)
   role_by w n s new good None is h keeps =
       let test = held s (role n w) [] new h in
-      let there : after s (role n w) ≡ new = nothing_held (after s (role n w)) new test.later in
+      let there : counts_after s (role n w) ≡ new = nothing_held (counts_after s (role n w)) new test.later in
       let is_role : is_role_iri w ≡ true = and_both (is_iri w) (is_none (excluded_role_name w)) (good_is_iri w good) (ap is_none is) in
       record {
         rises = subst (λ t. Rises s t 0 0 0) there (rises_role s n w test.now is_role);
@@ -144,10 +144,10 @@ module _ (ps : List Prefix) (prefixes : AreGoodPrefixes ps) (f : Counts) where
   listed_by w n s new good false true thing nothing h keeps = (subst (λ t. Rises s t 0 0 0) (nothing_held s new h) (rises_not s), refl)
   listed_by w n s new good false false thing nothing h keeps =
       let test = held s (class n w) [] new h in
-      let there : after s (class n w) ≡ new = nothing_held (after s (class n w)) new test.later in
+      let there : counts_after s (class n w) ≡ new = nothing_held (counts_after s (class n w)) new test.later in
       let named : (not (is_thing w) && not (is_nothing w)) ≡ true = λ i. not (thing i) && not (nothing i) in
       let is_class : is_class_iri w ≡ true = and_both (is_iri w) (not (is_thing w) && not (is_nothing w)) (good_is_iri w good) named in
-      let kept : Keeps (after s (class n w)) f = subst (λ t. Keeps t f) (sym there) keeps in
+      let kept : Keeps (counts_after s (class n w)) f = subst (λ t. Keeps t f) (sym there) keeps in
       let found : place w f.classes ≡ Some (number_of s.classes w) = kept.classes w (number_of s.classes w) (place_listed w s.classes) in (
         subst (λ t. Rises s t 0 0 0) there (rises_class s n w test.now is_class),
         ap (λ r. nat_lt (or_zero r) (length f.classes)) found ∙ place_within w f.classes (number_of s.classes w) found,
@@ -176,7 +176,7 @@ module _ (ps : List Prefix) (prefixes : AreGoodPrefixes ps) (f : Counts) where
       let n : ℕ = item_line i in
       let named = names_pass i s new (nodes n 1 ∷ listed_class n w) h in
       let count = held s (nodes n 1) (listed_class n w) new named in
-      let mid : Counts = after s (nodes n 1) in
+      let mid : Counts = counts_after s (nodes n 1) in
       let told = listed_by w n mid new (iri_good ps i prefixes good) (is_thing w) (is_nothing w) refl refl count.later keeps in
       let one = alone_by w in
       record {
@@ -225,14 +225,14 @@ module _ (ps : List Prefix) (prefixes : AreGoodPrefixes ps) (f : Counts) where
 
   -- the head of a group holds
   record Opens (s new : Counts) (n k : ℕ) (enough : Bool) (ts : List Test) : Type 0 where
-    rises : Rises s (after s (nodes n k)) 0 0 k
+    rises : Rises s (counts_after s (nodes n k)) 0 0 k
     fits : enough ≡ true
-    later : walked (after s (nodes n k)) ts ≡ Ok new
+    later : walked (counts_after s (nodes n k)) ts ≡ Ok new
 
   opens : (s new : Counts) (n k : ℕ) (enough : Bool) (ts : List Test) → walked s (nodes n k ∷ (shape n enough ∷ ts)) ≡ Ok new → Opens s new n k enough ts
   opens s new n k enough ts h =
       let count = held s (nodes n k) (shape n enough ∷ ts) new h in
-      let form = held (after s (nodes n k)) (shape n enough) ts new count.later in
+      let form = held (counts_after s (nodes n k)) (shape n enough) ts new count.later in
       record { rises = rises_nodes s n k count.now; fits = form.now; later = form.later }
 
   -- a group with this word is read
@@ -244,7 +244,7 @@ module _ (ps : List Prefix) (prefixes : AreGoodPrefixes ps) (f : Counts) where
       → IsRead s new (con (concepts_of ps f is)) (nesting_all is + 1)
   many_read con lists wholes counts nests n is reads s new h keeps =
       let cs : Parts = concepts_of ps f is in
-      let mid : Counts = after s (nodes n 1) in
+      let mid : Counts = counts_after s (nodes n 1) in
       let o = opens s new n 1 (nat_le 2 (item_count is)) (joined (each_class ps is)) h in
       let inner = parts_read is reads mid new o.later keeps in
       let many : nat_le 2 (length (part_list cs)) ≡ true = ap (nat_le 2) (count_read is) ∙ o.fits in
@@ -283,7 +283,7 @@ module _ (ps : List Prefix) (prefixes : AreGoodPrefixes ps) (f : Counts) where
 
   complement_read : GroupReads (codes "ObjectComplementOf")
   complement_read n is good reads s new h keeps =
-      let mid : Counts = after s (nodes n 1) in
+      let mid : Counts = counts_after s (nodes n 1) in
       let o = opens s new n 1 (nat_eq (item_count is) 1) (joined (each_class ps is)) (ap (walked s) (sym (complement_tests n is)) ∙ h) in
       let inner = filler_read is (eq_true (item_count is) 1 o.fits) reads mid new o.later keeps in
       let c : Concept = classes.first (concepts_of ps f is) in
@@ -297,7 +297,7 @@ module _ (ps : List Prefix) (prefixes : AreGoodPrefixes ps) (f : Counts) where
   valued_read con lists wholes counts nests n r is good reads s new h keeps =
       let c : Concept = classes.first (concepts_of ps f is) in
       let k : ℕ = role_of ps f r in
-      let mid : Counts = after s (nodes n 1) in
+      let mid : Counts = counts_after s (nodes n 1) in
       let o = opens s new n 1 (nat_eq (item_count is + 1) 2) (role_tests ps r ++ joined (each_class ps is)) h in
       let b = both mid (role_tests ps r) (joined (each_class ps is)) new o.later in
       let count : item_count is + 1 ≡ 2 = eq_true (item_count is + 1) 2 o.fits in
@@ -382,7 +382,7 @@ module _ (ps : List Prefix) (prefixes : AreGoodPrefixes ps) (f : Counts) where
       let m : ℕ = classes.cardinality_of k in
       let role : ℕ = role_of ps f r in
       let head : ℕ = cond (nat_eq (item_count is + 1 + 1) 2) 2 1 in
-      let mid : Counts = after s (nodes n head) in
+      let mid : Counts = counts_after s (nodes n head) in
       let o = opens s new n head (nat_eq (item_count is + 1 + 1) 2 || nat_eq (item_count is + 1 + 1) 3) (number_tests k ++ (role_tests ps r ++ joined (each_class ps is))) h in
       let number = number_read k mid new (role_tests ps r ++ joined (each_class ps is)) o.later in
       let b = both mid (role_tests ps r) (joined (each_class ps is)) new number.1 in
