@@ -1,7 +1,7 @@
 -- Lists of tests one behind another.
 use Rattle.std.proofs.Common.{◌≡◌, List, [], ◌∷◌, ◌++◌, Bool, true, false, cond, Some, Result, Ok, Err, refl, ap, sym, ◌∙◌, subst}
 use Rattle.ofn_expressions.specs.Counts.{Counts}
-use Rattle.ofn_expressions.specs.Walk.{Test, holds, refusal, counts_after, after_all, outcomes, first_failing, verdict, walked, Gives, Judged}
+use Rattle.ofn_expressions.specs.Walk.{Test, holds, refusal, counts_after, after_all, outcomes, first_failing, verdict, walked, AgreesWithTests, Judged}
 use Rattle.ofn_expressions.specs.declared.refusal.Refusal.{Refusal}
 
 -- one test, and then the others
@@ -35,4 +35,4 @@ pub stops : (s : Counts) (ts us : List Test) (e : Refusal) → walked s ts ≡ E
 stops s ts us e first = walked_append s ts us ∙ ap (λ r. then r us) first
 
 pub goes_judged : {X : Type 0} (r : Result X Refusal) (s mid new : Counts) (ts us : List Test) → walked s ts ≡ Ok mid → Judged r mid us new → Judged r s (ts ++ us) new
-goes_judged r s mid new ts us first rest = subst (λ said. Gives r new said) (sym (goes_on s mid ts us first)) rest
+goes_judged r s mid new ts us first rest = subst (λ said. AgreesWithTests r new said) (sym (goes_on s mid ts us first)) rest

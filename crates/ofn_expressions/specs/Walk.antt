@@ -92,9 +92,9 @@ abbrev pub walked : Counts → List Test → Result Counts Refusal
 walked s ts = verdict (first_failing (outcomes s ts)) (after_all s ts)
 
 -- what a reader gives is what the tests say, unless memory was refused
-abbrev pub Gives : {X : Type 0} → Result X Refusal → Counts → Result Counts Refusal → Type 0
-Gives (Ok x) new said = said ≡ Ok new
-Gives (Err e) new said = e ≢ NoMemory → said ≡ Err e
+abbrev pub AgreesWithTests : {X : Type 0} → Result X Refusal → Counts → Result Counts Refusal → Type 0
+AgreesWithTests (Ok x) new said = said ≡ Ok new
+AgreesWithTests (Err e) new said = e ≢ NoMemory → said ≡ Err e
 
 abbrev pub Judged : {X : Type 0} → Result X Refusal → Counts → List Test → Counts → Type 0
-Judged result old ts new = Gives result new (walked old ts)
+Judged result old ts new = AgreesWithTests result new (walked old ts)
