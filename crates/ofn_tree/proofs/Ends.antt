@@ -43,7 +43,7 @@ close_of Tag h = cc
 close_of Carets h = cc
 close_of Name h = cc
 
--- ---- what is met behind tokens
+-- ---- what is met after tokens
 
 abbrev met_over : Met → List PlainToken → Met
 met_over m [] = m
@@ -96,7 +96,7 @@ record Tells (ts : List PlainToken) (m : Met) : Type 0 where
 tells-depth : (ts : List PlainToken) (m : Met) → Tells ts m → m.depth ≡ open_behind 0 ts
 tells-depth ts m tells = ap (λ n. n.depth) tells.met ∙ over-depth nothing_met ts
 
--- behind a string and carets it is known that they are the last
+-- after a string and carets it is known that they are the last
 carets-known : (ts : List PlainToken) (m : Met) → Tells ts m → EndsWithCarets ts → m.latest ≡ TypedString
 carets-known ts m tells e =
     let before = met_over nothing_met e.front in
@@ -120,7 +120,7 @@ inside-snoc ts t d i more = record {
   level = open_behind-append 1 i.inside (t ∷ []) ∙ ap (depth_after t.kind) i.level;
 }
 
--- a bracket opens behind the name
+-- a bracket opens after the name
 inside-new : (ts : List PlainToken) (t : PlainToken) → open_behind 0 ts ≡ 0 → NamesDocument ts → t.kind ≡ OpenBracket → IsInsideDocument 1 (ts ++ t ∷ [])
 inside-new ts t outside n opens =
     let level : open_behind 0 ts ≡ open_behind 0 n.front =
@@ -291,7 +291,7 @@ name-known ts name QuotedString is apart same = ap (λ w. behind_name w QuotedSt
 name-known ts name TypedString is apart same = absurd (apart is)
 name-known ts name Other is apart same = ap (λ w. behind_name w Other) same
 
--- behind the name and the bracket the group is the document's
+-- after the name and the bracket the group is the document's
 entered : (m : Met) (name bracket : PlainToken) → m.depth ≡ 0 → name.kind ≡ Name → behind_name name.text m.latest ≡ DocumentName → bracket.kind ≡ OpenBracket
     → met_after bracket.kind bracket.text (met_after name.kind name.text m) ≡ record { depth = 1; document = true; latest = Other }
 entered m name bracket none is_name known opens =

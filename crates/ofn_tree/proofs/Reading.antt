@@ -37,7 +37,7 @@ opened text place inside = rw add-one (drop-cons text place 0 inside)
 pub range_from : (text : List ℕ) (place : ℕ) → take (length text - place) (drop place text) ≡ drop place text
 range_from text place = take_all (length text - place) (drop place text) (omega (arith, length-drop place text))
 
--- what stands at a place, and the pieces behind it
+-- what stands at a place, and the pieces after it
 abbrev next : Option ℕ → Cut → ℕ → ℕ → ℕ → List ℕ → List Piece
 next end cut place line b bs = pieces_with end cut place line (λ n. pieces_from end n (place + 1) (line_behind b line) bs)
 
@@ -80,7 +80,7 @@ mark-lines text true is =
     ap line_feeds (begins-with_mark text is)
 mark-lines text false is = refl
 
--- the first piece stands behind the byte order mark, on the first line
+-- the first piece stands after the byte order mark, on the first line
 pub pieces-mark : (end : Option ℕ) (text : List ℕ) → pieces_from end 0 (mark_len text) 1 (drop (mark_len text) text) ≡ front_pieces end text
 pieces-mark end text =
     let none : 1 + line_feeds (take (mark_len text) text) ≡ 1 = omega (arith, mark-lines text (starts_with nat_eq text byte_order_mark) refl) in

@@ -45,7 +45,7 @@ at_place f (x ∷ xs) (suc n) d inside =
 abbrev pub from : List Token → ℕ → List PlainToken
 from tokens place = drop place (map plain_token tokens)
 
--- the token at a place, and those behind it
+-- the token at a place, and those after it
 pub tokens-at : (tokens : List Token) (place : ℕ) (d : Token) → place < length tokens → from tokens place ≡ plain_token (get_or tokens place d) ∷ from tokens (place + 1)
 tokens-at tokens place d inside = at_place plain_token tokens place d inside
 
@@ -378,7 +378,7 @@ group-at end depth head line tokens place stop is inside within opens room inner
     (IsGroup-closed end depth head line (from tokens place) (from tokens stop) is opens room
     (subst (λ l. IsItems end (depth + 1) l (from tokens stop) is) (sym (behind tokens place no_token inside)) inner) closes)
 
--- a fault that stands behind other tokens is theirs
+-- a fault that stands after other tokens is theirs
 pub TellsFault-before : (there here : Option TextFault) (fault : TextFault) → here ≡ there → TellsFault there fault → TellsFault here fault
 TellsFault-before there here fault same h = subst (λ o. TellsFault o fault) (sym same) h
 

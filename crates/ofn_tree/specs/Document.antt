@@ -28,7 +28,7 @@ abbrev pub is_document_name : Latest → Bool
 is_document_name DocumentName = true
 is_document_name _ = false
 
--- behind a name: one that stands behind a string and carets is part of their literal
+-- after a name: one that stands after a string and carets is part of their literal
 abbrev pub behind_name : List ℕ → Latest → Latest
 behind_name text TypedString = Other
 behind_name text _ = if bytes_eq text (codes "Ontology") then DocumentName else Other
@@ -37,7 +37,7 @@ abbrev pub behind_carets : Latest → Latest
 behind_carets QuotedString = TypedString
 behind_carets _ = Other
 
--- what the last tokens are behind one more
+-- what the last tokens are after one more
 abbrev pub latest_after : Kind → List ℕ → Latest → Latest
 latest_after Name text before = behind_name text before
 latest_after String text before = QuotedString
@@ -50,7 +50,7 @@ depth_after OpenBracket d = d + 1
 depth_after CloseBracket d = d - 1
 depth_after _ d = d
 
--- whether the outermost open bracket is that of the document's group, behind one more token
+-- whether the outermost open bracket is that of the document's group, after one more token
 abbrev pub document_after : Kind → Met → Bool
 document_after OpenBracket m = if nat_eq m.depth 0 then is_document_name m.latest else m.document
 document_after _ m = m.document
@@ -58,7 +58,7 @@ document_after _ m = m.document
 abbrev pub met_after : Kind → List ℕ → Met → Met
 met_after kind text m = record { depth = depth_after kind m.depth; document = document_after kind m; latest = latest_after kind text m.latest }
 
--- the tokens of a document, and the place behind the last byte that was read
+-- the tokens of a document, and the place after the last byte that was read
 pub record DocumentTokens : Type 0 where
   pub tokens : List PlainToken
   pub place_behind : ℕ

@@ -18,14 +18,14 @@ TellsFault there (TooDeep line) = there ≡ Some (TooDeep line)
 abbrev pub token_fault : List ℕ → Option TextFault
 token_fault text = result_err (document text)
 
--- how many brackets are open behind a token, where d are open before it, or the fault of the token
+-- how many brackets are open after a token, where d are open before it, or the fault of the token
 abbrev pub depth_behind : ℕ → PlainToken → Result ℕ TextFault
 depth_behind d t =
     if is_open t.kind then (if nat_lt d 64 then Ok (d + 1) else Err (TooDeep t.line))
     else if is_close t.kind then (if nat_eq d 0 then Err (Unbalanced t.line) else Ok (d - 1))
     else Ok d
 
--- a fault, or the first one behind so many open brackets
+-- a fault, or the first one after so many open brackets
 abbrev pub fault_or : Result ℕ TextFault → (ℕ → Option TextFault) → Option TextFault
 fault_or (Err fault) rest = Some fault
 fault_or (Ok d) rest = rest d

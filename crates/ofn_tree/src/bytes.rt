@@ -94,11 +94,12 @@ fn line_feeds(text: &[u8]) -> usize
     text.iter().filter(|byte| is_line_feed(**byte)).count()
 }
 
+/// The most bytes of a text: the numbers of its lines are below 2^32 - 1.
+pub const MAX_BYTES: usize = 4_294_967_293;
+
 /// The line on which a text ends: 1 plus the number of its line feeds.
-///
-/// The text has at most 4,294,967,293 bytes.
 pub fn end_line(text: &[u8]) -> u32
-    requires { length text.now ≤ 4_294_967_293 }
+    requires { length text.now ≤ MAX_BYTES }
     ensures { result ≡ end_line text.now }
 {
     1 + line_feeds(text) as u32

@@ -14,7 +14,7 @@ const MAX_OPEN: u32 = 64;
 
 /// The items of the tokens, bracketed. A name directly followed by an opening bracket begins a group with that name. A
 /// string is one literal with a tag that follows it, or with carets and a name or IRI that follow it, also where a
-/// bracket opens behind that name: the group has no name then. Equals signs, and tags and carets elsewhere, are signs.
+/// bracket opens after that name: the group has no name then. Equals signs, and tags and carets elsewhere, are signs.
 /// `end_line` is the line of the text's end.
 ///
 /// # Errors
@@ -37,7 +37,7 @@ pub fn tree<'a>(
     Ok(trees)
 }
 
-// The items from a place on, up to a bracket that closes none of theirs, or to the end, and the place behind them.
+// The items from a place on, up to a bracket that closes none of theirs, or to the end, and the place after them.
 #[cycle(trees)]
 fn items<'a>(
     alloc: Global,
@@ -74,7 +74,7 @@ fn push_tree<'a>(trees: &mut Vec<Tree<'a>>, tree: Tree<'a>) -> Result<(), TextFa
     Ok(())
 }
 
-// The item at a place, where no bracket closes, and the place behind it.
+// The item at a place, where no bracket closes, and the place after it.
 #[cycle(trees)]
 fn one<'a>(
     alloc: Global,
@@ -209,7 +209,7 @@ fn literal_rest(tokens: &[Token], place: usize) -> usize
     0
 }
 
-// How many of the tokens behind the one at a place are part of its literal, where it is a string.
+// How many of the tokens after the one at a place are part of its literal, where it is a string.
 fn rest_behind(tokens: &[Token], place: usize) -> usize
     requires { place < length tokens.now }
     ensures rest { result ≡ rest_behind (drop place (map plain_token tokens.now)) }
@@ -238,7 +238,7 @@ fn single<'a>(token: &Token<'a>) -> Tree<'a>
     Tree { form }
 }
 
-// The group with a name and a line whose opening bracket stands at a place, and the place behind its closing bracket.
+// The group with a name and a line whose opening bracket stands at a place, and the place after its closing bracket.
 #[cycle(trees)]
 fn group<'a>(
     alloc: Global,
