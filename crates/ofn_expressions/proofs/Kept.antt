@@ -7,7 +7,7 @@ use Rattle.std.proofs.lemmas.Bool.Decides.{nat_tests}
 use Rattle.std.specs.List.{prefix_len}
 use Rattle.shq_terms.specs.Names.{number_at, with_at, number_of, with_name}
 use Rattle.ofn_expressions.specs.Counts.{Counts}
-use Rattle.ofn_expressions.specs.Walk.{Test, shape, prefix, clash, outside, numbered, parts, nodes, class, role, number, simple, after, after_all, outcomes, first_failing, verdict, walked}
+use Rattle.ofn_expressions.specs.Walk.{Test, shape, prefix, clash, outside, numbered, parts, nodes, class, role, number, simple, counts_after, after_all, outcomes, first_failing, verdict, walked}
 use Rattle.ofn_expressions.specs.Classes.{Keeps, place}
 use Rattle.ofn_expressions.specs.declared.refusal.Refusal.{Refusal}
 
@@ -85,7 +85,7 @@ keeps_all s = record { classes = λ w k is. is; roles = λ w k is. is }
 pub keeps_keeps : (a b c : Counts) → Keeps a b → Keeps b c → Keeps a c
 keeps_keeps a b c f g = record { classes = λ w k is. g.classes w k (f.classes w k is); roles = λ w k is. g.roles w k (f.roles w k is) }
 
-keeps_after : (s : Counts) (t : Test) → Keeps s (after s t)
+keeps_after : (s : Counts) (t : Test) → Keeps s (counts_after s t)
 keeps_after s (shape line fits) = keeps_all s
 keeps_after s (prefix line declared) = keeps_all s
 keeps_after s (clash line agrees) = keeps_all s
@@ -100,7 +100,7 @@ keeps_after s (simple line fits) = keeps_all s
 
 keeps_after_all : (s : Counts) (ts : List Test) → Keeps s (after_all s ts)
 keeps_after_all s [] = keeps_all s
-keeps_after_all s (t ∷ ts) = keeps_keeps s (after s t) (after_all (after s t) ts) (keeps_after s t) (keeps_after_all (after s t) ts)
+keeps_after_all s (t ∷ ts) = keeps_keeps s (counts_after s t) (after_all (counts_after s t) ts) (keeps_after s t) (keeps_after_all (counts_after s t) ts)
 
 abbrev counts_in : Counts → Result Counts Refusal → Counts
 counts_in d (Ok a) = a

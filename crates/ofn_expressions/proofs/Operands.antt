@@ -7,7 +7,7 @@ use Rattle.ofn_tree.specs.Items.{Item, items_of, nesting_all}
 use Rattle.ofn_expressions.specs.Counts.{Counts}
 use Rattle.ofn_expressions.specs.Names.{Prefix}
 use Rattle.ofn_expressions.specs.Walk.{walked}
-use Rattle.ofn_expressions.specs.Classes.{class_tests, each_class, joined, concept_of, concepts_of, role_of, number_of, fits, made, made_of, first, quantified, bounded, Keeps, IsListed, IsListedRole, Means, MeansRole}
+use Rattle.ofn_expressions.specs.Classes.{class_tests, each_class, joined, concept_of, concepts_of, role_of, cardinality_of, fits, made, made_of, first, quantified, bounded, Keeps, IsListed, IsListedRole, Means, MeansRole}
 use Rattle.ofn_expressions.specs.declared.refusal.Refusal.{Refusal}
 use Rattle.ofn_expressions.specs.declared.keywords.ClassKeyword.{ClassKeyword}
 use Rattle.ofn_expressions.specs.declared.keywords.ClassKeyword.TheVariants.{Cardinality}
@@ -53,22 +53,22 @@ cardinality_means ps b n m role filler mid new r c number said read means later 
     ((λ i. bounded b (number i) (one.0 i) (two.0 i)), bounded_listed b later m r c one.1 two.1)
 
 cardinality_made : (ps : List Prefix) (b : Bound) (items : List Item) (x y : Item) → x ≡ get_or items 0 x → y ≡ get_or items 1 y → fits (Cardinality b) (length items) ≡ true → (s : Counts)
-    → made_of ps s (Cardinality b) (items_of items) (concepts_of ps s (items_of items)) ≡ bounded b (number_of x) (role_of ps s y) (first (concepts_of ps s (items_of (drop 2 items))))
+    → made_of ps s (Cardinality b) (items_of items) (concepts_of ps s (items_of items)) ≡ bounded b (cardinality_of x) (role_of ps s y) (first (concepts_of ps s (items_of (drop 2 items))))
 cardinality_made ps b [] x y at_x at_y ok s = let clash : false ≡ true = ok in absurd (cc clash)
 cardinality_made ps b (i ∷ []) x y at_x at_y ok s = let clash : false ≡ true = ok in absurd (cc clash)
-cardinality_made ps b (i ∷ (j ∷ rest)) x y at_x at_y ok s = λ k. bounded b (number_of (sym at_x k)) (role_of ps s (sym at_y k)) (first (concepts_of ps s (items_of rest)))
+cardinality_made ps b (i ∷ (j ∷ rest)) x y at_x at_y ok s = λ k. bounded b (cardinality_of (sym at_x k)) (role_of ps s (sym at_y k)) (first (concepts_of ps s (items_of rest)))
 
 -- the expression of a number, a role and the items behind them is that of the whole group
 pub cardinality_value : (ps : List Prefix) (k : ClassKeyword) (b : Bound) (items rest : List Item) (x y : Item) (r : Result Concept Refusal) (new : Counts) → k ≡ Cardinality b → x ≡ get_or items 0 x → y ≡ get_or items 1 y → rest ≡ drop 2 items
     → fits k (length items) ≡ true
-    → IfOk r (λ c. (later : Counts) → Keeps new later → (bounded b (number_of x) (role_of ps later y) (first (concepts_of ps later (items_of rest))) ≡ c) × IsListed later c)
+    → IfOk r (λ c. (later : Counts) → Keeps new later → (bounded b (cardinality_of x) (role_of ps later y) (first (concepts_of ps later (items_of rest))) ≡ c) × IsListed later c)
     → IfOk r (λ c. (later : Counts) → Keeps new later → (made ps later (Class k) (items_of items) (concepts_of ps later (items_of items)) ≡ c) × IsListed later c)
 cardinality_value ps k b items rest x y (Err e) new is at_x at_y behind ok means = tt
 cardinality_value ps k b items rest x y (Ok c) new is at_x at_y behind ok means = λ later keeps.
     let told = means later keeps in (
       ap (λ l. made_of ps later l (items_of items) (concepts_of ps later (items_of items))) is
           ∙ cardinality_made ps b items x y at_x at_y (sym (ap (λ l. fits l (length items)) is) ∙ ok) later
-          ∙ ap (λ l. bounded b (number_of x) (role_of ps later y) (first (concepts_of ps later (items_of l)))) (sym behind)
+          ∙ ap (λ l. bounded b (cardinality_of x) (role_of ps later y) (first (concepts_of ps later (items_of l)))) (sym behind)
           ∙ told.0,
       told.1,
     )

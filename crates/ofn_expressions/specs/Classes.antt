@@ -96,16 +96,16 @@ abbrev pub is_digit : ℕ → Bool
 is_digit b = nat_le 48 b && nat_le b 57
 
 -- the number that a name of ASCII digits stands for; leading zeros do not matter
-abbrev pub number_in : List ℕ → Option ℕ
-number_in [] = None
-number_in (b ∷ bs) = if list_all is_digit (b ∷ bs) then Some (digits_value 10 (b ∷ bs)) else None
+abbrev pub cardinality_in : List ℕ → Option ℕ
+cardinality_in [] = None
+cardinality_in (b ∷ bs) = if list_all is_digit (b ∷ bs) then Some (digits_value 10 (b ∷ bs)) else None
 
 abbrev pub number_tests_of : ℕ → Option ℕ → List Test
 number_tests_of line (Some n) = number line n ∷ []
 number_tests_of line None = shape line false ∷ []
 
 abbrev pub number_tests : Item → List Test
-number_tests (name_item w line) = number_tests_of line (number_in w)
+number_tests (name_item w line) = number_tests_of line (cardinality_in w)
 number_tests (iri_item w line) = shape line false ∷ []
 number_tests (literal_item line) = shape line false ∷ []
 number_tests (sign_item k line) = shape line false ∷ []
@@ -173,12 +173,12 @@ abbrev pub roles_of : List Prefix → Counts → Items → List ℕ
 roles_of ps s no_items = []
 roles_of ps s (item i is) = role_of ps s i ∷ roles_of ps s is
 
-abbrev pub number_of : Item → ℕ
-number_of (name_item w line) = or_zero (number_in w)
-number_of (iri_item w line) = 0
-number_of (literal_item line) = 0
-number_of (sign_item k line) = 0
-number_of (group_item h is line) = 0
+abbrev pub cardinality_of : Item → ℕ
+cardinality_of (name_item w line) = or_zero (cardinality_in w)
+cardinality_of (iri_item w line) = 0
+cardinality_of (literal_item line) = 0
+cardinality_of (sign_item k line) = 0
+cardinality_of (group_item h is line) = 0
 
 -- The first of some parts. A cardinality without a filler has none, and its filler is `owl:Thing`.
 abbrev pub first : Parts → Concept
@@ -204,7 +204,7 @@ made_of ps s Intersection is cs = intersection cs
 made_of ps s Union is cs = union cs
 made_of ps s Complement is cs = complement (first cs)
 made_of ps s (Restriction q) (item r is) cs = quantified q (role_of ps s r) (first (behind_one cs))
-made_of ps s (Cardinality b) (item n (item r is)) cs = bounded b (number_of n) (role_of ps s r) (first (behind_one (behind_one cs)))
+made_of ps s (Cardinality b) (item n (item r is)) cs = bounded b (cardinality_of n) (role_of ps s r) (first (behind_one (behind_one cs)))
 made_of ps s k is cs = top
 
 abbrev pub made : List Prefix → Counts → Keyword → Items → Parts → Concept

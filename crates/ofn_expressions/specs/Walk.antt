@@ -53,22 +53,22 @@ refusal (number line n) = Limit Number line
 refusal (simple line fits) = NotSimple line
 
 -- what is counted and listed behind a test
-abbrev pub after : Counts → Test → Counts
-after s (shape line fits) = s
-after s (prefix line declared) = s
-after s (clash line agrees) = s
-after s (outside line construct) = s
-after s (numbered line) = record s { axioms = s.axioms + 1 }
-after s (parts line n) = record s { parts = s.parts + n }
-after s (nodes line n) = record s { nodes = s.nodes + n }
-after s (class line name) = record s { classes = with_name s.classes name }
-after s (role line name) = record s { roles = with_name s.roles name }
-after s (number line n) = s
-after s (simple line fits) = s
+abbrev pub counts_after : Counts → Test → Counts
+counts_after s (shape line fits) = s
+counts_after s (prefix line declared) = s
+counts_after s (clash line agrees) = s
+counts_after s (outside line construct) = s
+counts_after s (numbered line) = record s { axioms = s.axioms + 1 }
+counts_after s (parts line n) = record s { parts = s.parts + n }
+counts_after s (nodes line n) = record s { nodes = s.nodes + n }
+counts_after s (class line name) = record s { classes = with_name s.classes name }
+counts_after s (role line name) = record s { roles = with_name s.roles name }
+counts_after s (number line n) = s
+counts_after s (simple line fits) = s
 
 abbrev pub after_all : Counts → List Test → Counts
 after_all s [] = s
-after_all s (t ∷ ts) = after_all (after s t) ts
+after_all s (t ∷ ts) = after_all (counts_after s t) ts
 
 -- whether a test holds, and what is answered where it does not
 pub record Outcome : Type 0 where
@@ -77,7 +77,7 @@ pub record Outcome : Type 0 where
 
 abbrev pub outcomes : Counts → List Test → List Outcome
 outcomes s [] = []
-outcomes s (t ∷ ts) = record { refusal = refusal t; holds = holds s t } ∷ outcomes (after s t) ts
+outcomes s (t ∷ ts) = record { refusal = refusal t; holds = holds s t } ∷ outcomes (counts_after s t) ts
 
 abbrev pub first_failing : List Outcome → Option Refusal
 first_failing [] = None
@@ -92,9 +92,9 @@ abbrev pub walked : Counts → List Test → Result Counts Refusal
 walked s ts = verdict (first_failing (outcomes s ts)) (after_all s ts)
 
 -- what a reader gives is what the tests say, unless memory was refused
-abbrev pub Gives : {X : Type 0} → Result X Refusal → Counts → Result Counts Refusal → Type 0
-Gives (Ok x) new said = said ≡ Ok new
-Gives (Err e) new said = e ≢ NoMemory → said ≡ Err e
+abbrev pub AgreesWithTests : {X : Type 0} → Result X Refusal → Counts → Result Counts Refusal → Type 0
+AgreesWithTests (Ok x) new said = said ≡ Ok new
+AgreesWithTests (Err e) new said = e ≢ NoMemory → said ≡ Err e
 
 abbrev pub Judged : {X : Type 0} → Result X Refusal → Counts → List Test → Counts → Type 0
-Judged result old ts new = Gives result new (walked old ts)
+Judged result old ts new = AgreesWithTests result new (walked old ts)

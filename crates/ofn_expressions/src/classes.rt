@@ -7,7 +7,7 @@ ghost use Rattle.ofn_expressions.specs.Walk.{Judged};
 ghost use Rattle.ofn_expressions.specs.Names.{iri_of};
 ghost use Rattle.ofn_expressions.specs.Keywords.{class_keyword};
 ghost use Rattle.ofn_expressions.specs.declared.keywords.Keyword.TheVariants.{Class};
-ghost use Rattle.ofn_expressions.specs.Classes.{class_tests, each_class, joined, head_tests, operand_tests, group_tests, class_name_tests, declared_class_tests, listed_class, role_tests, number_tests, number_of, role_of, concept_of, concepts_of, class_named, Keeps, Means, MeanAll, MeansName, IsListed, fits, node_count, made, first, quantified, bounded};
+ghost use Rattle.ofn_expressions.specs.Classes.{class_tests, each_class, joined, head_tests, operand_tests, group_tests, class_name_tests, declared_class_tests, listed_class, role_tests, number_tests, cardinality_of, role_of, concept_of, concepts_of, class_named, Keeps, Means, MeanAll, MeansName, IsListed, fits, node_count, made, first, quantified, bounded};
 
 use crate::keywords::{Bound, ClassKeyword, Keyword, Quantifier, class_keyword};
 use crate::names::{item_line, read_iri};
@@ -254,7 +254,7 @@ fn read_cardinality(
     requires { length filler.now ≤ 1 }
     ensures tests { Judged result state.old.counts (number_tests number.now ++ (role_tests prefixes.now role.now ++ joined (each_class prefixes.now (items_of filler.now)))) state.new.counts }
     ensures grown { Grows state.old state.new }
-    ensures value { IfOk result (λ c. (later : Counts) → Keeps state.new.counts later → (bounded bound (number_of number.now) (role_of prefixes.now later role.now) (first (concepts_of prefixes.now later (items_of filler.now))) ≡ c) × IsListed later c) }
+    ensures value { IfOk result (λ c. (later : Counts) → Keeps state.new.counts later → (bounded bound (cardinality_of number.now) (role_of prefixes.now later role.now) (first (concepts_of prefixes.now later (items_of filler.now))) ≡ c) × IsListed later c) }
 {
     let number = read_number(number)?;
     let role = read_role(alloc, role, prefixes, state)?;

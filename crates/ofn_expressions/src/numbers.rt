@@ -5,7 +5,7 @@ ghost use Rattle.std.specs.Char.{digit_value};
 ghost use Rattle.std.specs.Str.Parse.{digits_value};
 ghost use Rattle.ofn_expressions.specs.Counts.{Counts};
 ghost use Rattle.ofn_expressions.specs.Walk.{Judged};
-ghost use Rattle.ofn_expressions.specs.Classes.{is_digit, number_in, number_tests, number_tests_of, number_of, or_zero};
+ghost use Rattle.ofn_expressions.specs.Classes.{is_digit, cardinality_in, number_tests, number_tests_of, cardinality_of, or_zero};
 
 use crate::{Refusal, Which};
 use ofn_tree::{Form, Tree};
@@ -20,7 +20,7 @@ const MAX_NUMBER: u32 = 100;
 /// `BadShape` where it is no name of ASCII digits, and the limit `Number` where it is above 100.
 pub(crate) fn read_number(tree: &Tree<'_>) -> Result<u32, Refusal>
     ensures tests { (s : Counts) → Judged result s (number_tests tree.now) s }
-    ensures value { IfOk result (λ n. number_of tree.now ≡ n) }
+    ensures value { IfOk result (λ n. cardinality_of tree.now ≡ n) }
 {
     match &tree.form {
         Form::Name(text, line) => read_digits(text.as_bytes(), *line),
@@ -30,8 +30,8 @@ pub(crate) fn read_number(tree: &Tree<'_>) -> Result<u32, Refusal>
 }
 
 fn read_digits(text: &[u8], line: u32) -> Result<u32, Refusal>
-    ensures tests { (s : Counts) → Judged result s (number_tests_of line (number_in text.now)) s }
-    ensures value { IfOk result (λ n. or_zero (number_in text.now) ≡ n) }
+    ensures tests { (s : Counts) → Judged result s (number_tests_of line (cardinality_in text.now)) s }
+    ensures value { IfOk result (λ n. or_zero (cardinality_in text.now) ≡ n) }
 {
     let Some(number) = capped_number(text) else {
         return Err(Refusal::BadShape(line));
@@ -44,7 +44,7 @@ fn read_digits(text: &[u8], line: u32) -> Result<u32, Refusal>
 
 // The number of some digits, or 101 where it is above 100.
 fn capped_number(text: &[u8]) -> Option<u32>
-    ensures { result ≡ option_map (λ n. min n 101) (number_in text.now) }
+    ensures { result ≡ option_map (λ n. min n 101) (cardinality_in text.now) }
 {
     if text.is_empty() || !are_digits(text) {
         return None;

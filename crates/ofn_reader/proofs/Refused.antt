@@ -6,7 +6,7 @@ use Rattle.shq_terms.specs.declared.axioms.Numbered.{Numbered}
 use Rattle.ofn_tree.specs.Lexemes.{end_line}
 use Rattle.ofn_tree.specs.Items.{Item}
 use Rattle.ofn_expressions.specs.Counts.{Counts}
-use Rattle.ofn_expressions.specs.Walk.{Test, shape, prefix, clash, outside, numbered, parts, nodes, class, role, number, simple, holds, refusal, after, walked}
+use Rattle.ofn_expressions.specs.Walk.{Test, shape, prefix, clash, outside, numbered, parts, nodes, class, role, number, simple, holds, refusal, counts_after, walked}
 use Rattle.ofn_expressions.specs.declared.refusal.Refusal.{Refusal}
 use Rattle.ofn_expressions.specs.declared.refusal.Refusal.TheVariants.{Text, BadShape, UnknownPrefix, PrefixClash, Outside, NotSimple, Limit, NoMemory}
 use Rattle.ofn_expressions.specs.Names.{Prefix}
@@ -40,9 +40,9 @@ of_test (simple line fits) = refl
 
 walked_of_test : (s : Counts) (ts : List Test) (e : Refusal) → walked s ts ≡ Err e → is_of_test e ≡ true
 walked_of_test s [] e is = let clashes : Ok s ≡ Err e = is in absurd (cc clashes)
-walked_of_test s (t ∷ ts) e is = by (walked_of_test (after s t) ts e) (holds s t) (sym (walked-cons s t ts) ∙ is)
+walked_of_test s (t ∷ ts) e is = by (walked_of_test (counts_after s t) ts e) (holds s t) (sym (walked-cons s t ts) ∙ is)
   where
-    by : (walked (after s t) ts ≡ Err e → is_of_test e ≡ true) → (b : Bool) → cond b (walked (after s t) ts) (Err (refusal t)) ≡ Err e → is_of_test e ≡ true
+    by : (walked (counts_after s t) ts ≡ Err e → is_of_test e ≡ true) → (b : Bool) → cond b (walked (counts_after s t) ts) (Err (refusal t)) ≡ Err e → is_of_test e ≡ true
     by rest true here = rest here
     by rest false here =
         let failed : Result Counts Refusal = Err (refusal t) in

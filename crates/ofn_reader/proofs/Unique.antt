@@ -6,7 +6,7 @@ use Rattle.shq_terms.specs.declared.axioms.Numbered.{Numbered}
 use Rattle.shq_terms.specs.declared.axioms.Query.{Query}
 use Rattle.ofn_tree.specs.Lexemes.{end_line}
 use Rattle.ofn_tree.specs.Items.{Item, IsTree}
-use Rattle.ofn_tree.specs.Document.{Reading, reading}
+use Rattle.ofn_tree.specs.Document.{DocumentTokens, reading}
 use Rattle.ofn_tree.specs.declared.fault.TextFault.{TextFault}
 use Rattle.ofn_tree.proofs.Unique.{unique}
 use Rattle.ofn_expressions.specs.Counts.{Counts}
@@ -28,10 +28,10 @@ module _ (text : List ℕ) (is js : List Item) (d e : ℕ) (a : HasItems text is
   same_reading = some_same a.tokens b.tokens (sym a.cut ∙ b.cut)
 
   pub same_items : is ≡ js
-  same_items = unique b.tokens.tokens is js (subst (λ (r : Reading). IsTree r.tokens is) same_reading a.tree) b.tree
+  same_items = unique b.tokens.tokens is js (subst (λ (r : DocumentTokens). IsTree r.tokens is) same_reading a.tree) b.tree
 
   same_end : d ≡ e
-  same_end = sym a.behind ∙ ap (λ (r : Reading). r.place_behind) same_reading ∙ b.behind
+  same_end = sym a.behind ∙ ap (λ (r : DocumentTokens). r.place_behind) same_reading ∙ b.behind
 
 pub no_fault : (text : List ℕ) (is : List Item) (d : ℕ) (f : TextFault) → HasItems text is d → text_fault text ≡ Some f → ⊥
 no_fault text is d f a fault =

@@ -2,7 +2,7 @@
 use Rattle.std.specs.Prelude.{◌≡◌, ℕ, List, Option, Some, None, Err}
 use Rattle.ofn_tree.specs.Items.{Item, IsTree}
 use Rattle.ofn_tree.specs.Lexemes.{end_line}
-use Rattle.ofn_tree.specs.Document.{Reading, reading}
+use Rattle.ofn_tree.specs.Document.{DocumentTokens, reading}
 use Rattle.ofn_tree.specs.Faults.{token_fault, bracket_fault}
 use Rattle.ofn_tree.specs.declared.fault.TextFault.{TextFault}
 use Rattle.ofn_expressions.specs.Counts.{Counts}
@@ -10,7 +10,7 @@ use Rattle.ofn_expressions.specs.Walk.{Test, walked}
 use Rattle.ofn_expressions.specs.declared.refusal.Refusal.{Refusal}
 use Rattle.ofn_expressions.specs.declared.refusal.Refusal.TheVariants.{Text, BadShape, UnknownPrefix, PrefixClash, Outside, NotSimple, Limit, NoMemory}
 
-abbrev pub tree_fault : ℕ → Option Reading → Option TextFault
+abbrev pub tree_fault : ℕ → Option DocumentTokens → Option TextFault
 tree_fault end None = None
 tree_fault end (Some r) = bracket_fault end 0 r.tokens
 
@@ -24,7 +24,7 @@ text_fault text = fault_or_else (token_fault text) (tree_fault (end_line text) (
 
 -- the items of a text without a fault, and the place behind the last byte that was read
 pub record HasItems (text : List ℕ) (items : List Item) (end : ℕ) : Type 0 where
-  pub tokens : Reading
+  pub tokens : DocumentTokens
   pub cut : reading text ≡ Some tokens
   pub balanced : bracket_fault (end_line text) 0 tokens.tokens ≡ None
   pub tree : IsTree tokens.tokens items

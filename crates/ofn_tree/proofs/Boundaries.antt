@@ -1,4 +1,4 @@
--- Where a text may be cut: behind what stands at its front.
+-- Where a text may be cut: after what stands at its front.
 use Rattle.std.proofs.Common.{◌≡◌, ℕ, ◌+◌, ◌-◌, ◌<◌, ◌≤◌, Bool, true, false, List, [], ◌∷◌, ◌++◌, length, get_or, take, drop, refl, sym, ap, ◌∙◌, subst, arith, length-drop, nat_eq}
 use Rattle.std.proofs.lemmas.Grind.{common_steps}
 use Rattle.std.proofs.lemmas.List.{take_all, get_or-drop, take-append-drop}
@@ -8,7 +8,7 @@ use Rattle.std.proofs.lemmas.Str.{IsCharBoundary-after_ascii, IsCharBoundary-pas
 use Rattle.std.specs.Str.{IsUtf8, IsCharBoundary}
 use lib.Utf8.{encode}
 use Rattle.std.specs.List.{prefix_len, starts_with}
-use Rattle.ofn_tree.specs.Lexemes.{is_space, is_name_byte, is_comment_byte, is_tag_byte, byte_order_mark}
+use Rattle.ofn_tree.specs.Lexemes.{is_whitespace, is_name_byte, is_comment_byte, is_tag_byte, byte_order_mark}
 
 -- `&text[1..]`
 pub behind_first : (text : List ℕ) → take (length text - 1) (drop 1 text) ≡ drop 1 text
@@ -21,7 +21,7 @@ pub some_byte : (bs : List ℕ) → get_or bs 0 0 ≡ 94 → 0 < length bs
 some_byte [] h = cc
 some_byte (b ∷ bs) h = omega arith
 
--- behind bytes that pass a test, where all bytes that fail it are ASCII
+-- after bytes that pass a test, where all bytes that fail it are ASCII
 pub at_stop : (p : ℕ → Bool) → ((b : ℕ) → p b ≡ false → b < 128) → (text rest : List ℕ) (n : ℕ) → 0 < length text → rest ≡ take (length text - 1) (drop 1 text) → n ≡ prefix_len p rest → IsCharBoundary text (1 + n)
 at_stop p low text rest n some behind is =
     let here : n ≡ prefix_len p (drop 1 text) = is ∙ ap (prefix_len p) (behind ∙ behind_first text) in (
@@ -32,7 +32,7 @@ at_stop p low text rest n some behind is =
           absurd (omega (arith, low (get_or (drop 1 text) (prefix_len p (drop 1 text)) 0) (prefix_len_stops p (drop 1 text) 0 there))),
     )
 
--- behind an ASCII byte that n bytes and the first stand before
+-- after an ASCII byte that n bytes and the first stand before
 pub behind_close : (text rest : List ℕ) (n b : ℕ) → IsUtf8 text → 0 < length text → rest ≡ take (length text - 1) (drop 1 text) → n < length rest → get_or rest n 0 ≡ b → b < 128 → IsCharBoundary text (n + 2)
 behind_close text rest n b utf8 some behind inside is low =
     let whole : rest ≡ drop 1 text = behind ∙ behind_first text in
@@ -44,7 +44,7 @@ behind_close text rest n b utf8 some behind inside is low =
 tag_byte-low : (b : ℕ) → is_tag_byte b ≡ true → b < 128
 tag_byte-low b h = grind (arith, common_steps, h)
 
--- behind bytes of a tag
+-- after bytes of a tag
 pub behind_tag : (text rest : List ℕ) (n : ℕ) → IsUtf8 text → 0 < length text → rest ≡ take (length text - 1) (drop 1 text) → n ≡ prefix_len is_tag_byte rest → 1 ≤ n → IsCharBoundary text (n + 1)
 behind_tag text rest n utf8 some behind is more =
     let before : n - 1 < prefix_len is_tag_byte rest = omega arith in
@@ -53,7 +53,7 @@ behind_tag text rest n utf8 some behind is more =
     subst (IsCharBoundary text) there
     (behind_close text rest (n - 1) (get_or rest (n - 1) 0) utf8 some behind inside refl (tag_byte-low (get_or rest (n - 1) 0) (prefix_len_passes is_tag_byte rest (n - 1) 0 before)))
 
-pub space-low : (b : ℕ) → is_space b ≡ true → b < 128
+pub space-low : (b : ℕ) → is_whitespace b ≡ true → b < 128
 space-low b h = grind (arith, common_steps, h)
 
 pub name_stop-low : (b : ℕ) → is_name_byte b ≡ false → b < 128

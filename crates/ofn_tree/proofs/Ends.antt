@@ -9,7 +9,7 @@ use Rattle.ofn_tree.specs.Lexemes.{Piece, whole, faulty, pieces}
 use Rattle.ofn_tree.specs.declared.fault.TextFault.{TextFault}
 use Rattle.ofn_tree.specs.declared.lexer.Latest.{Latest}
 use Rattle.ofn_tree.specs.declared.lexer.Latest.TheVariants.{DocumentName, QuotedString, TypedString, Other}
-use Rattle.ofn_tree.specs.Document.{Met, Reading, nothing_met, is_last, is_document_name, behind_name, behind_carets, latest_after, depth_after, met_after, document_front, with_token, document, reading}
+use Rattle.ofn_tree.specs.Document.{Met, DocumentTokens, nothing_met, is_last, is_document_name, behind_name, behind_carets, latest_after, depth_after, met_after, document_front, with_token, document, reading}
 use Rattle.ofn_tree.proofs.Slices.{read_ok}
 use Rattle.ofn_tree.specs.Group.{open_behind, StaysOpen, EndsWithCarets, IsInsideDocument, EndsDocument}
 
@@ -43,7 +43,7 @@ close_of Tag h = cc
 close_of Carets h = cc
 close_of Name h = cc
 
--- ---- what is met behind tokens
+-- ---- what is met after tokens
 
 abbrev met_over : Met → List PlainToken → Met
 met_over m [] = m
@@ -96,7 +96,7 @@ record Tells (ts : List PlainToken) (m : Met) : Type 0 where
 tells-depth : (ts : List PlainToken) (m : Met) → Tells ts m → m.depth ≡ open_behind 0 ts
 tells-depth ts m tells = ap (λ n. n.depth) tells.met ∙ over-depth nothing_met ts
 
--- behind a string and carets it is known that they are the last
+-- after a string and carets it is known that they are the last
 carets-known : (ts : List PlainToken) (m : Met) → Tells ts m → EndsWithCarets ts → m.latest ≡ TypedString
 carets-known ts m tells e =
     let before = met_over nothing_met e.front in
@@ -120,7 +120,7 @@ inside-snoc ts t d i more = record {
   level = open_behind-append 1 i.inside (t ∷ []) ∙ ap (depth_after t.kind) i.level;
 }
 
--- a bracket opens behind the name
+-- a bracket opens after the name
 inside-new : (ts : List PlainToken) (t : PlainToken) → open_behind 0 ts ≡ 0 → NamesDocument ts → t.kind ≡ OpenBracket → IsInsideDocument 1 (ts ++ t ∷ [])
 inside-new ts t outside n opens =
     let level : open_behind 0 ts ≡ open_behind 0 n.front =
@@ -232,11 +232,11 @@ ends-at ts t m tells last =
       closes = close_of t.kind (and_left (is_close t.kind) (nat_eq m.depth 1) both);
     }
 
-abbrev EndsOrAll : ℕ → List PlainToken → Result Reading TextFault → Type 0
+abbrev EndsOrAll : ℕ → List PlainToken → Result DocumentTokens TextFault → Type 0
 EndsOrAll end ts (Err fault) = Unit {0}
 EndsOrAll end ts (Ok r) = EndsDocument (ts ++ r.tokens) ⊎ (r.place_behind ≡ end)
 
-more-ends : (end : ℕ) (ts : List PlainToken) (t : PlainToken) (o : Result Reading TextFault) → EndsOrAll end (ts ++ t ∷ []) o → EndsOrAll end ts (with_token t o)
+more-ends : (end : ℕ) (ts : List PlainToken) (t : PlainToken) (o : Result DocumentTokens TextFault) → EndsOrAll end (ts ++ t ∷ []) o → EndsOrAll end ts (with_token t o)
 more-ends end ts t (Err fault) h = tt
 more-ends end ts t (Ok r) h = subst (λ l. EndsDocument l ⊎ (r.place_behind ≡ end)) (append_assoc ts (t ∷ []) r.tokens) h
 
@@ -249,7 +249,7 @@ front-ends end ts m (whole t behind ∷ ps) tells =
       | false ↦ λ e. more-ends end ts t (document_front end (met_after t.kind t.text m) ps) (front-ends end (ts ++ t ∷ []) (met_after t.kind t.text m) ps (tells-snoc ts t m tells))
     ] refl
 
-pub ends : (input : List ℕ) (r : Reading) → reading input ≡ Some r → EndsDocument r.tokens ⊎ (r.place_behind ≡ length input)
+pub ends : (input : List ℕ) (r : DocumentTokens) → reading input ≡ Some r → EndsDocument r.tokens ⊎ (r.place_behind ≡ length input)
 ends input r is = subst (EndsOrAll (length input) []) (read_ok (document input) r is) (front-ends (length input) [] nothing_met (pieces input) tells-nothing)
 
 -- ---- the first such bracket is the last token
@@ -291,7 +291,7 @@ name-known ts name QuotedString is apart same = ap (λ w. behind_name w QuotedSt
 name-known ts name TypedString is apart same = absurd (apart is)
 name-known ts name Other is apart same = ap (λ w. behind_name w Other) same
 
--- behind the name and the bracket the group is the document's
+-- after the name and the bracket the group is the document's
 entered : (m : Met) (name bracket : PlainToken) → m.depth ≡ 0 → name.kind ≡ Name → behind_name name.text m.latest ≡ DocumentName → bracket.kind ≡ OpenBracket
     → met_after bracket.kind bracket.text (met_after name.kind name.text m) ≡ record { depth = 1; document = true; latest = Other }
 entered m name bracket none is_name known opens =
@@ -315,7 +315,7 @@ last-of ts t e =
     let closing : t.kind ≡ CloseBracket = ap (λ u. u.kind) same.1 ∙ e.closes in
     λ k. is_close (closing k) && nat_eq (level k) 1 && document k
 
-abbrev StopsAtLast : Met → Result Reading TextFault → Type 0
+abbrev StopsAtLast : Met → Result DocumentTokens TextFault → Type 0
 StopsAtLast m (Err fault) = Unit {0}
 StopsAtLast m (Ok r) = (front rest : List PlainToken) (t : PlainToken) → r.tokens ≡ front ++ t ∷ rest → is_last (met_over m front) t ≡ true → rest ≡ []
 
@@ -328,7 +328,7 @@ stops-one m u end [] rest t e last = cc
 stops-one m u end (x ∷ []) rest t e last = cc
 stops-one m u end (x ∷ (y ∷ front)) rest t e last = cc
 
-stops-more : (m : Met) (u : PlainToken) (o : Result Reading TextFault) → is_last m u ≡ false → StopsAtLast (met_after u.kind u.text m) o → StopsAtLast m (with_token u o)
+stops-more : (m : Met) (u : PlainToken) (o : Result DocumentTokens TextFault) → is_last m u ≡ false → StopsAtLast (met_after u.kind u.text m) o → StopsAtLast m (with_token u o)
 stops-more m u (Err fault) go_on h = tt
 stops-more m u (Ok r) go_on h = λ front rest t e last. elim front as (λ f. u ∷ r.tokens ≡ f ++ t ∷ rest → is_last (met_over m f) t ≡ true → rest ≡ []) [
   | [] ↦ λ e' last'. let heads : u ≡ t = cc in let other : is_last m t ≡ false = ap (is_last m) (sym heads) ∙ go_on in cc
@@ -347,5 +347,5 @@ stops end m (whole u behind ∷ ps) =
       | false ↦ λ e. stops-more m u (document_front end (met_after u.kind u.text m) ps) e (stops end (met_after u.kind u.text m) ps)
     ] refl
 
-pub first : (input : List ℕ) (r : Reading) (front rest : List PlainToken) (t : PlainToken) → reading input ≡ Some r → r.tokens ≡ front ++ t ∷ rest → EndsDocument (front ++ t ∷ []) → rest ≡ []
+pub first : (input : List ℕ) (r : DocumentTokens) (front rest : List PlainToken) (t : PlainToken) → reading input ≡ Some r → r.tokens ≡ front ++ t ∷ rest → EndsDocument (front ++ t ∷ []) → rest ≡ []
 first input r front rest t is e ended = subst (StopsAtLast nothing_met) (read_ok (document input) r is) (stops (length input) nothing_met (pieces input)) front rest t e (last-of front t ended)

@@ -7,3 +7,4 @@ pub mod Slices
 pub mod Ends
 pub mod Lines
 pub mod Feeds
+pub mod TokenLaws

@@ -7,7 +7,7 @@ use Rattle.std.specs.Str.Lossy.{utf8_valid_len}
 use Rattle.ofn_tree.specs.declared.fault.TextFault.{TextFault}
 use Rattle.ofn_tree.specs.Token.{PlainToken}
 use Rattle.ofn_tree.specs.Lexemes.{Cut, gap, token, wrong, unended, cut_at, is_line_feed, end_line, line_behind, Piece, whole, faulty, end_pieces, pieces_with, pieces_from, mark_len, utf8_front, bad_byte_line, front_pieces}
-use Rattle.ofn_tree.specs.Document.{Met, Reading, nothing_met, is_last, met_after, document_front, with_token, document, reading}
+use Rattle.ofn_tree.specs.Document.{Met, DocumentTokens, nothing_met, is_last, met_after, document_front, with_token, document, reading}
 use Rattle.ofn_tree.specs.Spans.{HaveLines}
 use Rattle.ofn_tree.proofs.Slices.{read_ok, take_of_take}
 
@@ -54,11 +54,11 @@ pieces-lines front end zero place line (b ∷ bs) here same =
 -- ---- readings
 
 -- so many bytes of the input are its front
-abbrev FrontLines : List ℕ → Result Reading TextFault → Type 0
+abbrev FrontLines : List ℕ → Result DocumentTokens TextFault → Type 0
 FrontLines input (Err fault) = Unit {0}
 FrontLines input (Ok r) = HaveLines input r.tokens
 
-with_token-lines : (input : List ℕ) (t : PlainToken) (o : Result Reading TextFault) → t.line ≡ end_line (take t.start input) → FrontLines input o → FrontLines input (with_token t o)
+with_token-lines : (input : List ℕ) (t : PlainToken) (o : Result DocumentTokens TextFault) → t.line ≡ end_line (take t.start input) → FrontLines input o → FrontLines input (with_token t o)
 with_token-lines input t (Err fault) line f = tt
 with_token-lines input t (Ok r) line f = (line, f)
 
@@ -76,7 +76,7 @@ front-lines n input end m (whole t behind ∷ ps) fits p =
       | false ↦ with_token-lines input t (document_front end (met_after t.kind t.text m) ps) (front-line n input t fits p.0 p.1) (front-lines n input end (met_after t.kind t.text m) ps fits p.2)
     ]
 
-pub lines : (input : List ℕ) (r : Reading) → reading input ≡ Some r → HaveLines input r.tokens
+pub lines : (input : List ℕ) (r : DocumentTokens) → reading input ≡ Some r → HaveLines input r.tokens
 lines input r is =
     let front = utf8_front input in
     let told : FrontLines input (document input) =

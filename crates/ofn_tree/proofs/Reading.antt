@@ -9,7 +9,7 @@ use Rattle.ofn_tree.specs.Token.{PlainToken}
 use Rattle.ofn_tree.specs.declared.fault.TextFault.{TextFault}
 use Rattle.ofn_tree.specs.Lexemes.{Lexeme, Cut, gap, token, cut_at, is_line_feed, line_feeds, line_behind, Piece, whole, token_of, end_pieces, pieces_with, pieces_from, byte_order_mark, mark_len, front_pieces}
 use Rattle.ofn_tree.proofs.Boundaries.{begins-with_mark}
-use Rattle.ofn_tree.specs.Document.{Met, Reading, is_last, met_after, document_front, with_token}
+use Rattle.ofn_tree.specs.Document.{Met, DocumentTokens, is_last, met_after, document_front, with_token}
 
 feeds-more : (line more : ℕ) (v : Bool) → cond v (line + 1) line + more ≡ line + (cond v 1 0 + more)
 feeds-more line more true = omega arith
@@ -37,7 +37,7 @@ opened text place inside = rw add-one (drop-cons text place 0 inside)
 pub range_from : (text : List ℕ) (place : ℕ) → take (length text - place) (drop place text) ≡ drop place text
 range_from text place = take_all (length text - place) (drop place text) (omega (arith, length-drop place text))
 
--- what stands at a place, and the pieces behind it
+-- what stands at a place, and the pieces after it
 abbrev next : Option ℕ → Cut → ℕ → ℕ → ℕ → List ℕ → List Piece
 next end cut place line b bs = pieces_with end cut place line (λ n. pieces_from end n (place + 1) (line_behind b line) bs)
 
@@ -80,7 +80,7 @@ mark-lines text true is =
     ap line_feeds (begins-with_mark text is)
 mark-lines text false is = refl
 
--- the first piece stands behind the byte order mark, on the first line
+-- the first piece stands after the byte order mark, on the first line
 pub pieces-mark : (end : Option ℕ) (text : List ℕ) → pieces_from end 0 (mark_len text) 1 (drop (mark_len text) text) ≡ front_pieces end text
 pieces-mark end text =
     let none : 1 + line_feeds (take (mark_len text) text) ≡ 1 = omega (arith, mark-lines text (starts_with nat_eq text byte_order_mark) refl) in
@@ -90,16 +90,16 @@ pieces-mark end text =
 -- ---- what is told
 
 -- what is read where these tokens stand before
-abbrev pub with_tokens : List PlainToken → Result Reading TextFault → Result Reading TextFault
+abbrev pub with_tokens : List PlainToken → Result DocumentTokens TextFault → Result DocumentTokens TextFault
 with_tokens ts (Ok r) = Ok (record { tokens = ts ++ r.tokens; place_behind = r.place_behind })
 with_tokens ts (Err fault) = Err fault
 
-pub with_none : (r : Result Reading TextFault) → with_tokens [] r ≡ r
+pub with_none : (r : Result DocumentTokens TextFault) → with_tokens [] r ≡ r
 with_none (Ok r) = refl
 with_none (Err fault) = refl
 
 -- one more token is told
-told_more : (told : List PlainToken) (t : PlainToken) (rest : Result Reading TextFault) → with_tokens (told ++ t ∷ []) rest ≡ with_tokens told (with_token t rest)
+told_more : (told : List PlainToken) (t : PlainToken) (rest : Result DocumentTokens TextFault) → with_tokens (told ++ t ∷ []) rest ≡ with_tokens told (with_token t rest)
 told_more told t (Err fault) = refl
 told_more told t (Ok r) = ap (λ (l : List PlainToken). Ok (record { tokens = l; place_behind = r.place_behind })) (append_assoc told (t ∷ []) r.tokens)
 
@@ -108,7 +108,7 @@ pub front_with : (end : ℕ) (m : Met) (t : PlainToken) (behind : ℕ) (ps : Lis
 front_with end m t behind ps v e = ap (λ w. cond w (Ok (record { tokens = t ∷ []; place_behind = behind })) (with_token t (document_front end (met_after t.kind t.text m) ps))) e
 
 -- a token that is not the document's last
-pub told_token : (end : ℕ) (m next_met : Met) (t : PlainToken) (behind : ℕ) (here ps : List Piece) (told new : List PlainToken) (all : Result Reading TextFault)
+pub told_token : (end : ℕ) (m next_met : Met) (t : PlainToken) (behind : ℕ) (here ps : List Piece) (told new : List PlainToken) (all : Result DocumentTokens TextFault)
     → here ≡ whole t behind ∷ ps → is_last m t ≡ false → next_met ≡ met_after t.kind t.text m → new ≡ told ++ t ∷ []
     → with_tokens told (document_front end m here) ≡ all → with_tokens new (document_front end next_met ps) ≡ all
 told_token end m next_met t behind here ps told new all at go_on met listed before =
@@ -119,7 +119,7 @@ told_token end m next_met t behind here ps told new all at go_on met listed befo
     ∙ before
 
 -- the document's last token
-pub told_last : (end : ℕ) (m : Met) (t : PlainToken) (behind : ℕ) (here ps : List Piece) (told new : List PlainToken) (all : Result Reading TextFault)
+pub told_last : (end : ℕ) (m : Met) (t : PlainToken) (behind : ℕ) (here ps : List Piece) (told new : List PlainToken) (all : Result DocumentTokens TextFault)
     → here ≡ whole t behind ∷ ps → is_last m t ≡ true → new ≡ told ++ t ∷ [] → with_tokens told (document_front end m here) ≡ all
     → all ≡ Ok (record { tokens = new; place_behind = behind })
 told_last end m t behind here ps told new all at last listed before =
@@ -130,6 +130,6 @@ told_last end m t behind here ps told new all at last listed before =
 
 -- ---- readings and faults
 
-pub read_or_faulty : (r : Result Reading TextFault) → is_some (result_err r) ≡ not (is_some (result_ok r))
+pub read_or_faulty : (r : Result DocumentTokens TextFault) → is_some (result_err r) ≡ not (is_some (result_ok r))
 read_or_faulty (Ok r) = refl
 read_or_faulty (Err fault) = refl

@@ -10,8 +10,8 @@ use Rattle.std.specs.Str.Lossy.{utf8_valid_len}
 use Rattle.ofn_tree.specs.declared.token.Kind.TheVariants.{OpenBracket, CloseBracket, Equals, Iri, Tag, Carets}
 use Rattle.ofn_tree.specs.declared.fault.TextFault.{TextFault}
 use Rattle.ofn_tree.specs.Token.{PlainToken}
-use Rattle.ofn_tree.specs.Lexemes.{Lexeme, Cut, gap, token, wrong, unended, cut_short, iri_at, Quoted, closes, breaks, runs_on, longer, quoted, string_at, tag_at, carets_at, name_at, sign_at, cut_at, is_space, is_comment_byte, is_iri_byte, is_tag_byte, is_name_byte, line_behind, Piece, whole, faulty, token_of, end_pieces, pieces_with, pieces_from, mark_len, utf8_front, bad_byte_line, front_pieces}
-use Rattle.ofn_tree.specs.Document.{Met, Reading, nothing_met, is_last, met_after, document_front, with_token, document, reading}
+use Rattle.ofn_tree.specs.Lexemes.{Lexeme, Cut, gap, token, wrong, unended, cut_short, iri_at, Quoted, closes, breaks, runs_on, longer, quoted, string_at, tag_at, carets_at, name_at, sign_at, cut_at, is_whitespace, is_comment_byte, is_iri_byte, is_tag_byte, is_name_byte, line_behind, Piece, whole, faulty, token_of, end_pieces, pieces_with, pieces_from, mark_len, utf8_front, bad_byte_line, front_pieces}
+use Rattle.ofn_tree.specs.Document.{Met, DocumentTokens, nothing_met, is_last, met_after, document_front, with_token, document, reading}
 use Rattle.ofn_tree.specs.Spans.{around, width, IsSlice, AreSpans}
 
 -- ---- what stands at the front of some bytes
@@ -98,7 +98,7 @@ either b bs false x y first rest = rest
 
 cut-fits : (b : ℕ) (bs : List ℕ) → CutFits b bs (cut_at b bs)
 cut-fits b bs =
-    either b bs (is_space b) (gap 0) _ tt
+    either b bs (is_whitespace b) (gap 0) _ tt
     (either b bs (nat_eq b 35) (gap (prefix_len is_comment_byte bs)) _ tt
     (either b bs (nat_eq b 40) (sign_at OpenBracket b) _ (record { slice = refl; size = refl; within = omega arith })
     (either b bs (nat_eq b 41) (sign_at CloseBracket b) _ (record { slice = refl; size = refl; within = omega arith })
@@ -170,11 +170,11 @@ pieces-fit front input end from zero place line (b ∷ bs) is here before =
 
 -- ---- readings
 
-abbrev FrontFits : List ℕ → ℕ → Result Reading TextFault → Type 0
+abbrev FrontFits : List ℕ → ℕ → Result DocumentTokens TextFault → Type 0
 FrontFits input from (Err fault) = Unit {0}
 FrontFits input from (Ok r) = AreSpans input from r.tokens r.place_behind × (r.place_behind ≤ length input)
 
-with_token-fits : (input : List ℕ) (from behind : ℕ) (t : PlainToken) (o : Result Reading TextFault) → from ≤ t.start → IsSlice input t → t.start + width t ≡ behind → FrontFits input behind o → FrontFits input from (with_token t o)
+with_token-fits : (input : List ℕ) (from behind : ℕ) (t : PlainToken) (o : Result DocumentTokens TextFault) → from ≤ t.start → IsSlice input t → t.start + width t ≡ behind → FrontFits input behind o → FrontFits input from (with_token t o)
 with_token-fits input from behind t (Err fault) before slice end f = tt
 with_token-fits input from behind t (Ok r) before slice end f = ((before, slice, subst (λ n. AreSpans input n r.tokens r.place_behind) (sym end) f.0), f.1)
 
@@ -187,11 +187,11 @@ front-fits input from m (whole t behind ∷ ps) before fit =
       | false ↦ with_token-fits input from behind t (document_front (length input) (met_after t.kind t.text m) ps) fit.0 fit.1 fit.2 (front-fits input behind (met_after t.kind t.text m) ps fit.3 fit.4)
     ]
 
-pub read_ok : (d : Result Reading TextFault) (r : Reading) → result_ok d ≡ Some r → d ≡ Ok r
+pub read_ok : (d : Result DocumentTokens TextFault) (r : DocumentTokens) → result_ok d ≡ Some r → d ≡ Ok r
 read_ok (Ok x) r is = cc
 read_ok (Err fault) r is = cc
 
-pub slices : (input : List ℕ) (r : Reading) → reading input ≡ Some r → AreSpans input 0 r.tokens r.place_behind × (r.place_behind ≤ length input)
+pub slices : (input : List ℕ) (r : DocumentTokens) → reading input ≡ Some r → AreSpans input 0 r.tokens r.place_behind × (r.place_behind ≤ length input)
 slices input r is =
     let front = utf8_front input in
     let fits : FrontFits input 0 (document input) =

@@ -2,7 +2,7 @@
 use Rattle.std.proofs.Common.{◌≡◌, ℕ, ◌+◌, ◌<◌, Bool, true, false, List, ◌∷◌, length, get_or, drop, refl, ap, ◌∙◌, arith, drop-cons, add-one, cond, nat_eq, ◌||◌}
 use Rattle.ofn_tree.specs.Lexemes.{Quoted, closes, breaks, runs_on, longer, quoted}
 
--- the same behind n bytes more
+-- the same after n bytes more
 abbrev pub added : ℕ → Quoted → Quoted
 added n (closes m) = closes (n + m)
 added n breaks = breaks
@@ -16,7 +16,7 @@ added-longer n runs_on = refl
 opened : (text : List ℕ) (n : ℕ) → n < length text → drop n text ≡ get_or text n 0 ∷ drop (n + 1) text
 opened text n inside = rw add-one (drop-cons text n 0 inside)
 
--- behind a backslash
+-- after a backslash
 pub quoted-escaped : (text : List ℕ) (n : ℕ) (v : Bool) → n < length text → (nat_eq (get_or text n 0) 34 || nat_eq (get_or text n 0) 92) ≡ v
     → quoted true (drop n text) ≡ cond v (longer (quoted false (drop (n + 1) text))) breaks
 quoted-escaped text n v inside is = ap (quoted true) (opened text n inside) ∙ ap (λ w. cond w (longer (quoted false (drop (n + 1) text))) breaks) is

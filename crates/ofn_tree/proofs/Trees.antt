@@ -10,7 +10,7 @@ use Rattle.ofn_tree.specs.declared.fault.TextFault.TheVariants.{Unbalanced, TooD
 use Rattle.ofn_tree.specs.Token.{PlainToken, plain_token, is_open, is_close, is_name, is_string, is_tag, is_carets, is_datatype}
 use Rattle.ofn_tree.specs.Items.{Item, group_item, items_of, Mark, opening, closing, mark_of, mark_at, is_head, begins_with_open, begins_with_datatype, begins_with_type, literal_rest, rest_behind, marks_from, marks, written, written_all, nesting, nesting_all}
 use Rattle.ofn_tree.specs.Parsed.{begins_with_close, begins_with_head, IsItems, IsGroup}
-use Rattle.ofn_tree.specs.Faults.{IsFaultOf, fault_or, bracket_fault}
+use Rattle.ofn_tree.specs.Faults.{TellsFault, fault_or, bracket_fault}
 
 written_all-append : (is : List Item) (i : Item) → written_all (items_of (is ++ i ∷ [])) ≡ written_all (items_of is) ++ written i
 written_all-append [] i = append-nil (written i)
@@ -45,7 +45,7 @@ at_place f (x ∷ xs) (suc n) d inside =
 abbrev pub from : List Token → ℕ → List PlainToken
 from tokens place = drop place (map plain_token tokens)
 
--- the token at a place, and those behind it
+-- the token at a place, and those after it
 pub tokens-at : (tokens : List Token) (place : ℕ) (d : Token) → place < length tokens → from tokens place ≡ plain_token (get_or tokens place d) ∷ from tokens (place + 1)
 tokens-at tokens place d inside = at_place plain_token tokens place d inside
 
@@ -378,9 +378,9 @@ group-at end depth head line tokens place stop is inside within opens room inner
     (IsGroup-closed end depth head line (from tokens place) (from tokens stop) is opens room
     (subst (λ l. IsItems end (depth + 1) l (from tokens stop) is) (sym (behind tokens place no_token inside)) inner) closes)
 
--- a fault that stands behind other tokens is theirs
-pub IsFaultOf-before : (there here : Option TextFault) (fault : TextFault) → here ≡ there → IsFaultOf there fault → IsFaultOf here fault
-IsFaultOf-before there here fault same h = subst (λ o. IsFaultOf o fault) (sym same) h
+-- a fault that stands after other tokens is theirs
+pub TellsFault-before : (there here : Option TextFault) (fault : TextFault) → here ≡ there → TellsFault there fault → TellsFault here fault
+TellsFault-before there here fault same h = subst (λ o. TellsFault o fault) (sym same) h
 
 begins_inside : {A : Type 0} (f : A → PlainToken) (xs : List A) (n : ℕ) → begins_with_open (drop n (map f xs)) ≡ true → n < length xs
 begins_inside f [] zero h = cc

@@ -28,7 +28,7 @@ abbrev pub is_document_name : Latest → Bool
 is_document_name DocumentName = true
 is_document_name _ = false
 
--- behind a name: one that stands behind a string and carets is part of their literal
+-- after a name: one that stands after a string and carets is part of their literal
 abbrev pub behind_name : List ℕ → Latest → Latest
 behind_name text TypedString = Other
 behind_name text _ = if bytes_eq text (codes "Ontology") then DocumentName else Other
@@ -37,7 +37,7 @@ abbrev pub behind_carets : Latest → Latest
 behind_carets QuotedString = TypedString
 behind_carets _ = Other
 
--- what the last tokens are behind one more
+-- what the last tokens are after one more
 abbrev pub latest_after : Kind → List ℕ → Latest → Latest
 latest_after Name text before = behind_name text before
 latest_after String text before = QuotedString
@@ -50,7 +50,7 @@ depth_after OpenBracket d = d + 1
 depth_after CloseBracket d = d - 1
 depth_after _ d = d
 
--- whether the outermost open bracket is that of the document's group, behind one more token
+-- whether the outermost open bracket is that of the document's group, after one more token
 abbrev pub document_after : Kind → Met → Bool
 document_after OpenBracket m = if nat_eq m.depth 0 then is_document_name m.latest else m.document
 document_after _ m = m.document
@@ -58,17 +58,17 @@ document_after _ m = m.document
 abbrev pub met_after : Kind → List ℕ → Met → Met
 met_after kind text m = record { depth = depth_after kind m.depth; document = document_after kind m; latest = latest_after kind text m.latest }
 
--- the tokens of a document, and the place behind the last byte that was read
-pub record Reading : Type 0 where
+-- the tokens of a document, and the place after the last byte that was read
+pub record DocumentTokens : Type 0 where
   pub tokens : List PlainToken
   pub place_behind : ℕ
 
-abbrev pub with_token : PlainToken → Result Reading TextFault → Result Reading TextFault
+abbrev pub with_token : PlainToken → Result DocumentTokens TextFault → Result DocumentTokens TextFault
 with_token t (Ok r) = Ok (record { tokens = t ∷ r.tokens; place_behind = r.place_behind })
 with_token t (Err fault) = Err fault
 
 -- the pieces up to the document's last bracket, or all of a text that ends at a place; or the first fault before that
-abbrev pub document_front : ℕ → Met → List Piece → Result Reading TextFault
+abbrev pub document_front : ℕ → Met → List Piece → Result DocumentTokens TextFault
 document_front end m [] = Ok (record { tokens = []; place_behind = end })
 document_front end m (faulty fault ∷ ps) = Err fault
 document_front end m (whole t behind ∷ ps) =
@@ -76,9 +76,9 @@ document_front end m (whole t behind ∷ ps) =
     else with_token t (document_front end (met_after t.kind t.text m) ps)
 
 -- the tokens of the document that a text begins with, or the fault that is met first
-abbrev pub document : List ℕ → Result Reading TextFault
+abbrev pub document : List ℕ → Result DocumentTokens TextFault
 document text = document_front (length text) nothing_met (pieces text)
 
 -- the tokens of the document that a text begins with, if it has no fault
-abbrev pub reading : List ℕ → Option Reading
+abbrev pub reading : List ℕ → Option DocumentTokens
 reading text = result_ok (document text)

@@ -7,25 +7,25 @@ use Rattle.ofn_tree.specs.Token.{PlainToken, is_open, is_close}
 use Rattle.ofn_tree.specs.Document.{document}
 
 -- an answer tells the fault that there is, or that memory was refused
-abbrev pub IsFaultOf : Option TextFault → TextFault → Type 0
-IsFaultOf there NoMemory = Unit {0}
-IsFaultOf there (BadUtf8 line) = there ≡ Some (BadUtf8 line)
-IsFaultOf there (BadToken line) = there ≡ Some (BadToken line)
-IsFaultOf there (Unbalanced line) = there ≡ Some (Unbalanced line)
-IsFaultOf there (TooDeep line) = there ≡ Some (TooDeep line)
+abbrev pub TellsFault : Option TextFault → TextFault → Type 0
+TellsFault there NoMemory = Unit {0}
+TellsFault there (BadUtf8 line) = there ≡ Some (BadUtf8 line)
+TellsFault there (BadToken line) = there ≡ Some (BadToken line)
+TellsFault there (Unbalanced line) = there ≡ Some (Unbalanced line)
+TellsFault there (TooDeep line) = there ≡ Some (TooDeep line)
 
 -- the first fault of a text's tokens, which there is where a text has no reading
 abbrev pub token_fault : List ℕ → Option TextFault
 token_fault text = result_err (document text)
 
--- how many brackets are open behind a token, where d are open before it, or the fault of the token
+-- how many brackets are open after a token, where d are open before it, or the fault of the token
 abbrev pub depth_behind : ℕ → PlainToken → Result ℕ TextFault
 depth_behind d t =
     if is_open t.kind then (if nat_lt d 64 then Ok (d + 1) else Err (TooDeep t.line))
     else if is_close t.kind then (if nat_eq d 0 then Err (Unbalanced t.line) else Ok (d - 1))
     else Ok d
 
--- a fault, or the first one behind so many open brackets
+-- a fault, or the first one after so many open brackets
 abbrev pub fault_or : Result ℕ TextFault → (ℕ → Option TextFault) → Option TextFault
 fault_or (Err fault) rest = Some fault
 fault_or (Ok d) rest = rest d

@@ -4,17 +4,17 @@ use Rattle.ofn_tree.specs.declared.token.Kind.TheVariants.{OpenBracket, CloseBra
 use Rattle.ofn_tree.specs.Token.{PlainToken}
 use Rattle.ofn_tree.specs.Document.{depth_after}
 
--- how many brackets are open behind tokens
+-- how many brackets are open after tokens
 abbrev pub open_behind : ℕ → List PlainToken → ℕ
 open_behind d [] = d
 open_behind d (t ∷ ts) = open_behind (depth_after t.kind d) ts
 
--- before the tokens, between them and behind them some bracket is open
+-- before the tokens, between them and after them some bracket is open
 abbrev pub StaysOpen : ℕ → List PlainToken → Type 0
 StaysOpen d [] = 1 ≤ d
 StaysOpen d (t ∷ ts) = (1 ≤ d) × StaysOpen (depth_after t.kind d) ts
 
--- The tokens end with a string and carets, so that a name behind them is part of their literal.
+-- The tokens end with a string and carets, so that a name after them is part of their literal.
 pub record EndsWithCarets (ts : List PlainToken) : Type 0 where
   pub front : List PlainToken
   pub string : PlainToken

@@ -55,18 +55,18 @@ abbrev pub begins_with_type : List PlainToken → Bool
 begins_with_type [] = false
 begins_with_type (t ∷ ts) = is_carets t.kind && begins_with_datatype ts
 
--- how many of the tokens behind a string are part of its literal: a tag, or carets and a name or IRI
+-- how many of the tokens after a string are part of its literal: a tag, or carets and a name or IRI
 abbrev pub literal_rest : List PlainToken → ℕ
 literal_rest [] = 0
 literal_rest (t ∷ ts) = if is_tag t.kind then 1 else if begins_with_type (t ∷ ts) then 2 else 0
 
--- how many of the tokens behind the first are part of its literal, where it is a string
+-- how many of the tokens after the first are part of its literal, where it is a string
 abbrev pub rest_behind : List PlainToken → ℕ
 rest_behind [] = 0
 rest_behind (t ∷ ts) = if is_string t.kind then literal_rest ts else 0
 
--- how many tokens behind a token have no mark of their own: the bracket behind the name of a group, and the rest of a
--- literal behind its string
+-- how many tokens after a token have no mark of their own: the bracket after the name of a group, and the rest of a
+-- literal after its string
 abbrev pub unmarked : PlainToken → List PlainToken → ℕ
 unmarked t ts = if is_head t ts then 1 else rest_behind (t ∷ ts)
 

@@ -1,8 +1,8 @@
--- What tokens of a text show: a reading of it.
+-- The tokens that were read, as contracts see them.
 use Rattle.std.specs.Prelude.{ℕ, List, map}
 use Rattle.ofn_tree.specs.declared.token.Token.{Token}
 use Rattle.ofn_tree.specs.Token.{plain_token}
-use Rattle.ofn_tree.specs.Document.{Reading}
+use Rattle.ofn_tree.specs.Document.{DocumentTokens}
 
-abbrev pub reading_of : List Token → ℕ → Reading
+abbrev pub reading_of : List Token → ℕ → DocumentTokens
 reading_of ts place = record { tokens = map plain_token ts; place_behind = place }

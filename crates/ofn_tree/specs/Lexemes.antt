@@ -13,22 +13,22 @@ use Rattle.ofn_tree.specs.Token.{PlainToken}
 -- ---- bytes
 
 -- blank, tab, line feed and carriage return
-abbrev pub is_space : ℕ → Bool
-is_space b = nat_eq b 32 || nat_eq b 9 || nat_eq b 10 || nat_eq b 13
+abbrev pub is_whitespace : ℕ → Bool
+is_whitespace b = nat_eq b 32 || nat_eq b 9 || nat_eq b 10 || nat_eq b 13
 
 -- neither whitespace nor a control character; each byte of a character beyond ASCII is plain
-abbrev pub is_plain : ℕ → Bool
-is_plain b = nat_lt 32 b && not (nat_eq b 127)
+abbrev pub is_printing : ℕ → Bool
+is_printing b = nat_lt 32 b && not (nat_eq b 127)
 
 -- of an IRI: none of `< > "`
 abbrev pub is_iri_byte : ℕ → Bool
-is_iri_byte b = is_plain b && not (nat_eq b 60) && not (nat_eq b 62) && not (nat_eq b 34)
+is_iri_byte b = is_printing b && not (nat_eq b 60) && not (nat_eq b 62) && not (nat_eq b 34)
 
 -- of a name: none of `( ) = < > " # @ ^`
 abbrev pub is_name_byte : ℕ → Bool
-is_name_byte b = is_plain b && not (nat_eq b 40) && not (nat_eq b 41) && not (nat_eq b 61) && not (nat_eq b 60) && not (nat_eq b 62) && not (nat_eq b 34) && not (nat_eq b 35) && not (nat_eq b 64) && not (nat_eq b 94)
+is_name_byte b = is_printing b && not (nat_eq b 40) && not (nat_eq b 41) && not (nat_eq b 61) && not (nat_eq b 60) && not (nat_eq b 62) && not (nat_eq b 34) && not (nat_eq b 35) && not (nat_eq b 64) && not (nat_eq b 94)
 
--- of a tag behind its `@`: an ASCII letter or digit, or `-`
+-- of a tag after its `@`: an ASCII letter or digit, or `-`
 abbrev pub is_tag_byte : ℕ → Bool
 is_tag_byte b = is_ascii_alphanumeric b || nat_eq b 45
 
@@ -49,19 +49,19 @@ line_feeds bs = count_by is_line_feed bs
 abbrev pub end_line : List ℕ → ℕ
 end_line text = 1 + line_feeds text
 
--- the line behind a byte on a line
+-- the line after a byte on a line
 abbrev pub line_behind : ℕ → ℕ → ℕ
 line_behind b line = if is_line_feed b then line + 1 else line
 
 -- ---- tokens
 
--- what stands at the front of some bytes: its kind, its text, and how many bytes it has behind its first
+-- what stands at the front of some bytes: its kind, its text, and how many bytes it has after its first
 pub record Lexeme : Type 0 where
   pub kind : Kind
   pub text : List ℕ
   pub more : ℕ
 
--- the front of some bytes: whitespace or a comment, with how many bytes it has behind its first; a whole token; a token
+-- the front of some bytes: whitespace or a comment, with how many bytes it has after its first; a whole token; a token
 -- that a character breaks, or a character that begins none; or a token that goes on where the bytes end
 pub data Cut : Type 0 where
   gap : ℕ → Cut
@@ -69,16 +69,16 @@ pub data Cut : Type 0 where
   wrong : Cut
   unended : Cut
 
--- a token is not whole, and these bytes stand behind what there is of it
+-- a token is not whole, and these bytes stand after what there is of it
 abbrev pub cut_short : List ℕ → Cut
 cut_short [] = unended
 cut_short (b ∷ bs) = wrong
 
--- behind a `<`, whose IRI would have n bytes: those, and then `>`
+-- after a `<`, whose IRI would have n bytes: those, and then `>`
 abbrev pub iri_at : ℕ → List ℕ → Cut
 iri_at n bs = if nat_eq (slice_index bs n) 62 then token (record { kind = Iri; text = take n bs; more = n + 1 }) else cut_short (drop n bs)
 
--- how a string goes on: its end is behind so many bytes, a character breaks it, or the bytes end
+-- how a string goes on: its end is after so many bytes, a character breaks it, or the bytes end
 pub data Quoted : Type 0 where
   closes : ℕ → Quoted
   breaks : Quoted
@@ -89,24 +89,24 @@ longer (closes n) = closes (n + 1)
 longer breaks = breaks
 longer runs_on = runs_on
 
--- how a string goes on in some bytes, behind a backslash or not: in it `"` and `\` stand behind a backslash alone, and
--- nothing else stands behind one
+-- how a string goes on in some bytes, after a backslash or not: in it `"` and `\` stand after a backslash alone, and
+-- nothing else stands after one
 abbrev pub quoted : Bool → List ℕ → Quoted
 quoted escaped [] = runs_on
 quoted true (b ∷ bs) = if nat_eq b 34 || nat_eq b 92 then longer (quoted false bs) else breaks
 quoted false (b ∷ bs) = if nat_eq b 34 then closes 0 else longer (quoted (nat_eq b 92) bs)
 
--- behind the `"` that begins a string, which goes on so
+-- after the `"` that begins a string, which goes on so
 abbrev pub string_at : Quoted → List ℕ → Cut
 string_at (closes n) bs = token (record { kind = String; text = take n bs; more = n + 1 })
 string_at breaks bs = wrong
 string_at runs_on bs = unended
 
--- behind an `@`, which is b and whose tag would have n bytes more
+-- after an `@`, which is b and whose tag would have n bytes more
 abbrev pub tag_at : ℕ → ℕ → List ℕ → Cut
 tag_at n b bs = if nat_eq n 0 then cut_short bs else token (record { kind = Tag; text = b ∷ take n bs; more = n })
 
--- behind a `^`, which is b: another
+-- after a `^`, which is b: another
 abbrev pub carets_at : ℕ → List ℕ → Cut
 carets_at b bs = if nat_eq (slice_index bs 0) 94 then token (record { kind = Carets; text = b ∷ take 1 bs; more = 1 }) else cut_short bs
 
@@ -118,10 +118,10 @@ name_at n b bs = token (record { kind = Name; text = b ∷ take n bs; more = n }
 abbrev pub sign_at : Kind → ℕ → Cut
 sign_at kind b = token (record { kind = kind; text = b ∷ []; more = 0 })
 
--- what begins with b, behind which bs stand
+-- what begins with b, after which bs stand
 abbrev pub cut_at : ℕ → List ℕ → Cut
 cut_at b bs =
-    if is_space b then gap 0
+    if is_whitespace b then gap 0
     else if nat_eq b 35 then gap (prefix_len is_comment_byte bs)
     else if nat_eq b 40 then sign_at OpenBracket b
     else if nat_eq b 41 then sign_at CloseBracket b
@@ -135,7 +135,7 @@ cut_at b bs =
 
 -- ---- pieces
 
--- a piece of a text: a token and the place behind it, or a fault
+-- a piece of a text: a token and the place after it, or a fault
 pub data Piece : Type 0 where
   whole : PlainToken → ℕ → Piece
   faulty : TextFault → Piece
@@ -155,7 +155,7 @@ abbrev pub token_of : ℕ → ℕ → Lexeme → PlainToken
 token_of place line x = record { kind = x.kind; text = x.text; start = place; line = line }
 
 -- the pieces of a text that ends so, from a place on a line on, where this stands at the front of the rest, and `rest`
--- gives the pieces behind so many bytes more
+-- gives the pieces after so many bytes more
 abbrev pub pieces_with : Option ℕ → Cut → ℕ → ℕ → (ℕ → List Piece) → List Piece
 pieces_with end (gap more) place line rest = rest more
 pieces_with end (token x) place line rest = whole (token_of place line x) (place + (x.more + 1)) ∷ rest x.more

@@ -11,3 +11,4 @@ pub mod Parsed
 pub mod Spans
 pub mod Scanned
 pub mod Group
+pub mod TokenLaws

@@ -5,7 +5,7 @@ use Rattle.ofn_tree.specs.declared.token.Kind.TheVariants.{Iri, String}
 use Rattle.ofn_tree.specs.Token.{PlainToken}
 use Rattle.ofn_tree.specs.Lexemes.{end_line}
 
--- how many bytes stand before a token's text that are not part of it, and as many behind it: the `<` and `>` round an
+-- how many bytes stand before a token's text that are not part of it, and as many after it: the `<` and `>` round an
 -- IRI, and the quotation marks round a string
 abbrev pub around : Kind → ℕ
 around Iri = 1

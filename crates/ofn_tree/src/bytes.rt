@@ -1,10 +1,10 @@
 // Bytes of a text, and its lines.
 ghost use Rattle.std.specs.Prelude.{◌≡◌, ◌≤◌, ◌∷◌, [], length};
 ghost use Rattle.std.specs.List.{prefix_len};
-ghost use Rattle.ofn_tree.specs.Lexemes.{is_space, is_iri_byte, is_name_byte, is_tag_byte, is_comment_byte, is_line_feed, line_feeds, end_line};
+ghost use Rattle.ofn_tree.specs.Lexemes.{is_whitespace, is_iri_byte, is_name_byte, is_tag_byte, is_comment_byte, is_line_feed, line_feeds, end_line};
 
-pub(crate) fn is_space(byte: u8) -> bool
-    ensures { result ≡ is_space byte }
+pub(crate) fn is_whitespace(byte: u8) -> bool
+    ensures { result ≡ is_whitespace byte }
 {
     byte == b' ' || byte == b'\t' || byte == b'\n' || byte == b'\r'
 }
@@ -94,11 +94,12 @@ fn line_feeds(text: &[u8]) -> usize
     text.iter().filter(|byte| is_line_feed(**byte)).count()
 }
 
+/// The most bytes of a text: the numbers of its lines are below 2^32 - 1.
+pub const MAX_BYTES: usize = 4_294_967_293;
+
 /// The line on which a text ends: 1 plus the number of its line feeds.
-///
-/// The text has at most 4,294,967,293 bytes.
 pub fn end_line(text: &[u8]) -> u32
-    requires { length text.now ≤ 4_294_967_293 }
+    requires { length text.now ≤ MAX_BYTES }
     ensures { result ≡ end_line text.now }
 {
     1 + line_feeds(text) as u32

@@ -6,7 +6,9 @@ ghost use Rattle.ofn_tree.specs.Lexemes.{is_iri_byte, is_name_byte, is_tag_byte,
 ghost use Rattle.ofn_tree.specs.Scanned.{cut_of, quoted_of, IsCutWithin, ClosesWithin, HasFeeds, ClosesBehind};
 
 use crate::Kind;
-use crate::bytes::{comment_len, feeds_in, iri_len, is_name_byte, is_space, name_len, tag_len};
+use crate::bytes::{
+    comment_len, feeds_in, iri_len, is_name_byte, is_whitespace, name_len, tag_len,
+};
 
 // A token, how many bytes it takes up, and how many of them are line feeds.
 #[derive(Clone, Copy)]
@@ -33,15 +35,15 @@ pub(crate) enum Cut<'a> {
 // How a string goes on.
 #[derive(Clone, Copy)]
 enum StringEnd {
-    // Its closing quotation mark is behind so many bytes, and so many of them are line feeds.
+    // Its closing quotation mark is after so many bytes, and so many of them are line feeds.
     Closes { len: usize, line_feeds: usize },
-    // A character behind a backslash breaks it.
+    // A character after a backslash breaks it.
     Breaks,
     // It goes on where the text ends.
     RunsOn,
 }
 
-// What is answered for a token that is not whole, where these bytes stand behind what there is of it.
+// What is answered for a token that is not whole, where these bytes stand after what there is of it.
 fn cut_short<'a>(rest: &[u8]) -> Cut<'a>
     ensures { cut_of result ≡ cut_short rest.now }
 {
@@ -105,7 +107,7 @@ fn iri_at(text: &str) -> Cut<'_>
     cut_short(&rest[len..])
 }
 
-// How a string goes on behind its first quotation mark.
+// How a string goes on after its first quotation mark.
 fn string_end(text: &[u8]) -> StringEnd
     ensures end { quoted_of result ≡ quoted false text.now }
     ensures within { ClosesWithin text.now result }
@@ -216,7 +218,7 @@ pub(crate) fn cut_at(text: &str) -> Cut<'_>
     ensures feeds { HasFeeds text.now result }
 {
     match text.as_bytes()[0] {
-        first if is_space(first) => Cut::Gap {
+        first if is_whitespace(first) => Cut::Gap {
             len: 1,
             line_feeds: feeds_in(first),
         },

@@ -3,27 +3,28 @@ ghost use Rattle.std.specs.Prelude.{◌≡◌, ℕ, List, ◌<◌, ◌≤◌, �
 ghost use Rattle.std.specs.Str.{IsUtf8, IsCharBoundary};
 ghost use Rattle.ofn_tree.specs.Token.{PlainToken, plain_token};
 ghost use Rattle.ofn_tree.specs.Lexemes.{utf8_front, bad_byte_line, mark_len, unended_fault};
-ghost use Rattle.ofn_tree.specs.Document.{Reading, nothing_met, is_last, met_after, behind_name, behind_carets, is_document_name, latest_after, reading};
+ghost use Rattle.ofn_tree.specs.Document.{DocumentTokens, nothing_met, is_last, met_after, behind_name, behind_carets, is_document_name, latest_after, reading};
 ghost use Rattle.ofn_tree.specs.Spans.{AreSpans, HaveLines};
+ghost use Rattle.ofn_tree.specs.TokenLaws.{HaveGaps, AreLongest};
 ghost use Rattle.ofn_tree.specs.Group.{EndsDocument};
-ghost use Rattle.ofn_tree.specs.Faults.{IsFaultOf, token_fault};
+ghost use Rattle.ofn_tree.specs.Faults.{TellsFault, token_fault};
 ghost use Rattle.ofn_tree.specs.Lexed.{reading_of};
 ghost use Rattle.ofn_tree.specs.Scanned.{met_of};
 
-use crate::bytes::end_line;
+use crate::bytes::{MAX_BYTES, end_line};
 use crate::cut::{Cut, cut_at};
 use crate::{Kind, TextFault, Token};
 use std::alloc::Global;
 use std::str;
 
-// What the last tokens were, as far as it tells what a name behind them is.
+// What the last tokens were, as far as it tells what a name after them is.
 #[derive(Clone, Copy, PartialEq, Eq)]
 enum Latest {
     // The name of the document's group, which is no part of a literal.
     DocumentName,
     // A string.
     QuotedString,
-    // A string and carets: a name behind them is part of their literal.
+    // A string and carets: a name after them is part of their literal.
     TypedString,
     Other,
 }
@@ -55,7 +56,7 @@ impl Latest {
         }
     }
 
-    // What the last tokens are behind one more.
+    // What the last tokens are after one more.
     fn behind(self, token: &Token) -> Latest
         ensures { result ≡ latest_after token.now.kind token.now.text.now self }
     {
@@ -97,7 +98,7 @@ impl Brackets {
         token.kind == Kind::CloseBracket && self.depth == 1 && self.document
     }
 
-    // What is open behind the token.
+    // What is open after the token.
     fn behind(self, token: &Token) -> Brackets
         requires { self.depth < 2 ^ 64 - 1 }
         ensures value { met_of result ≡ met_after token.now.kind token.now.text.now (met_of self) }
@@ -149,10 +150,10 @@ fn utf8_text(bytes: &[u8]) -> &str
     }
 }
 
-// The line of the byte behind the text's front that is UTF-8, if there is one.
+// The line of the byte after the text's front that is UTF-8, if there is one.
 fn bad_byte_line(front: &str, text: &[u8]) -> Option<u32>
     requires front { front.now ≡ utf8_front text.now }
-    requires short { length text.now ≤ 4_294_967_293 }
+    requires short { length text.now ≤ MAX_BYTES }
     ensures { result ≡ bad_byte_line text.now }
 {
     if front.len() < text.len() {
@@ -184,28 +185,27 @@ fn unended_fault(bad_line: Option<u32>, line: u32) -> TextFault
     }
 }
 
-/// The tokens of the document that the text begins with, in order, and the place behind the last byte that was read:
+/// The tokens of the document that the text begins with, in order, and the place after the last byte that was read:
 /// up to the bracket that closes the document's group, or to the end of the text. What follows is not looked at. The
 /// document's group is the first with exactly the name `Ontology` that begins where no bracket is open.
 ///
-/// Tokens are as in the functional-style syntax of OWL 2 (section 2 of the W3C recommendation), with these choices:
+/// Tokens are those of the functional-style syntax (OWL 2 Structural Specification, sections 2 and 3.7), with these choices:
 /// whitespace is blank, tab, line feed and carriage return; a comment runs from `#` to before the next line feed or
 /// carriage return; a name is the longest run of characters other than whitespace, control characters and
 /// `( ) = < > " # @ ^`; control characters stand in comments and strings alone. A byte order mark at the start of the
 /// text is skipped. The line of a token is 1 plus the number of line feeds before it.
 ///
-/// The text has at most 4,294,967,293 bytes.
-///
 /// # Errors
 ///
 /// The fault before that place that is met first, from left to right. `BadUtf8` with the line of a byte that is not part
-/// of UTF-8, in comments and strings too. `BadToken` with the line of a character that begins no token, or of the first
-/// character of a token that another one breaks or the text's end cuts off. And `NoMemory`.
+/// of UTF-8, in comments and strings too, also where that byte cuts off a token. `BadToken` with the line of a character
+/// that begins no token, or of the first character of a token that another one breaks or the text's end cuts off. And
+/// `NoMemory`.
 pub fn tokens(alloc: Global, text: &[u8]) -> Result<(Vec<Token<'_>>, usize), TextFault>
-    requires { length text.now ≤ 4_294_967_293 }
+    requires { length text.now ≤ MAX_BYTES }
     ensures ok { IfOk result (λ r. reading text.now ≡ Some (reading_of r.0.items r.1)) }
     ensures within { IfOk result (λ r. r.1 ≤ length text.now) }
-    ensures fault { IfErr result (IsFaultOf (token_fault text.now)) }
+    ensures fault { IfErr result (TellsFault (token_fault text.now)) }
 {
     let front = utf8_front(text);
     let bad_line = bad_byte_line(front, text);
@@ -244,22 +244,34 @@ pub fn tokens(alloc: Global, text: &[u8]) -> Result<(Vec<Token<'_>>, usize), Tex
     }
 }
 
-/// The tokens that are read are slices of the text, in order and apart, up to the place behind the last byte that was
+/// The tokens that are read are slices of the text, in order and apart, up to the place after the last byte that was
 /// read.
 pub fn tokens_are_slices()
-    ensures { (input : List ℕ) (r : Reading) → reading input ≡ Some r → AreSpans input 0 r.tokens r.place_behind × (r.place_behind ≤ length input) }
+    ensures { (input : List ℕ) (r : DocumentTokens) → reading input ≡ Some r → AreSpans input 0 r.tokens r.place_behind × (r.place_behind ≤ length input) }
+{}
+
+/// Up to the place after the last byte that was read there are only whitespace and comments before the tokens, between
+/// them and after them, but for a byte order mark at the start of the text.
+pub fn only_gaps_stand_between_tokens()
+    ensures { (input : List ℕ) (r : DocumentTokens) → reading input ≡ Some r → HaveGaps (utf8_front input) (mark_len (utf8_front input)) r.tokens r.place_behind }
+{}
+
+/// Each token that is read has the form of its kind and stands at its place in the text, and no longer token of its kind
+/// stands there.
+pub fn tokens_are_longest()
+    ensures { (input : List ℕ) (r : DocumentTokens) → reading input ≡ Some r → AreLongest (utf8_front input) r.tokens }
 {}
 
 /// The line of each token that is read is that on which the text before it ends.
 pub fn tokens_have_lines()
-    ensures { (input : List ℕ) (r : Reading) → reading input ≡ Some r → HaveLines input r.tokens }
+    ensures { (input : List ℕ) (r : DocumentTokens) → reading input ≡ Some r → HaveLines input r.tokens }
 {}
 
 /// The tokens that are read end with the first bracket that closes a group whose name is `Ontology` and which begins
 /// where no bracket is open; without such a bracket the whole text is read.
 pub fn tokens_end_with_the_document()
-    ensures ends { (input : List ℕ) (r : Reading) → reading input ≡ Some r → EndsDocument r.tokens ⊎ (r.place_behind ≡ length input) }
-    ensures first { (input : List ℕ) (r : Reading) (front rest : List PlainToken) (t : PlainToken) → reading input ≡ Some r → r.tokens ≡ front ++ t ∷ rest → EndsDocument (front ++ t ∷ []) → rest ≡ [] }
+    ensures ends { (input : List ℕ) (r : DocumentTokens) → reading input ≡ Some r → EndsDocument r.tokens ⊎ (r.place_behind ≡ length input) }
+    ensures first { (input : List ℕ) (r : DocumentTokens) (front rest : List PlainToken) (t : PlainToken) → reading input ≡ Some r → r.tokens ≡ front ++ t ∷ rest → EndsDocument (front ++ t ∷ []) → rest ≡ [] }
 {}
 
 /// A text either has tokens, or a first fault.

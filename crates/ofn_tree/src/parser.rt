@@ -4,7 +4,7 @@ ghost use Rattle.ofn_tree.specs.Token.{plain_token, PlainToken, is_open, is_clos
 ghost use Rattle.ofn_tree.specs.Items.{Item, IsTree, written, nesting, mark_of, begins_with_open, begins_with_datatype, begins_with_type, literal_rest, rest_behind};
 ghost use Rattle.ofn_tree.specs.Form.{head_text};
 ghost use Rattle.ofn_tree.specs.Parsed.{begins_with_close, begins_with_head, IsItems, IsGroup};
-ghost use Rattle.ofn_tree.specs.Faults.{IsFaultOf, bracket_fault};
+ghost use Rattle.ofn_tree.specs.Faults.{TellsFault, bracket_fault};
 
 use crate::{Form, Kind, TextFault, Token, Tree};
 use std::alloc::Global;
@@ -14,7 +14,7 @@ const MAX_OPEN: u32 = 64;
 
 /// The items of the tokens, bracketed. A name directly followed by an opening bracket begins a group with that name. A
 /// string is one literal with a tag that follows it, or with carets and a name or IRI that follow it, also where a
-/// bracket opens behind that name: the group has no name then. Equals signs, and tags and carets elsewhere, are signs.
+/// bracket opens after that name: the group has no name then. Equals signs, and tags and carets elsewhere, are signs.
 /// `end_line` is the line of the text's end.
 ///
 /// # Errors
@@ -28,7 +28,7 @@ pub fn tree<'a>(
 ) -> Result<Vec<Tree<'a>>, TextFault>
     ensures ok { IfOk result (λ trees. IsTree (map plain_token tokens.now) trees.items) }
     ensures no_fault { OnOk result (bracket_fault end_line 0 (map plain_token tokens.now) ≡ None) }
-    ensures fault { IfErr result (IsFaultOf (bracket_fault end_line 0 (map plain_token tokens.now))) }
+    ensures fault { IfErr result (TellsFault (bracket_fault end_line 0 (map plain_token tokens.now))) }
 {
     let (trees, place) = items(alloc, tokens, 0, 0, end_line)?;
     if place < tokens.len() {
@@ -37,7 +37,7 @@ pub fn tree<'a>(
     Ok(trees)
 }
 
-// The items from a place on, up to a bracket that closes none of theirs, or to the end, and the place behind them.
+// The items from a place on, up to a bracket that closes none of theirs, or to the end, and the place after them.
 #[cycle(trees)]
 fn items<'a>(
     alloc: Global,
@@ -51,7 +51,7 @@ fn items<'a>(
     ensures within { IfOk result (λ r. (start ≤ r.1) × (r.1 ≤ length tokens.now)) }
     ensures read { IfOk result (λ r. IsItems end_line depth (drop start (map plain_token tokens.now)) (drop r.1 (map plain_token tokens.now)) r.0.items) }
     ensures ended { IfOk result (λ r. r.1 < length tokens.now → begins_with_close (drop r.1 (map plain_token tokens.now)) ≡ true) }
-    ensures fault { IfErr result (IsFaultOf (bracket_fault end_line depth (drop start (map plain_token tokens.now)))) }
+    ensures fault { IfErr result (TellsFault (bracket_fault end_line depth (drop start (map plain_token tokens.now)))) }
 {
     let mut trees = Vec::new(alloc);
     let mut place = start;
@@ -68,13 +68,13 @@ fn items<'a>(
 
 fn push_tree<'a>(trees: &mut Vec<Tree<'a>>, tree: Tree<'a>) -> Result<(), TextFault>
     ensures pushed { OnOk result (trees.new.items ≡ trees.old.items ++ tree.entry ∷ []) }
-    ensures refused { IfErr result (IsFaultOf None) }
+    ensures refused { IfErr result (TellsFault None) }
 {
     trees.push(tree)?;
     Ok(())
 }
 
-// The item at a place, where no bracket closes, and the place behind it.
+// The item at a place, where no bracket closes, and the place after it.
 #[cycle(trees)]
 fn one<'a>(
     alloc: Global,
@@ -88,7 +88,7 @@ fn one<'a>(
     requires begins { begins_with_close (drop start (map plain_token tokens.now)) ≡ false }
     ensures within { IfOk result (λ r. (start < r.1) × (r.1 ≤ length tokens.now)) }
     ensures read { IfOk result (λ r. IsItems end_line depth (drop start (map plain_token tokens.now)) (drop r.1 (map plain_token tokens.now)) (r.0 ∷ [])) }
-    ensures fault { IfErr result (IsFaultOf (bracket_fault end_line depth (drop start (map plain_token tokens.now)))) }
+    ensures fault { IfErr result (TellsFault (bracket_fault end_line depth (drop start (map plain_token tokens.now)))) }
 {
     let token = tokens[start];
     if opens_at(tokens, start) {
@@ -209,7 +209,7 @@ fn literal_rest(tokens: &[Token], place: usize) -> usize
     0
 }
 
-// How many of the tokens behind the one at a place are part of its literal, where it is a string.
+// How many of the tokens after the one at a place are part of its literal, where it is a string.
 fn rest_behind(tokens: &[Token], place: usize) -> usize
     requires { place < length tokens.now }
     ensures rest { result ≡ rest_behind (drop place (map plain_token tokens.now)) }
@@ -238,7 +238,7 @@ fn single<'a>(token: &Token<'a>) -> Tree<'a>
     Tree { form }
 }
 
-// The group with a name and a line whose opening bracket stands at a place, and the place behind its closing bracket.
+// The group with a name and a line whose opening bracket stands at a place, and the place after its closing bracket.
 #[cycle(trees)]
 fn group<'a>(
     alloc: Global,
@@ -254,7 +254,7 @@ fn group<'a>(
     requires begins { begins_with_open (drop place (map plain_token tokens.now)) ≡ true }
     ensures within { IfOk result (λ r. (place < r.1) × (r.1 ≤ length tokens.now)) }
     ensures read { IfOk result (λ r. IsGroup end_line depth (head_text head.entry) line (drop place (map plain_token tokens.now)) (drop r.1 (map plain_token tokens.now)) r.0) }
-    ensures fault { IfErr result (IsFaultOf (bracket_fault end_line depth (drop place (map plain_token tokens.now)))) }
+    ensures fault { IfErr result (TellsFault (bracket_fault end_line depth (drop place (map plain_token tokens.now)))) }
 {
     if depth == MAX_OPEN {
         return Err(TextFault::TooDeep(tokens[place].line));

@@ -11,7 +11,7 @@ use Rattle.shq_nnf.specs.Parts.{axiom_parts, axiom_has_counts_within}
 use Rattle.row_cache.specs.Rows.{AreInLimit}
 use Rattle.ofn_tree.specs.Items.{Item, name_item, iri_item, literal_item, sign_item, group_item, Items, no_items, item}
 use Rattle.ofn_expressions.specs.Counts.{Counts}
-use Rattle.ofn_expressions.specs.Walk.{Test, shape, numbered, parts, after, walked}
+use Rattle.ofn_expressions.specs.Walk.{Test, shape, numbered, parts, counts_after, walked}
 use Rattle.ofn_expressions.specs.Names.{Prefix, iri_of}
 use Rattle.ofn_expressions.specs.Classes.{item_count, class_name_tests, role_tests, joined, each_class, class_named, role_of, roles_of, concept_of, concepts_of}
 use Rattle.ofn_reader.specs.Keywords.{axiom_keyword}
@@ -96,8 +96,8 @@ module _ (ps : List Prefix) (f : Counts) where
   few_parts k line n s new h =
       let last : List Test = parts line (part_count k n) ∷ [] in
       let first = held s (numbered line) (shape line (axiom_fits k n) ∷ last) new h in
-      let second = held (after s (numbered line)) (shape line (axiom_fits k n)) last new first.later in
-      let third = held (after s (numbered line)) (parts line (part_count k n)) [] new second.later in
+      let second = held (counts_after s (numbered line)) (shape line (axiom_fits k n)) last new first.later in
+      let third = held (counts_after s (numbered line)) (parts line (part_count k n)) [] new second.later in
       omega (arith, true_le (s.parts + part_count k n) 500000 third.now)
 
   numbered_in_limit : (k : AxiomKind) (line : ℕ) (is : Items) (s new : Counts) → walked s (numbered_tests ps k line is) ≡ Ok new → AreInLimit (numbered_at line (axiom_made ps f k is))

@@ -5,10 +5,10 @@ use Rattle.shq_base.specs.Concept.{Concept, top, bottom, name, Parts, no_parts, 
 use Rattle.shq_nnf.specs.Counts.{has_counts_within, have_counts_within}
 use Rattle.ofn_tree.specs.Items.{Item, name_item, iri_item, literal_item, sign_item, group_item, Items, no_items, item}
 use Rattle.ofn_expressions.specs.Counts.{Counts}
-use Rattle.ofn_expressions.specs.Walk.{Test, shape, nodes, number, after, walked}
+use Rattle.ofn_expressions.specs.Walk.{Test, shape, nodes, number, counts_after, walked}
 use Rattle.ofn_expressions.specs.Names.{Prefix, iri_of}
 use Rattle.ofn_expressions.specs.Keywords.{class_keyword}
-use Rattle.ofn_expressions.specs.Classes.{item_count, is_thing, is_nothing, place, or_zero, class_named, number_in, number_of, number_tests_of, number_tests, role_tests, joined, class_tests, each_class, first, concept_of, concepts_of}
+use Rattle.ofn_expressions.specs.Classes.{item_count, is_thing, is_nothing, place, or_zero, class_named, cardinality_in, cardinality_of, number_tests_of, number_tests, role_tests, joined, class_tests, each_class, first, concept_of, concepts_of}
 use Rattle.written_ontologies.proofs.Checks.{and_left, and_right, and_both}
 use Rattle.written_ontologies.proofs.Counting.{held, both}
 use Rattle.written_ontologies.proofs.Words.{NoClass, class_words}
@@ -17,8 +17,8 @@ number_by : (r : Option ℕ) (line : ℕ) (s new : Counts) → walked s (number_
 number_by (Some k) line s new h = (held s (number line k) [] new h).now
 number_by None line s new h = refl
 
-number_within : (i : Item) (s new : Counts) → walked s (number_tests i) ≡ Ok new → nat_le (number_of i) 100 ≡ true
-number_within (name_item w line) s new h = number_by (number_in w) line s new h
+number_within : (i : Item) (s new : Counts) → walked s (number_tests i) ≡ Ok new → nat_le (cardinality_of i) 100 ≡ true
+number_within (name_item w line) s new h = number_by (cardinality_in w) line s new h
 number_within (iri_item w line) s new h = refl
 number_within (literal_item line) s new h = refl
 number_within (sign_item k line) s new h = refl
@@ -61,11 +61,11 @@ module _ (ps : List Prefix) (f : Counts) where
   -- ---- groups, by their words
 
   -- behind the two tests of a group's head
-  behind_head : (line k : ℕ) (enough : Bool) (inner : List Test) (s new : Counts) → walked s (nodes line k ∷ (shape line enough ∷ inner)) ≡ Ok new → walked (after s (nodes line k)) inner ≡ Ok new
-  behind_head line k enough inner s new h = (held (after s (nodes line k)) (shape line enough) inner new (held s (nodes line k) (shape line enough ∷ inner) new h).later).later
+  behind_head : (line k : ℕ) (enough : Bool) (inner : List Test) (s new : Counts) → walked s (nodes line k ∷ (shape line enough ∷ inner)) ≡ Ok new → walked (counts_after s (nodes line k)) inner ≡ Ok new
+  behind_head line k enough inner s new h = (held (counts_after s (nodes line k)) (shape line enough) inner new (held s (nodes line k) (shape line enough ∷ inner) new h).later).later
 
   many_within : (line : ℕ) (enough : Bool) (is : Items) → AreWithin is → (s new : Counts) → walked s (nodes line 1 ∷ (shape line enough ∷ joined (each_class ps is))) ≡ Ok new → have_counts_within 100 (concepts_of ps f is) ≡ true
-  many_within line enough is each s new h = parts_within is each (after s (nodes line 1)) new (behind_head line 1 enough (joined (each_class ps is)) s new h)
+  many_within line enough is each s new h = parts_within is each (counts_after s (nodes line 1)) new (behind_head line 1 enough (joined (each_class ps is)) s new h)
 
   filler_within : (r : Item) (is : Items) → AreWithin is → (s new : Counts) → walked s (role_tests ps r ++ joined (each_class ps is)) ≡ Ok new → has_counts_within 100 (first (concepts_of ps f is)) ≡ true
   filler_within r is each s new h =
@@ -74,15 +74,15 @@ module _ (ps : List Prefix) (f : Counts) where
 
   -- a role and a filler
   valued_within : (line : ℕ) (enough : Bool) (r : Item) (is : Items) → AreWithin is → (s new : Counts) → walked s (nodes line 1 ∷ (shape line enough ∷ (role_tests ps r ++ joined (each_class ps is)))) ≡ Ok new → has_counts_within 100 (first (concepts_of ps f is)) ≡ true
-  valued_within line enough r is each s new h = filler_within r is each (after s (nodes line 1)) new (behind_head line 1 enough (role_tests ps r ++ joined (each_class ps is)) s new h)
+  valued_within line enough r is each s new h = filler_within r is each (counts_after s (nodes line 1)) new (behind_head line 1 enough (role_tests ps r ++ joined (each_class ps is)) s new h)
 
   -- a number, a role and a filler, which may be left out
   bounded_within : (line k : ℕ) (enough : Bool) (n r : Item) (is : Items) → AreWithin is → (s new : Counts) → walked s (nodes line k ∷ (shape line enough ∷ (number_tests n ++ (role_tests ps r ++ joined (each_class ps is))))) ≡ Ok new
-      → (nat_le (number_of n) 100 && has_counts_within 100 (first (concepts_of ps f is))) ≡ true
+      → (nat_le (cardinality_of n) 100 && has_counts_within 100 (first (concepts_of ps f is))) ≡ true
   bounded_within line k enough n r is each s new h =
       let rest : List Test = role_tests ps r ++ joined (each_class ps is) in
-      let b = both (after s (nodes line k)) (number_tests n) rest new (behind_head line k enough (number_tests n ++ rest) s new h) in
-      and_both (nat_le (number_of n) 100) (has_counts_within 100 (first (concepts_of ps f is))) (number_within n (after s (nodes line k)) b.mid b.first) (filler_within r is each b.mid new b.second)
+      let b = both (counts_after s (nodes line k)) (number_tests n) rest new (behind_head line k enough (number_tests n ++ rest) s new h) in
+      and_both (nat_le (cardinality_of n) 100) (has_counts_within 100 (first (concepts_of ps f is))) (number_within n (counts_after s (nodes line k)) b.mid b.first) (filler_within r is each b.mid new b.second)
 
   abbrev GroupWithin : List ℕ → Type 0
   GroupWithin w = (line : ℕ) (is : Items) → AreWithin is → IsWithin (group_item (Some w) is line)

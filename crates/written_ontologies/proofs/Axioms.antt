@@ -12,7 +12,7 @@ use Rattle.ofn_tree.specs.Items.{Item, name_item, Items, no_items, item}
 use Rattle.ofn_expressions.specs.Counts.{Counts}
 use Rattle.ofn_expressions.specs.Walk.{Test, shape, numbered, parts, walked}
 use Rattle.ofn_expressions.specs.Names.{predeclared, iri_of}
-use Rattle.ofn_expressions.specs.Classes.{item_count, is_thing, is_nothing, role_tests, roles_tests, joined, class_tests, each_class, class_name_tests, or_zero, class_named, role_of, roles_of, number_of, concept_of, concepts_of}
+use Rattle.ofn_expressions.specs.Classes.{item_count, is_thing, is_nothing, role_tests, roles_tests, joined, class_tests, each_class, class_name_tests, or_zero, class_named, role_of, roles_of, cardinality_of, concept_of, concepts_of}
 use Rattle.ofn_expressions.specs.declared.refusal.Refusal.{Refusal}
 use Rattle.ofn_expressions.proofs.Walks.{goes_on}
 use Rattle.ofn_reader.specs.Groups.{is_annotation, without_annotations}
@@ -245,7 +245,7 @@ module _ (o : Listed) (names : AreKnown o) where
     unfolding predeclared is_thing is_nothing
     nothing_value line = refl
 
-    number_value : (line k : ℕ) → nat_le k 100 ≡ true → number_of (name_item (decimal k) line) ≡ k
+    number_value : (line k : ℕ) → nat_le k 100 ≡ true → cardinality_of (name_item (decimal k) line) ≡ k
     number_value line k few = ap or_zero (decimal_number k (true_le k 100 few))
 
     mutual
@@ -267,17 +267,17 @@ module _ (o : Listed) (names : AreKnown o) where
           let inner : concept_of predeclared s (item_of line (concept_phrase o c)) ≡ c = concept_value line c (and_right (known_role r) (listed c) known) whole in
           keywords.all_value predeclared line (item_of line (role_phrase o r)) (item_of line (concept_phrase o c)) s ∙ (λ i. all_of (role i) (inner i))
       concept_value line (at_least k r c) known whole =
-          let number : number_of (name_item (decimal k) line) ≡ k = number_value line k (and_left (nat_le k 100) (is_whole c) whole) in
+          let number : cardinality_of (name_item (decimal k) line) ≡ k = number_value line k (and_left (nat_le k 100) (is_whole c) whole) in
           let role : role_of predeclared s (item_of line (role_phrase o r)) ≡ r = role_value line r (and_left (known_role r) (listed c) known) in
           let inner : concept_of predeclared s (item_of line (concept_phrase o c)) ≡ c = concept_value line c (and_right (known_role r) (listed c) known) (and_right (nat_le k 100) (is_whole c) whole) in
           keywords.least_value predeclared line (name_item (decimal k) line) (item_of line (role_phrase o r)) (item_of line (concept_phrase o c)) s ∙ (λ i. at_least (number i) (role i) (inner i))
       concept_value line (at_most k r c) known whole =
-          let number : number_of (name_item (decimal k) line) ≡ k = number_value line k (and_left (nat_le k 100) (is_whole c) whole) in
+          let number : cardinality_of (name_item (decimal k) line) ≡ k = number_value line k (and_left (nat_le k 100) (is_whole c) whole) in
           let role : role_of predeclared s (item_of line (role_phrase o r)) ≡ r = role_value line r (and_left (known_role r) (listed c) known) in
           let inner : concept_of predeclared s (item_of line (concept_phrase o c)) ≡ c = concept_value line c (and_right (known_role r) (listed c) known) (and_right (nat_le k 100) (is_whole c) whole) in
           keywords.most_value predeclared line (name_item (decimal k) line) (item_of line (role_phrase o r)) (item_of line (concept_phrase o c)) s ∙ (λ i. at_most (number i) (role i) (inner i))
       concept_value line (exactly k r c) known whole =
-          let number : number_of (name_item (decimal k) line) ≡ k = number_value line k (and_left (nat_le k 100) (is_whole c) whole) in
+          let number : cardinality_of (name_item (decimal k) line) ≡ k = number_value line k (and_left (nat_le k 100) (is_whole c) whole) in
           let role : role_of predeclared s (item_of line (role_phrase o r)) ≡ r = role_value line r (and_left (known_role r) (listed c) known) in
           let inner : concept_of predeclared s (item_of line (concept_phrase o c)) ≡ c = concept_value line c (and_right (known_role r) (listed c) known) (and_right (nat_le k 100) (is_whole c) whole) in
           keywords.exact_value predeclared line (name_item (decimal k) line) (item_of line (role_phrase o r)) (item_of line (concept_phrase o c)) s ∙ (λ i. exactly (number i) (role i) (inner i))

@@ -7,7 +7,7 @@ use Rattle.shq_terms.specs.Names.{with_at, with_name}
 use Rattle.shq_terms.specs.Distinct.{AreDistinct}
 use Rattle.shq_terms.proofs.Distinct.{pushed_distinct}
 use Rattle.ofn_expressions.specs.Counts.{Counts}
-use Rattle.ofn_expressions.specs.Walk.{Test, numbered, parts, nodes, class, role, holds, refusal, after, after_all, outcomes, first_failing, verdict, walked}
+use Rattle.ofn_expressions.specs.Walk.{Test, numbered, parts, nodes, class, role, holds, refusal, counts_after, after_all, outcomes, first_failing, verdict, walked}
 use Rattle.ofn_expressions.specs.Classes.{Keeps}
 use Rattle.ofn_expressions.specs.declared.refusal.Refusal.{Refusal}
 use Rattle.ofn_expressions.proofs.Walks.{walked-cons, walked_append, then}
@@ -19,7 +19,7 @@ use Rattle.written_ontologies.proofs.Checks.{and_both, true_le}
 
 pub record Holds (s : Counts) (t : Test) (ts : List Test) (new : Counts) : Type 0 where
   pub now : holds s t ≡ true
-  pub later : walked (after s t) ts ≡ Ok new
+  pub later : walked (counts_after s t) ts ≡ Ok new
 
 pub record Both (s : Counts) (ts us : List Test) (new : Counts) : Type 0 where
   pub mid : Counts
@@ -32,7 +32,7 @@ holds_by false r e new h = let clash : ◌≡◌ {A = Result Counts Refusal} (Er
 
 pub held : (s : Counts) (t : Test) (ts : List Test) (new : Counts) → walked s (t ∷ ts) ≡ Ok new → Holds s t ts new
 held s t ts new h =
-    let both = holds_by (holds s t) (walked (after s t) ts) (refusal t) new (sym (walked-cons s t ts) ∙ h) in
+    let both = holds_by (holds s t) (walked (counts_after s t) ts) (refusal t) new (sym (walked-cons s t ts) ∙ h) in
     record { now = both.0; later = both.1 }
 
 then_by : (s : Counts) (ts us : List Test) (new : Counts) (r : Result Counts Refusal) → walked s ts ≡ r → then r us ≡ Ok new → Both s ts us new
@@ -88,7 +88,7 @@ distinct_with names w distinct = by (position (bytes_eq w) names) refl
     by (Some k) found = distinct
     by None found = pushed_distinct names w found distinct
 
-pub class_within : (s : Counts) (n : ℕ) (w : List ℕ) → holds s (class n w) ≡ true → is_class_iri w ≡ true → IsWithin s → IsWithin (after s (class n w))
+pub class_within : (s : Counts) (n : ℕ) (w : List ℕ) → holds s (class n w) ≡ true → is_class_iri w ≡ true → IsWithin s → IsWithin (counts_after s (class n w))
 class_within s n w h good within = record {
   class_iris = all_with is_class_iri s.classes w within.class_iris good;
   role_iris = within.role_iris;
@@ -101,7 +101,7 @@ class_within s n w h good within = record {
   few_nodes = within.few_nodes;
 }
 
-pub role_within : (s : Counts) (n : ℕ) (w : List ℕ) → holds s (role n w) ≡ true → is_role_iri w ≡ true → IsWithin s → IsWithin (after s (role n w))
+pub role_within : (s : Counts) (n : ℕ) (w : List ℕ) → holds s (role n w) ≡ true → is_role_iri w ≡ true → IsWithin s → IsWithin (counts_after s (role n w))
 role_within s n w h good within = record {
   class_iris = within.class_iris;
   role_iris = all_with is_role_iri s.roles w within.role_iris good;
@@ -114,7 +114,7 @@ role_within s n w h good within = record {
   few_nodes = within.few_nodes;
 }
 
-pub nodes_within : (s : Counts) (n k : ℕ) → holds s (nodes n k) ≡ true → IsWithin s → IsWithin (after s (nodes n k))
+pub nodes_within : (s : Counts) (n k : ℕ) → holds s (nodes n k) ≡ true → IsWithin s → IsWithin (counts_after s (nodes n k))
 nodes_within s n k h within = record {
   class_iris = within.class_iris;
   role_iris = within.role_iris;
@@ -127,7 +127,7 @@ nodes_within s n k h within = record {
   few_nodes = true_le (s.nodes + k) 262144 h;
 }
 
-pub numbered_within : (s : Counts) (n : ℕ) → holds s (numbered n) ≡ true → IsWithin s → IsWithin (after s (numbered n))
+pub numbered_within : (s : Counts) (n : ℕ) → holds s (numbered n) ≡ true → IsWithin s → IsWithin (counts_after s (numbered n))
 numbered_within s n h within = record {
   class_iris = within.class_iris;
   role_iris = within.role_iris;
@@ -140,7 +140,7 @@ numbered_within s n h within = record {
   few_nodes = within.few_nodes;
 }
 
-pub parts_within : (s : Counts) (n k : ℕ) → holds s (parts n k) ≡ true → IsWithin s → IsWithin (after s (parts n k))
+pub parts_within : (s : Counts) (n k : ℕ) → holds s (parts n k) ≡ true → IsWithin s → IsWithin (counts_after s (parts n k))
 parts_within s n k h within = record {
   class_iris = within.class_iris;
   role_iris = within.role_iris;
@@ -181,17 +181,17 @@ rises_as s new x p n y q m a b c rises = record {
   within = rises.within;
 }
 
-pub rises_nodes : (s : Counts) (n k : ℕ) → holds s (nodes n k) ≡ true → Rises s (after s (nodes n k)) 0 0 k
+pub rises_nodes : (s : Counts) (n k : ℕ) → holds s (nodes n k) ≡ true → Rises s (counts_after s (nodes n k)) 0 0 k
 rises_nodes s n k h = record { axioms = omega arith; parts = omega arith; nodes = refl; within = nodes_within s n k h }
 
-pub rises_class : (s : Counts) (n : ℕ) (w : List ℕ) → holds s (class n w) ≡ true → is_class_iri w ≡ true → Rises s (after s (class n w)) 0 0 0
+pub rises_class : (s : Counts) (n : ℕ) (w : List ℕ) → holds s (class n w) ≡ true → is_class_iri w ≡ true → Rises s (counts_after s (class n w)) 0 0 0
 rises_class s n w h good = record { axioms = omega arith; parts = omega arith; nodes = omega arith; within = class_within s n w h good }
 
-pub rises_role : (s : Counts) (n : ℕ) (w : List ℕ) → holds s (role n w) ≡ true → is_role_iri w ≡ true → Rises s (after s (role n w)) 0 0 0
+pub rises_role : (s : Counts) (n : ℕ) (w : List ℕ) → holds s (role n w) ≡ true → is_role_iri w ≡ true → Rises s (counts_after s (role n w)) 0 0 0
 rises_role s n w h good = record { axioms = omega arith; parts = omega arith; nodes = omega arith; within = role_within s n w h good }
 
-pub rises_numbered : (s : Counts) (n : ℕ) → holds s (numbered n) ≡ true → Rises s (after s (numbered n)) 1 0 0
+pub rises_numbered : (s : Counts) (n : ℕ) → holds s (numbered n) ≡ true → Rises s (counts_after s (numbered n)) 1 0 0
 rises_numbered s n h = record { axioms = refl; parts = omega arith; nodes = omega arith; within = numbered_within s n h }
 
-pub rises_parts : (s : Counts) (n k : ℕ) → holds s (parts n k) ≡ true → Rises s (after s (parts n k)) 0 k 0
+pub rises_parts : (s : Counts) (n k : ℕ) → holds s (parts n k) ≡ true → Rises s (counts_after s (parts n k)) 0 k 0
 rises_parts s n k h = record { axioms = omega arith; parts = refl; nodes = omega arith; within = parts_within s n k h }

@@ -7,7 +7,7 @@ use Rattle.ofn_tree.specs.declared.token.Kind.TheVariants.{OpenBracket, CloseBra
 use Rattle.ofn_tree.specs.Token.{PlainToken}
 use Rattle.ofn_tree.specs.Spans.{width}
 use Rattle.ofn_tree.specs.Lexemes as lexemes
-use Rattle.ofn_tree.specs.Lexemes.{is_space, is_iri_byte, is_name_byte, is_tag_byte, is_comment_byte, is_line_feed, line_behind, Lexeme, Cut, gap, wrong, cut_short, sign_at, string_at, quoted, tag_at, carets_at, iri_at, name_at, cut_at, Piece, whole, token_of, pieces_with, pieces_from}
+use Rattle.ofn_tree.specs.Lexemes.{is_whitespace, is_iri_byte, is_name_byte, is_tag_byte, is_comment_byte, is_line_feed, line_behind, Lexeme, Cut, gap, wrong, cut_short, sign_at, string_at, quoted, tag_at, carets_at, iri_at, name_at, cut_at, Piece, whole, token_of, pieces_with, pieces_from}
 use Rattle.ofn_writer.specs.Canonical.{iri_text, items_text, group_text, line}
 use Rattle.written_ontologies.proofs.Checks.{and_left, and_right, not_true, no_more, one_further}
 use Rattle.written_ontologies.proofs.Phrases.{Phrase, word, iri, call, Phrases, none, more, text_of, texts_of, is_name, can_stand, can_all_stand, token, tokens_of, all_tokens, lines_text, all_can_stand, lines_tokens}
@@ -80,7 +80,7 @@ name_no_feed b h = grind (arith, common_steps, h)
 iri_no_feed : (b : ℕ) → is_iri_byte b ≡ true → is_line_feed b ≡ false
 iri_no_feed b h = grind (arith, common_steps, h)
 
-name_no_space : (b : ℕ) → is_name_byte b ≡ true → is_space b ≡ false
+name_no_space : (b : ℕ) → is_name_byte b ≡ true → is_whitespace b ≡ false
 name_no_space b h = grind (arith, common_steps, h)
 
 name_other : (b k : ℕ) → is_name_byte b ≡ true → is_name_byte k ≡ false → nat_eq b k ≡ false

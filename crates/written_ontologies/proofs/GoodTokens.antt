@@ -10,9 +10,9 @@ use Rattle.ofn_tree.specs.declared.token.Kind.{Kind}
 use Rattle.ofn_tree.specs.declared.token.Kind.TheVariants.{OpenBracket, CloseBracket, Equals, Iri, String, Tag, Carets, Name}
 use Rattle.ofn_tree.specs.declared.fault.TextFault.{TextFault}
 use Rattle.ofn_tree.specs.Token.{PlainToken}
-use Rattle.ofn_tree.specs.Lexemes.{is_space, is_iri_byte, is_name_byte, is_tag_byte, is_comment_byte, line_behind, Lexeme, Cut, gap, wrong, unended, cut_short, sign_at, Quoted, closes, breaks, runs_on, longer, quoted, string_at, tag_at, carets_at, iri_at, name_at, cut_at, Piece, whole, faulty, end_pieces, token_of, pieces_with, pieces_from, utf8_front, byte_order_mark, mark_len, bad_byte_line, pieces}
+use Rattle.ofn_tree.specs.Lexemes.{is_whitespace, is_iri_byte, is_name_byte, is_tag_byte, is_comment_byte, line_behind, Lexeme, Cut, gap, wrong, unended, cut_short, sign_at, Quoted, closes, breaks, runs_on, longer, quoted, string_at, tag_at, carets_at, iri_at, name_at, cut_at, Piece, whole, faulty, end_pieces, token_of, pieces_with, pieces_from, utf8_front, byte_order_mark, mark_len, bad_byte_line, pieces}
 use Rattle.ofn_tree.specs.Lexemes as lexemes
-use Rattle.ofn_tree.specs.Document.{Met, Reading, is_last, met_after, nothing_met, with_token, document_front, document, reading}
+use Rattle.ofn_tree.specs.Document.{Met, DocumentTokens, is_last, met_after, nothing_met, with_token, document_front, document, reading}
 use Rattle.ofn_tree.specs.Items.{Item, name_item, iri_item, literal_item, sign_item, group_item, Items, no_items, item, items_of, Mark, opening, closing, single, mark_of, mark_at, is_head, unmarked, marks_from, written, written_all, IsTree}
 use Rattle.ofn_tree.proofs.Boundaries.{at_stop, behind_tag, behind_mark, space-low, name_stop-low, comment_stop-low}
 use Rattle.written_ontologies.proofs.Checks.{and_both, eq_true}
@@ -160,7 +160,7 @@ cut_good b bs utf8 =
     let close : Cut = cond (nat_eq b 41) (sign_at CloseBracket b) equals in
     let open_ : Cut = cond (nat_eq b 40) (sign_at OpenBracket b) close in
     let comment : Cut = cond (nat_eq b 35) (gap (prefix_len is_comment_byte bs)) open_ in
-    either good (gap 0) comment (is_space b) (λ h. behind_low b bs utf8 (space-low b h)) (λ _.
+    either good (gap 0) comment (is_whitespace b) (λ h. behind_low b bs utf8 (space-low b h)) (λ _.
     either good (gap (prefix_len is_comment_byte bs)) open_ (nat_eq b 35) (λ h. comment_cut b bs utf8) (λ _.
     either good (sign_at OpenBracket b) close (nat_eq b 40) (λ h. (tt, rest 40 (omega arith) h)) (λ _.
     either good (sign_at CloseBracket b) equals (nat_eq b 41) (λ h. (tt, rest 41 (omega arith) h)) (λ _.
@@ -213,11 +213,11 @@ behind_front front utf8 = either (λ n. IsUtf8 (drop n front)) 3 0 (starts_with 
 all_pieces_good : (text : List ℕ) → AreGoodPieces (pieces text)
 all_pieces_good text = pieces_good (bad_byte_line text) (mark_len (utf8_front text)) 0 1 (utf8_front text) (behind_front (utf8_front text) (front_utf8 text))
 
-abbrev IsGoodReading : Result Reading TextFault → Type 0
+abbrev IsGoodReading : Result DocumentTokens TextFault → Type 0
 IsGoodReading (Ok r) = AreGoodTokens r.tokens
 IsGoodReading (Err fault) = Unit {0}
 
-with_token_good : (t : PlainToken) (r : Result Reading TextFault) → IsGoodText t.kind t.text → IsGoodReading r → IsGoodReading (with_token t r)
+with_token_good : (t : PlainToken) (r : Result DocumentTokens TextFault) → IsGoodText t.kind t.text → IsGoodReading r → IsGoodReading (with_token t r)
 with_token_good t (Ok r) good rest = (good, rest)
 with_token_good t (Err fault) good rest = tt
 
@@ -229,11 +229,11 @@ front_good end m (whole t behind ∷ ps) good =
     (λ h. (good.0, tt))
     (λ h. with_token_good t (document_front end (met_after t.kind t.text m) ps) good.0 (front_good end (met_after t.kind t.text m) ps good.1))
 
-ok_good : (r : Result Reading TextFault) (x : Reading) → result_ok r ≡ Some x → IsGoodReading r → AreGoodTokens x.tokens
-ok_good (Ok y) x is good = let same : y ≡ x = cc in subst (λ (z : Reading). AreGoodTokens z.tokens) same good
+ok_good : (r : Result DocumentTokens TextFault) (x : DocumentTokens) → result_ok r ≡ Some x → IsGoodReading r → AreGoodTokens x.tokens
+ok_good (Ok y) x is good = let same : y ≡ x = cc in subst (λ (z : DocumentTokens). AreGoodTokens z.tokens) same good
 ok_good (Err fault) x is good = let clash : None ≡ Some x = is in absurd (cc clash)
 
-pub tokens_good : (text : List ℕ) (r : Reading) → reading text ≡ Some r → AreGoodTokens r.tokens
+pub tokens_good : (text : List ℕ) (r : DocumentTokens) → reading text ≡ Some r → AreGoodTokens r.tokens
 tokens_good text r is = ok_good (document text) r is (front_good (length text) nothing_met (pieces text) (all_pieces_good text))
 
 -- ---- marks and items

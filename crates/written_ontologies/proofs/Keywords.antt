@@ -8,7 +8,7 @@ use Rattle.ofn_expressions.specs.Counts.{Counts}
 use Rattle.ofn_expressions.specs.Walk.{Test, shape, numbered, parts, nodes}
 use Rattle.ofn_expressions.specs.Names.{Prefix}
 use Rattle.ofn_expressions.specs.Keywords.{class_keyword}
-use Rattle.ofn_expressions.specs.Classes.{item_count, joined, class_tests, each_class, role_tests, roles_tests, number_tests, declared_class_tests, declared_role_tests, concept_of, concepts_of, role_of, roles_of, number_of}
+use Rattle.ofn_expressions.specs.Classes.{item_count, joined, class_tests, each_class, role_tests, roles_tests, number_tests, declared_class_tests, declared_role_tests, concept_of, concepts_of, role_of, roles_of, cardinality_of}
 use Rattle.ofn_reader.specs.Keywords.{axiom_keyword, entity_keyword}
 use Rattle.ofn_reader.specs.Groups.{without_annotations}
 use Rattle.ofn_reader.specs.Axioms.{pair_count, role_and_class_tests, name_and_class_tests, axiom_tests, axiom_in, numbered_at, sub_class_made, union_made, sub_role_made, domain_made, range_made, functional_made, transitive_made}
@@ -78,15 +78,15 @@ module _ (ps : List Prefix) (line : ℕ) (k r i : Item) where
   unfolding class_keyword
   exact_tests = refl
 
-  pub least_value : (s : Counts) → concept_of ps s (group (codes "ObjectMinCardinality") (item k (item r (item i no_items))) line) ≡ at_least (number_of k) (role_of ps s r) (concept_of ps s i)
+  pub least_value : (s : Counts) → concept_of ps s (group (codes "ObjectMinCardinality") (item k (item r (item i no_items))) line) ≡ at_least (cardinality_of k) (role_of ps s r) (concept_of ps s i)
   unfolding class_keyword
   least_value s = refl
 
-  pub most_value : (s : Counts) → concept_of ps s (group (codes "ObjectMaxCardinality") (item k (item r (item i no_items))) line) ≡ at_most (number_of k) (role_of ps s r) (concept_of ps s i)
+  pub most_value : (s : Counts) → concept_of ps s (group (codes "ObjectMaxCardinality") (item k (item r (item i no_items))) line) ≡ at_most (cardinality_of k) (role_of ps s r) (concept_of ps s i)
   unfolding class_keyword
   most_value s = refl
 
-  pub exact_value : (s : Counts) → concept_of ps s (group (codes "ObjectExactCardinality") (item k (item r (item i no_items))) line) ≡ exactly (number_of k) (role_of ps s r) (concept_of ps s i)
+  pub exact_value : (s : Counts) → concept_of ps s (group (codes "ObjectExactCardinality") (item k (item r (item i no_items))) line) ≡ exactly (cardinality_of k) (role_of ps s r) (concept_of ps s i)
   unfolding class_keyword
   exact_value s = refl
 

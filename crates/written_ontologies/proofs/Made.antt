@@ -8,7 +8,7 @@ use Rattle.ofn_tree.specs.Token.{PlainToken}
 use Rattle.ofn_tree.specs.Lexemes.{Piece}
 use Rattle.ofn_tree.specs.Items.{Mark, opening, closing, begins_with_open, mark_at, marks_from, marks, written, written_all, nesting, nesting_all}
 use Rattle.ofn_tree.specs.Faults.{fault_or, bracket_fault}
-use Rattle.ofn_tree.specs.Document.{Met, Reading, is_document_name, met_after, with_token, document_front}
+use Rattle.ofn_tree.specs.Document.{Met, DocumentTokens, is_document_name, met_after, with_token, document_front}
 use Rattle.ofn_writer.specs.Canonical.{items_text}
 use Rattle.written_ontologies.proofs.Checks.{lt_true}
 use Rattle.written_ontologies.proofs.Phrases.{Phrase, word, iri, call, Phrases, none, more, text_of, texts_of, item_of, all_items, token, tokens_of, all_tokens, lines_items, lines_tokens}
@@ -119,11 +119,11 @@ fault_lines end d n place (p ∷ ps) rest deep =
 abbrev pub inside : ℕ → Met → Met
 inside d m = record { depth = d; document = true; latest = m.latest }
 
-abbrev pub with_tokens : List PlainToken → Result Reading TextFault → Result Reading TextFault
+abbrev pub with_tokens : List PlainToken → Result DocumentTokens TextFault → Result DocumentTokens TextFault
 with_tokens [] r = r
 with_tokens (t ∷ ts) r = with_token t (with_tokens ts r)
 
-with_both : (ts us : List PlainToken) (r : Result Reading TextFault) → with_tokens ts (with_tokens us r) ≡ with_tokens (ts ++ us) r
+with_both : (ts us : List PlainToken) (r : Result DocumentTokens TextFault) → with_tokens ts (with_tokens us r) ≡ with_tokens (ts ++ us) r
 with_both [] us r = refl
 with_both (t ∷ ts) us r = ap (with_token t) (with_both ts us r)
 

@@ -14,7 +14,7 @@ use Rattle.shq_terms.specs.declared.axioms.Numbered.{Numbered}
 use Rattle.ofn_tree.specs.declared.token.Kind.TheVariants.{OpenBracket, CloseBracket, Name}
 use Rattle.ofn_tree.specs.Token.{PlainToken}
 use Rattle.ofn_tree.specs.Lexemes.{whole, end_line, bad_byte_line, utf8_front, front_pieces, pieces}
-use Rattle.ofn_tree.specs.Document.{Met, Reading, nothing_met, met_after, with_token, document_front, document}
+use Rattle.ofn_tree.specs.Document.{Met, DocumentTokens, nothing_met, met_after, with_token, document_front, document}
 use Rattle.ofn_tree.specs.Items.{Item, group_item, Items, item, Mark, opening, closing, written_all, nesting_all, IsTree}
 use Rattle.ofn_tree.specs.Faults.{bracket_fault}
 use Rattle.ofn_expressions.specs.Counts.{Counts}
@@ -103,7 +103,7 @@ module _ (ps : List Phrase) (stands : all_can_stand ps ≡ true) (utf8 : IsUtf8 
   with_ok [] us behind = refl
   with_ok (t ∷ ts) us behind = ap (with_token t) (with_ok ts us behind)
 
-  abbrev read_tokens : Reading
+  abbrev read_tokens : DocumentTokens
   read_tokens = record { tokens = document_tokens ps; place_behind = place + 1 }
 
   begun : Met

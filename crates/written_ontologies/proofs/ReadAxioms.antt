@@ -10,7 +10,7 @@ use Rattle.shq_terms.specs.declared.axioms.Axiom.TheVariants.{SubClassOf, Equiva
 use Rattle.shq_terms.specs.declared.axioms.Numbered.{Numbered}
 use Rattle.ofn_tree.specs.Items.{Item, name_item, iri_item, literal_item, sign_item, group_item, Items, no_items, item, nesting, nesting_all}
 use Rattle.ofn_expressions.specs.Counts.{Counts}
-use Rattle.ofn_expressions.specs.Walk.{Test, shape, numbered, parts, after, walked}
+use Rattle.ofn_expressions.specs.Walk.{Test, shape, numbered, parts, counts_after, walked}
 use Rattle.ofn_expressions.specs.Names.{Prefix, item_line, iri_of}
 use Rattle.ofn_expressions.specs.Constructs.{excluded_role_name}
 use Rattle.ofn_expressions.specs.Classes.{item_count, is_thing, is_nothing, listed_class, unless_excluded, class_name_tests, role_tests, roles_tests, joined, each_class, class_named, role_of, roles_of, concept_of, concepts_of, Keeps}
@@ -106,12 +106,12 @@ module _ (ps : List Prefix) (prefixes : AreGoodPrefixes ps) (f : Counts) where
   begins : (s new : Counts) (n : ℕ) (enough : Bool) (k : ℕ) (ts : List Test) → walked s (axiom_group_tests n enough k ts) ≡ Ok new → Begins s new n enough k ts
   begins s new n enough k ts h =
       let count = held s (numbered n) (shape n enough ∷ (parts n k ∷ ts)) new h in
-      let one : Counts = after s (numbered n) in
+      let one : Counts = counts_after s (numbered n) in
       let form = held one (shape n enough) (parts n k ∷ ts) new count.later in
       let more = held one (parts n k) ts new form.later in
       record {
-        mid = after one (parts n k);
-        rises = rises_as s (after one (parts n k)) (1 + 0) (0 + k) (0 + 0) 1 k 0 refl (omega arith) refl (rises_both s one (after one (parts n k)) 1 0 0 0 k 0 (rises_numbered s n count.now) (rises_parts one n k more.now));
+        mid = counts_after one (parts n k);
+        rises = rises_as s (counts_after one (parts n k)) (1 + 0) (0 + k) (0 + 0) 1 k 0 refl (omega arith) refl (rises_both s one (counts_after one (parts n k)) 1 0 0 0 k 0 (rises_numbered s n count.now) (rises_parts one n k more.now));
         fits = form.now;
         later = more.later;
       }

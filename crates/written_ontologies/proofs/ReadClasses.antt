@@ -10,12 +10,12 @@ use Rattle.shq_terms.specs.Uses.{uses_listed, parts_use_listed}
 use Rattle.ofn_tree.specs.Lexemes.{is_iri_byte}
 use Rattle.ofn_tree.specs.Items.{Item, name_item, iri_item, literal_item, sign_item, group_item, Items, no_items, item, nesting, nesting_all}
 use Rattle.ofn_expressions.specs.Counts.{Counts}
-use Rattle.ofn_expressions.specs.Walk.{Test, shape, prefix, outside, nodes, class, role, number, after, walked}
+use Rattle.ofn_expressions.specs.Walk.{Test, shape, prefix, outside, nodes, class, role, number, counts_after, walked}
 use Rattle.ofn_expressions.specs.Names.{Prefix, item_line, has_colon, prefix_part, prefix_iri, name_tests, iri_of}
 use Rattle.ofn_expressions.specs.Constructs.{excluded_role, excluded_role_name}
 use Rattle.ofn_expressions.specs.Keywords.{class_keyword}
 use Rattle.ofn_expressions.specs.Classes as classes
-use Rattle.ofn_expressions.specs.Classes.{item_count, is_thing, is_nothing, listed_class, class_name_tests, listed_role, role_name_tests, role_group_tests, role_tests, roles_tests, number_in, number_tests_of, number_tests, joined, class_tests, each_class, place, or_zero, class_named, role_named, role_of, roles_of, concept_of, concepts_of, Keeps}
+use Rattle.ofn_expressions.specs.Classes.{item_count, is_thing, is_nothing, listed_class, class_name_tests, listed_role, role_name_tests, role_group_tests, role_tests, roles_tests, cardinality_in, number_tests_of, number_tests, joined, class_tests, each_class, place, or_zero, class_named, role_named, role_of, roles_of, concept_of, concepts_of, Keeps}
 use Rattle.ofn_expressions.specs.declared.construct.Construct.{Construct}
 use Rattle.ofn_expressions.proofs.Kept.{place_listed, place_within}
 use Rattle.written_ontologies.specs.Writable.{is_iri, is_class_iri, is_role_iri, is_whole, are_whole, brackets, most_brackets, expressions, all_expressions, is_named}
@@ -54,7 +54,7 @@ module _ (ps : List Prefix) (prefixes : AreGoodPrefixes ps) (f : Counts) where
   role_by w n s new good (Some c) is h keeps = absurd (never s new (outside n c) [] refl h)
   role_by w n s new good None is h keeps =
       let test = held s (role n w) [] new h in
-      let there : after s (role n w) ≡ new = nothing_held (after s (role n w)) new test.later in
+      let there : counts_after s (role n w) ≡ new = nothing_held (counts_after s (role n w)) new test.later in
       let is_role : is_role_iri w ≡ true = and_both (is_iri w) (is_none (excluded_role_name w)) (good_is_iri w good) (ap is_none is) in
       record {
         rises = subst (λ t. Rises s t 0 0 0) there (rises_role s n w test.now is_role);
@@ -104,8 +104,8 @@ module _ (ps : List Prefix) (prefixes : AreGoodPrefixes ps) (f : Counts) where
   number_by (Some k) n s new ts h = let test = held s (number n k) ts new h in (true_le k 100 test.now, test.later)
   number_by None n s new ts h = absurd (never s new (shape n false) ts refl h)
 
-  number_read : (i : Item) (s new : Counts) (ts : List Test) → walked s (number_tests i ++ ts) ≡ Ok new → (classes.number_of i ≤ 100) × (walked s ts ≡ Ok new)
-  number_read (name_item w n) s new ts h = number_by (number_in w) n s new ts h
+  number_read : (i : Item) (s new : Counts) (ts : List Test) → walked s (number_tests i ++ ts) ≡ Ok new → (classes.cardinality_of i ≤ 100) × (walked s ts ≡ Ok new)
+  number_read (name_item w n) s new ts h = number_by (cardinality_in w) n s new ts h
   number_read (iri_item w n) s new ts h = absurd (never s new (shape n false) ts refl h)
   number_read (literal_item n) s new ts h = absurd (never s new (shape n false) ts refl h)
   number_read (sign_item k n) s new ts h = absurd (never s new (shape n false) ts refl h)
@@ -144,10 +144,10 @@ module _ (ps : List Prefix) (prefixes : AreGoodPrefixes ps) (f : Counts) where
   listed_by w n s new good false true thing nothing h keeps = (subst (λ t. Rises s t 0 0 0) (nothing_held s new h) (rises_not s), refl)
   listed_by w n s new good false false thing nothing h keeps =
       let test = held s (class n w) [] new h in
-      let there : after s (class n w) ≡ new = nothing_held (after s (class n w)) new test.later in
+      let there : counts_after s (class n w) ≡ new = nothing_held (counts_after s (class n w)) new test.later in
       let named : (not (is_thing w) && not (is_nothing w)) ≡ true = λ i. not (thing i) && not (nothing i) in
       let is_class : is_class_iri w ≡ true = and_both (is_iri w) (not (is_thing w) && not (is_nothing w)) (good_is_iri w good) named in
-      let kept : Keeps (after s (class n w)) f = subst (λ t. Keeps t f) (sym there) keeps in
+      let kept : Keeps (counts_after s (class n w)) f = subst (λ t. Keeps t f) (sym there) keeps in
       let found : place w f.classes ≡ Some (number_of s.classes w) = kept.classes w (number_of s.classes w) (place_listed w s.classes) in (
         subst (λ t. Rises s t 0 0 0) there (rises_class s n w test.now is_class),
         ap (λ r. nat_lt (or_zero r) (length f.classes)) found ∙ place_within w f.classes (number_of s.classes w) found,
@@ -176,7 +176,7 @@ module _ (ps : List Prefix) (prefixes : AreGoodPrefixes ps) (f : Counts) where
       let n : ℕ = item_line i in
       let named = names_pass i s new (nodes n 1 ∷ listed_class n w) h in
       let count = held s (nodes n 1) (listed_class n w) new named in
-      let mid : Counts = after s (nodes n 1) in
+      let mid : Counts = counts_after s (nodes n 1) in
       let told = listed_by w n mid new (iri_good ps i prefixes good) (is_thing w) (is_nothing w) refl refl count.later keeps in
       let one = alone_by w in
       record {
@@ -225,14 +225,14 @@ module _ (ps : List Prefix) (prefixes : AreGoodPrefixes ps) (f : Counts) where
 
   -- the head of a group holds
   record Opens (s new : Counts) (n k : ℕ) (enough : Bool) (ts : List Test) : Type 0 where
-    rises : Rises s (after s (nodes n k)) 0 0 k
+    rises : Rises s (counts_after s (nodes n k)) 0 0 k
     fits : enough ≡ true
-    later : walked (after s (nodes n k)) ts ≡ Ok new
+    later : walked (counts_after s (nodes n k)) ts ≡ Ok new
 
   opens : (s new : Counts) (n k : ℕ) (enough : Bool) (ts : List Test) → walked s (nodes n k ∷ (shape n enough ∷ ts)) ≡ Ok new → Opens s new n k enough ts
   opens s new n k enough ts h =
       let count = held s (nodes n k) (shape n enough ∷ ts) new h in
-      let form = held (after s (nodes n k)) (shape n enough) ts new count.later in
+      let form = held (counts_after s (nodes n k)) (shape n enough) ts new count.later in
       record { rises = rises_nodes s n k count.now; fits = form.now; later = form.later }
 
   -- a group with this word is read
@@ -244,7 +244,7 @@ module _ (ps : List Prefix) (prefixes : AreGoodPrefixes ps) (f : Counts) where
       → IsRead s new (con (concepts_of ps f is)) (nesting_all is + 1)
   many_read con lists wholes counts nests n is reads s new h keeps =
       let cs : Parts = concepts_of ps f is in
-      let mid : Counts = after s (nodes n 1) in
+      let mid : Counts = counts_after s (nodes n 1) in
       let o = opens s new n 1 (nat_le 2 (item_count is)) (joined (each_class ps is)) h in
       let inner = parts_read is reads mid new o.later keeps in
       let many : nat_le 2 (length (part_list cs)) ≡ true = ap (nat_le 2) (count_read is) ∙ o.fits in
@@ -283,7 +283,7 @@ module _ (ps : List Prefix) (prefixes : AreGoodPrefixes ps) (f : Counts) where
 
   complement_read : GroupReads (codes "ObjectComplementOf")
   complement_read n is good reads s new h keeps =
-      let mid : Counts = after s (nodes n 1) in
+      let mid : Counts = counts_after s (nodes n 1) in
       let o = opens s new n 1 (nat_eq (item_count is) 1) (joined (each_class ps is)) (ap (walked s) (sym (complement_tests n is)) ∙ h) in
       let inner = filler_read is (eq_true (item_count is) 1 o.fits) reads mid new o.later keeps in
       let c : Concept = classes.first (concepts_of ps f is) in
@@ -297,7 +297,7 @@ module _ (ps : List Prefix) (prefixes : AreGoodPrefixes ps) (f : Counts) where
   valued_read con lists wholes counts nests n r is good reads s new h keeps =
       let c : Concept = classes.first (concepts_of ps f is) in
       let k : ℕ = role_of ps f r in
-      let mid : Counts = after s (nodes n 1) in
+      let mid : Counts = counts_after s (nodes n 1) in
       let o = opens s new n 1 (nat_eq (item_count is + 1) 2) (role_tests ps r ++ joined (each_class ps is)) h in
       let b = both mid (role_tests ps r) (joined (each_class ps is)) new o.later in
       let count : item_count is + 1 ≡ 2 = eq_true (item_count is + 1) 2 o.fits in
@@ -376,13 +376,13 @@ module _ (ps : List Prefix) (prefixes : AreGoodPrefixes ps) (f : Counts) where
 
   bounded_read : (con : ℕ → ℕ → Concept → Concept) → ((k r : ℕ) (c : Concept) → listed (con k r c) ≡ (nat_lt r (length f.roles) && listed c)) → ((k r : ℕ) (c : Concept) → is_whole (con k r c) ≡ (nat_le k 100 && is_whole c))
       → ((k r : ℕ) (c : Concept) → expressions (con k r c) ≡ 1 + expressions c) → ((k r : ℕ) (c : Concept) → brackets (con k r c) ≡ brackets c + 1) → (n : ℕ) (k r : Item) (is : Items) → IsGoodItem r → AllRead is → (s new : Counts)
-      → walked s (bound_tests n k r is) ≡ Ok new → Keeps new f → IsRead s new (con (classes.number_of k) (role_of ps f r) (classes.first (concepts_of ps f is))) (max (nesting k) (max (nesting r) (nesting_all is)) + 1)
+      → walked s (bound_tests n k r is) ≡ Ok new → Keeps new f → IsRead s new (con (classes.cardinality_of k) (role_of ps f r) (classes.first (concepts_of ps f is))) (max (nesting k) (max (nesting r) (nesting_all is)) + 1)
   bounded_read con lists wholes counts nests n k r is good reads s new h keeps =
       let c : Concept = classes.first (concepts_of ps f is) in
-      let m : ℕ = classes.number_of k in
+      let m : ℕ = classes.cardinality_of k in
       let role : ℕ = role_of ps f r in
       let head : ℕ = cond (nat_eq (item_count is + 1 + 1) 2) 2 1 in
-      let mid : Counts = after s (nodes n head) in
+      let mid : Counts = counts_after s (nodes n head) in
       let o = opens s new n head (nat_eq (item_count is + 1 + 1) 2 || nat_eq (item_count is + 1 + 1) 3) (number_tests k ++ (role_tests ps r ++ joined (each_class ps is))) h in
       let number = number_read k mid new (role_tests ps r ++ joined (each_class ps is)) o.later in
       let b = both mid (role_tests ps r) (joined (each_class ps is)) new number.1 in
@@ -411,7 +411,7 @@ module _ (ps : List Prefix) (prefixes : AreGoodPrefixes ps) (f : Counts) where
   unfolding class_keyword
   least_tests n k r is = refl
 
-  least_value : (n : ℕ) (k r : Item) (is : Items) → concept_of ps f (group_item (Some (codes "ObjectMinCardinality")) (item k (item r is)) n) ≡ at_least (classes.number_of k) (role_of ps f r) (classes.first (concepts_of ps f is))
+  least_value : (n : ℕ) (k r : Item) (is : Items) → concept_of ps f (group_item (Some (codes "ObjectMinCardinality")) (item k (item r is)) n) ≡ at_least (classes.cardinality_of k) (role_of ps f r) (classes.first (concepts_of ps f is))
   unfolding class_keyword
   least_value n k r is = refl
 
@@ -419,7 +419,7 @@ module _ (ps : List Prefix) (prefixes : AreGoodPrefixes ps) (f : Counts) where
   least_read n no_items good reads s new h keeps = absurd (few_items s new n 1 [] (ap (walked s) (sym (least_none n)) ∙ h))
   least_read n (item k no_items) good reads s new h keeps = absurd (few_items s new n 1 (joined (each_class ps (item k no_items))) (ap (walked s) (sym (least_one n k)) ∙ h))
   least_read n (item k (item r is)) good reads s new h keeps =
-      read_as s new (at_least (classes.number_of k) (role_of ps f r) (classes.first (concepts_of ps f is))) (concept_of ps f (group_item (Some (codes "ObjectMinCardinality")) (item k (item r is)) n)) (max (nesting k) (max (nesting r) (nesting_all is)) + 1) (least_value n k r is)
+      read_as s new (at_least (classes.cardinality_of k) (role_of ps f r) (classes.first (concepts_of ps f is))) (concept_of ps f (group_item (Some (codes "ObjectMinCardinality")) (item k (item r is)) n)) (max (nesting k) (max (nesting r) (nesting_all is)) + 1) (least_value n k r is)
       (bounded_read at_least (λ m j c. refl) (λ m j c. refl) (λ m j c. refl) (λ m j c. refl) n k r is good.1.0 reads.1.1 s new (ap (walked s) (sym (least_tests n k r is)) ∙ h) keeps)
 
   most_none : (n : ℕ) → class_tests ps (group_item (Some (codes "ObjectMaxCardinality")) no_items n) ≡ nodes n 1 ∷ (shape n false ∷ [])
@@ -434,7 +434,7 @@ module _ (ps : List Prefix) (prefixes : AreGoodPrefixes ps) (f : Counts) where
   unfolding class_keyword
   most_tests n k r is = refl
 
-  most_value : (n : ℕ) (k r : Item) (is : Items) → concept_of ps f (group_item (Some (codes "ObjectMaxCardinality")) (item k (item r is)) n) ≡ at_most (classes.number_of k) (role_of ps f r) (classes.first (concepts_of ps f is))
+  most_value : (n : ℕ) (k r : Item) (is : Items) → concept_of ps f (group_item (Some (codes "ObjectMaxCardinality")) (item k (item r is)) n) ≡ at_most (classes.cardinality_of k) (role_of ps f r) (classes.first (concepts_of ps f is))
   unfolding class_keyword
   most_value n k r is = refl
 
@@ -442,7 +442,7 @@ module _ (ps : List Prefix) (prefixes : AreGoodPrefixes ps) (f : Counts) where
   most_read n no_items good reads s new h keeps = absurd (few_items s new n 1 [] (ap (walked s) (sym (most_none n)) ∙ h))
   most_read n (item k no_items) good reads s new h keeps = absurd (few_items s new n 1 (joined (each_class ps (item k no_items))) (ap (walked s) (sym (most_one n k)) ∙ h))
   most_read n (item k (item r is)) good reads s new h keeps =
-      read_as s new (at_most (classes.number_of k) (role_of ps f r) (classes.first (concepts_of ps f is))) (concept_of ps f (group_item (Some (codes "ObjectMaxCardinality")) (item k (item r is)) n)) (max (nesting k) (max (nesting r) (nesting_all is)) + 1) (most_value n k r is)
+      read_as s new (at_most (classes.cardinality_of k) (role_of ps f r) (classes.first (concepts_of ps f is))) (concept_of ps f (group_item (Some (codes "ObjectMaxCardinality")) (item k (item r is)) n)) (max (nesting k) (max (nesting r) (nesting_all is)) + 1) (most_value n k r is)
       (bounded_read at_most (λ m j c. refl) (λ m j c. refl) (λ m j c. refl) (λ m j c. refl) n k r is good.1.0 reads.1.1 s new (ap (walked s) (sym (most_tests n k r is)) ∙ h) keeps)
 
   exact_none : (n : ℕ) → class_tests ps (group_item (Some (codes "ObjectExactCardinality")) no_items n) ≡ nodes n 1 ∷ (shape n false ∷ [])
@@ -457,7 +457,7 @@ module _ (ps : List Prefix) (prefixes : AreGoodPrefixes ps) (f : Counts) where
   unfolding class_keyword
   exact_tests n k r is = refl
 
-  exact_value : (n : ℕ) (k r : Item) (is : Items) → concept_of ps f (group_item (Some (codes "ObjectExactCardinality")) (item k (item r is)) n) ≡ exactly (classes.number_of k) (role_of ps f r) (classes.first (concepts_of ps f is))
+  exact_value : (n : ℕ) (k r : Item) (is : Items) → concept_of ps f (group_item (Some (codes "ObjectExactCardinality")) (item k (item r is)) n) ≡ exactly (classes.cardinality_of k) (role_of ps f r) (classes.first (concepts_of ps f is))
   unfolding class_keyword
   exact_value n k r is = refl
 
@@ -465,7 +465,7 @@ module _ (ps : List Prefix) (prefixes : AreGoodPrefixes ps) (f : Counts) where
   exact_read n no_items good reads s new h keeps = absurd (few_items s new n 1 [] (ap (walked s) (sym (exact_none n)) ∙ h))
   exact_read n (item k no_items) good reads s new h keeps = absurd (few_items s new n 1 (joined (each_class ps (item k no_items))) (ap (walked s) (sym (exact_one n k)) ∙ h))
   exact_read n (item k (item r is)) good reads s new h keeps =
-      read_as s new (exactly (classes.number_of k) (role_of ps f r) (classes.first (concepts_of ps f is))) (concept_of ps f (group_item (Some (codes "ObjectExactCardinality")) (item k (item r is)) n)) (max (nesting k) (max (nesting r) (nesting_all is)) + 1) (exact_value n k r is)
+      read_as s new (exactly (classes.cardinality_of k) (role_of ps f r) (classes.first (concepts_of ps f is))) (concept_of ps f (group_item (Some (codes "ObjectExactCardinality")) (item k (item r is)) n)) (max (nesting k) (max (nesting r) (nesting_all is)) + 1) (exact_value n k r is)
       (bounded_read exactly (λ m j c. refl) (λ m j c. refl) (λ m j c. refl) (λ m j c. refl) n k r is good.1.0 reads.1.1 s new (ap (walked s) (sym (exact_tests n k r is)) ∙ h) keeps)
 
   other_read : (w : List ℕ) → NoClass w → GroupReads w

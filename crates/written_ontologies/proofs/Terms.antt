@@ -16,7 +16,7 @@ use Rattle.shq_terms.specs.declared.axioms.Axiom.TheVariants.{SubClassOf, Equiva
 use Rattle.ofn_tree.specs.Lexemes.{is_iri_byte, is_name_byte}
 use Rattle.ofn_tree.specs.Items.{nesting, nesting_all}
 use Rattle.ofn_expressions.specs.Constructs.{excluded_role_name}
-use Rattle.ofn_expressions.specs.Classes.{is_digit, number_in, is_thing, is_nothing}
+use Rattle.ofn_expressions.specs.Classes.{is_digit, cardinality_in, is_thing, is_nothing}
 use Rattle.ofn_writer.specs.Canonical.{group_text, concept_text, part_texts, role_text, role_texts, axiom_text}
 use Rattle.written_ontologies.specs.Writable.{is_iri, is_class_iri, is_role_iri, is_whole, are_whole, brackets, most_brackets, is_named, has_whole_items, axiom_brackets, expressions}
 use Rattle.written_ontologies.proofs.Checks.{and_left, and_right, and_both, true_lt, true_le}
@@ -216,11 +216,11 @@ decimal_name n few = let numeral = decimal_is_IsNumeral n (omega arith) in name_
 pub decimal_text : (n : ℕ) → n ≤ 100 → IsUtf8 (decimal n)
 decimal_text n few = IsUtf8-from_ascii (decimal n) (IsAscii-decimal n (omega arith))
 
-number_of_digits : (ds : List ℕ) (n : ℕ) → 0 < length ds → list_all is_digit ds ≡ true → digits_value 10 ds ≡ n → number_in ds ≡ Some n
+number_of_digits : (ds : List ℕ) (n : ℕ) → 0 < length ds → list_all is_digit ds ≡ true → digits_value 10 ds ≡ n → cardinality_in ds ≡ Some n
 number_of_digits [] n some all value = absurd (omega (arith, some))
 number_of_digits (d ∷ ds) n some all value = ap (λ v. cond v (Some (digits_value 10 (d ∷ ds))) None) all ∙ ap Some value
 
-pub decimal_number : (n : ℕ) → n ≤ 100 → number_in (decimal n) ≡ Some n
+pub decimal_number : (n : ℕ) → n ≤ 100 → cardinality_in (decimal n) ≡ Some n
 decimal_number n few =
     let numeral = decimal_is_IsNumeral n (omega arith) in
     number_of_digits (decimal n) n numeral.0.0 (digits_pass (decimal n) numeral.0.1).0 numeral.1

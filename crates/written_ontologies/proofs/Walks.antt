@@ -8,7 +8,7 @@ use Rattle.shq_terms.specs.Names.{with_at, with_name}
 use Rattle.shq_terms.specs.Uses.{uses_listed, parts_use_listed}
 use Rattle.ofn_tree.specs.Items.{name_item, Items}
 use Rattle.ofn_expressions.specs.Counts.{Counts}
-use Rattle.ofn_expressions.specs.Walk.{Test, shape, prefix, nodes, class, role, number, holds, refusal, after, walked}
+use Rattle.ofn_expressions.specs.Walk.{Test, shape, prefix, nodes, class, role, number, holds, refusal, counts_after, walked}
 use Rattle.ofn_expressions.specs.Names.{predeclared}
 use Rattle.ofn_expressions.specs.Constructs.{excluded_role_name}
 use Rattle.ofn_expressions.specs.Classes.{item_count, is_thing, is_nothing, listed_class, listed_role, role_tests, roles_tests, number_tests, number_tests_of, joined, class_tests, each_class, class_name_tests, place}
@@ -20,8 +20,8 @@ use Rattle.written_ontologies.proofs.Terms.{class_phrase, role_phrase, concept_p
 use Rattle.written_ontologies.proofs.Keywords.{group_tests, intersection_tests, union_tests, complement_tests, some_tests, all_tests, least_tests, most_tests, exact_tests}
 
 -- a test that holds, and then the others
-pub step : (s : Counts) (t : Test) (ts : List Test) → holds s t ≡ true → walked s (t ∷ ts) ≡ walked (after s t) ts
-step s t ts h = walked-cons s t ts ∙ ap (λ b. cond b (walked (after s t) ts) (Err (refusal t))) h
+pub step : (s : Counts) (t : Test) (ts : List Test) → holds s t ≡ true → walked s (t ∷ ts) ≡ walked (counts_after s t) ts
+step s t ts h = walked-cons s t ts ∙ ap (λ b. cond b (walked (counts_after s t) ts) (Err (refusal t))) h
 
 pub alone : (s mid : Counts) (ts : List Test) → walked s ts ≡ Ok mid → walked s (ts ++ []) ≡ Ok mid
 alone s mid ts h = goes_on s mid ts [] h

@@ -6,7 +6,7 @@ use Rattle.ofn_expressions.specs.Classes.{class_tests, each_class}
 use Rattle.ofn_expressions.proofs.Growing.{grows_grows}
 use Rattle.ofn_expressions.proofs.Groups.{group_stops, group_goes}
 use Rattle.ofn_expressions.proofs.Lists.{nesting_at, tests_step, tests_stop, value_step, value_done, classes_tests, classes_cons}
-use Rattle.ofn_expressions.specs.Classes.{number_of, role_of, concept_of, concepts_of, first, quantified, bounded, IsListed}
+use Rattle.ofn_expressions.specs.Classes.{cardinality_of, role_of, concept_of, concepts_of, first, quantified, bounded, IsListed}
 use Rattle.ofn_expressions.proofs.Operands.{restriction_means, cardinality_means, cardinality_value}
 use Rattle.ofn_expressions.proofs.classes.+classes.Goals as goal
 
@@ -45,8 +45,8 @@ read_restriction-returns-clause-value t c = λ later keeps.
 
 pub read_cardinality-returns-clause-value : goal.read_cardinality-returns-clause-value
 read_cardinality-returns-clause-value t c = λ later keeps.
-    subst (λ d. (bounded c.args.bound (number_of c.args.number.now) (role_of c.args.prefixes.now later c.args.role.now) (first (concepts_of c.args.prefixes.now later (items_of c.args.filler.now))) ≡ d) × IsListed later d) (sym c.cardinality.ensures)
-    (cardinality_means c.args.prefixes.now c.args.bound (number_of c.args.number.now) c.in_ok-number.number c.args.role.now c.args.filler.now c.read_role.new.state.counts c.read_filler.new.state.counts c.in_ok-role.role c.in_ok-filler.filler.value c.in_ok-number.ensures.value c.in_ok-role.ensures.value c.in_ok-filler.ensures.tests c.in_ok-filler.ensures.value later keeps)
+    subst (λ d. (bounded c.args.bound (cardinality_of c.args.number.now) (role_of c.args.prefixes.now later c.args.role.now) (first (concepts_of c.args.prefixes.now later (items_of c.args.filler.now))) ≡ d) × IsListed later d) (sym c.cardinality.ensures)
+    (cardinality_means c.args.prefixes.now c.args.bound (cardinality_of c.args.number.now) c.in_ok-number.number c.args.role.now c.args.filler.now c.read_role.new.state.counts c.read_filler.new.state.counts c.in_ok-role.role c.in_ok-filler.filler.value c.in_ok-number.ensures.value c.in_ok-role.ensures.value c.in_ok-filler.ensures.tests c.in_ok-filler.ensures.value later keeps)
 
 pub read_operands-returns-in-Cardinality-clause-value : goal.read_operands-returns-in-Cardinality-clause-value
 read_operands-returns-in-Cardinality-clause-value t c =

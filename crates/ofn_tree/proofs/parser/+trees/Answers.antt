@@ -4,7 +4,7 @@ use Rattle.ofn_tree.specs.Parsed.{begins_with_head}
 use Rattle.ofn_tree.specs.Items.{begins_with_open}
 use Rattle.ofn_tree.specs.Form.{head_text}
 use Rattle.ofn_tree.specs.Faults.{bracket_fault}
-use Rattle.ofn_tree.proofs.Trees.{from, no_token, tokens-past, too_deep, enter-at, unclosed, group-at, IsItems-append, unnamed-at, named-at, single-at, head-fault, head-opens, opens-inside, opens-at, closes-at, IsFaultOf-before}
+use Rattle.ofn_tree.proofs.Trees.{from, no_token, tokens-past, too_deep, enter-at, unclosed, group-at, IsItems-append, unnamed-at, named-at, single-at, head-fault, head-opens, opens-inside, opens-at, closes-at, TellsFault-before}
 use Rattle.ofn_tree.proofs.parser.+trees.Goals as goal
 
 pub group-returns-then-depth-eq-MAX_OPEN-clause-fault : goal.group-returns-then-depth-eq-MAX_OPEN-clause-fault
@@ -15,7 +15,7 @@ pub group-returns-in_err-inner-clause-fault : goal.group-returns-in_err-inner-cl
 group-returns-in_err-inner-clause-fault t c =
     let room : c.args.depth < 64 = omega arith in
     let p = err_from_is_err_and c.from_residual.result c.from_residual.ensures.1 in
-    rw (p.1, p.2) (IsFaultOf-before (bracket_fault c.args.end_line (c.args.depth + 1) (from c.args.tokens.now (c.args.place + 1))) (bracket_fault c.args.end_line c.args.depth (from c.args.tokens.now c.args.place)) c.in_err-inner.field-0.0
+    rw (p.1, p.2) (TellsFault-before (bracket_fault c.args.end_line (c.args.depth + 1) (from c.args.tokens.now (c.args.place + 1))) (bracket_fault c.args.end_line c.args.depth (from c.args.tokens.now c.args.place)) c.in_err-inner.field-0.0
     (enter-at c.args.end_line c.args.depth c.args.tokens.now c.args.place c.requires.place c.requires.begins room) c.in_err-inner.ensures.fault)
 
 pub group-returns-then-end-tokens-clause-fault : goal.group-returns-then-end-tokens-clause-fault
@@ -55,7 +55,7 @@ one-returns-then-heads_group_at-clause-read t c =
 
 pub one-returns-then-heads_group_at-clause-fault : goal.one-returns-then-heads_group_at-clause-fault
 one-returns-then-heads_group_at-clause-fault t c =
-    IfErr-weaker c.group-then-heads_group_at.result _ _ (λ e h. IsFaultOf-before (bracket_fault c.args.end_line c.args.depth (from c.args.tokens.now (c.args.start + 1))) (bracket_fault c.args.end_line c.args.depth (from c.args.tokens.now c.args.start)) e
+    IfErr-weaker c.group-then-heads_group_at.result _ _ (λ e h. TellsFault-before (bracket_fault c.args.end_line c.args.depth (from c.args.tokens.now (c.args.start + 1))) (bracket_fault c.args.end_line c.args.depth (from c.args.tokens.now c.args.start)) e
     (head-fault c.args.end_line c.args.depth c.args.tokens.now c.args.start no_token c.requires.start (sym c.heads_group_at.ensures ∙ c.if-heads_group_at.true)) h) c.group-then-heads_group_at.ensures.fault
 
 pub one-single-requires-clause-open : goal.one-single-requires-clause-open
