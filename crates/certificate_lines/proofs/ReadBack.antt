@@ -5,7 +5,7 @@ use Rattle.std.specs.Char.{is_ascii_digit}
 use Rattle.std.specs.List.{list_all, All, slice_split}
 use Rattle.std.specs.Str.Lines.{strip_carriage_return}
 use Rattle.std.specs.Str.Parse.{digits_value}
-use Rattle.std.proofs.lemmas.Bool.{and_parts}
+use Rattle.std.proofs.lemmas.Bool.{and_parts, not-true, or_right}
 use Rattle.std.proofs.lemmas.Bool.Decides.{nat_tests}
 use Rattle.std.proofs.lemmas.List.{append-nil, take-append-le, take_all, get_or_push}
 use Rattle.std.proofs.lemmas.List.Sums.{AllPass-from_list_all}
@@ -15,12 +15,8 @@ use Rattle.certificate_lines.specs.Lines.{is_numeral, number_in, is_bracketed, i
 use Rattle.certificate_lines.specs.Written.{line_of, text_of, is_word, is_line}
 use Rattle.certificate_lines.proofs.Digits.{own, digits_all}
 
-not_true : (b : Bool) → not b ≡ true → b ≡ false
-not_true true h = let clash : false ≡ true = h in absurd (cc clash)
-not_true false h = refl
-
 none_passes : (p : ℕ → Bool) (xs : List ℕ) → list_all (λ b. not (p b)) xs ≡ true → All (λ x. p x ≡ false) xs
-none_passes p xs h = λ k d less. not_true (p (get_or xs k d)) (AllPass-from_list_all (λ b. not (p b)) xs h k d less)
+none_passes p xs h = λ k d less. not-true (p (get_or xs k d)) (AllPass-from_list_all (λ b. not (p b)) xs h k d less)
 
 -- ---- words
 
@@ -35,7 +31,7 @@ words_read w (v ∷ vs) h =
 -- ---- lines
 
 whole : (l : List ℕ) → not (nat_eq (slice_index l (length l - 1)) 13) ≡ true → strip_carriage_return l ≡ l
-whole l h = ap (λ b. if b then take (length l - 1) l else l) (not_true (nat_eq (slice_index l (length l - 1)) 13) h)
+whole l h = ap (λ b. if b then take (length l - 1) l else l) (not-true (nat_eq (slice_index l (length l - 1)) 13) h)
 
 pub lines_read : (ls : List (List ℕ)) → list_all is_line ls ≡ true → map strip_carriage_return (slice_split (λ b. nat_eq b 10) (text_of ls)) ≡ ls ++ [] ∷ []
 lines_read [] h = refl
@@ -61,11 +57,7 @@ leads : (w : List ℕ) → (w ≡ 48 ∷ []) ⊎ (48 < get_or w 0 0) → (nat_eq
 leads w (inl zero_alone) = rw zero_alone
 leads w (inr more) =
     let other : nat_eq (slice_index w 0) 48 ≡ false = grind (arith, nat_tests) in
-    rw other (or_true (nat_eq (length w) 1))
-  where
-    or_true : (b : Bool) → (b || true) ≡ true
-    or_true true = refl
-    or_true false = refl
+    or_right (nat_eq (length w) 1) (not (nat_eq (slice_index w 0) 48)) (ap not other)
 
 zero_or_more : (n : ℕ) → n < 2 ^ 64 → (decimal n ≡ 48 ∷ []) ⊎ (48 < get_or (decimal n) 0 0)
 zero_or_more n big = by n big

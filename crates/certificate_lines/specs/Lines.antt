@@ -4,6 +4,11 @@ use Rattle.std.specs.List.{list_all, slice_split}
 use Rattle.std.specs.Char.{is_ascii_digit}
 use Rattle.std.specs.Str.Lines.{strip_carriage_return}
 use Rattle.std.specs.Str.Parse.{digits_value}
+use denote.Ref.{Bor}
+
+-- the bytes of borrowed lines or words
+abbrev pub bytes_of : List (Bor (List ℕ)) → List (List ℕ)
+bytes_of ls = map (λ l. l.now) ls
 
 -- The text is cut at line feeds. A carriage return at the end of a line does not belong to it.
 abbrev pub lines : List ℕ → List (List ℕ)

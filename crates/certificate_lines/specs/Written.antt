@@ -3,13 +3,21 @@ use Rattle.std.specs.Prelude.{◌≡◌, ℕ, ◌-◌, ◌^◌, ◌<◌, Bool, n
 use Rattle.std.specs.List.{list_all, flat_map}
 use Rattle.certificate_lines.specs.Lines.{lines, words, number_in, iri_in}
 
+-- words with a blank before each
+abbrev pub spaced : List (List ℕ) → List ℕ
+spaced ws = flat_map (λ w. 32 ∷ w) ws
+
 -- words with a blank between them
 abbrev pub line_of : List ℕ → List (List ℕ) → List ℕ
-line_of word more = word ++ flat_map (λ w. 32 ∷ w) more
+line_of word more = word ++ spaced more
 
--- lines with a line feed behind each
+-- a line with its line feed
+abbrev pub fed : List ℕ → List ℕ
+fed line = line ++ 10 ∷ []
+
+-- lines with a line feed after each
 abbrev pub text_of : List (List ℕ) → List ℕ
-text_of ls = flat_map (λ l. l ++ 10 ∷ []) ls
+text_of ls = flat_map fed ls
 
 -- there is no blank in it
 abbrev pub is_word : List ℕ → Bool
@@ -22,7 +30,7 @@ is_line line = list_all (λ b. not (nat_eq b 10)) line && not (nat_eq (slice_ind
 abbrev pub WordsAreReadBack : Type 0
 WordsAreReadBack = (word : List ℕ) (more : List (List ℕ)) → IsTrue (list_all is_word (word ∷ more)) → words (line_of word more) ≡ word ∷ more
 
--- behind the last line feed there is an empty line more
+-- after the last line feed there is an empty line more
 abbrev pub LinesAreReadBack : Type 0
 LinesAreReadBack = (ls : List (List ℕ)) → IsTrue (list_all is_line ls) → lines (text_of ls) ≡ ls ++ [] ∷ []
 

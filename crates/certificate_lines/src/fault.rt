@@ -1,8 +1,7 @@
 // Where lines stop being the text that they are read as.
-ghost use Rattle.std.specs.Prelude.{◌≡◌, ◌+◌, ◌<◌, ◌^◌, map, length, true, false, MatchOption};
-ghost use Rattle.std.specs.List.{list_all};
-ghost use Rattle.certificate_lines.specs.Lines.{is_blank};
-ghost use Rattle.certificate_lines.specs.Malformed.{first_unblank, clamped_line};
+ghost use Rattle.std.specs.Prelude.{◌≡◌, ◌+◌, ◌<◌, ◌^◌, length};
+ghost use Rattle.certificate_lines.specs.Lines.{bytes_of};
+ghost use Rattle.certificate_lines.specs.Malformed.{first_unblank, TellsBlank, clamped_line};
 
 use crate::is_blank;
 use shq_base::NoMemory;
@@ -62,8 +61,8 @@ pub fn clamped_line(number: usize) -> u32
 /// The number of the first line that is not blank, where the first of all has the number that is given.
 pub fn first_unblank(lines: &[&[u8]], number: usize) -> Option<usize>
     requires { number + length lines.now < 2 ^ 62 }
-    ensures first { result ≡ first_unblank number (map (λ l. l.now) lines.now) }
-    ensures blank { MatchOption result (list_all is_blank (map (λ l. l.now) lines.now) ≡ true) (λ _. list_all is_blank (map (λ l. l.now) lines.now) ≡ false) }
+    ensures first { result ≡ first_unblank number (bytes_of lines.now) }
+    ensures blank { TellsBlank (bytes_of lines.now) result }
 {
     for index in 0..lines.len() {
         if !is_blank(lines[index]) {

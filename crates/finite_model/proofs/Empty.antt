@@ -6,12 +6,9 @@ use Rattle.shq_meaning.specs.Below.{all_below, count_below}
 use Rattle.shq_terms.specs.declared.axioms.Query.{Query}
 use Rattle.shq_base.specs.Concept.{Concept, some_of, at_least, exactly, parts_of}
 use Rattle.shq_meaning.specs.Truth.{Interpretation, holds, hold_any, implies, same, none_twice, refutes_at, out_degree, successors}
+use Rattle.std.proofs.lemmas.Bool.{or_parts}
 use Rattle.std.proofs.lemmas.Bool.Decides.{nat_tests}
 use Rattle.finite_model.specs.ModelLists.{ModelLists, meaning, begins, is_from, is_link}
-
-or_parts : (a b : Bool) → (a || b) ≡ false → (a ≡ false) × (b ≡ false)
-or_parts true b h = let clash : true ≡ false = h in absurd (cc clash)
-or_parts false b h = (refl, h)
 
 pub no_link : (r x : ℕ) (ls : List (ℕ × ℕ × ℕ)) → list_any (is_from r x) ls ≡ false → (y : ℕ) → list_any (is_link r x y) ls ≡ false
 no_link r x [] none y = refl

@@ -7,27 +7,24 @@ use Rattle.std.specs.BTreeSet.{insert_key}
 use Rattle.std.specs.declared.cmp.Ordering.{Ordering}
 use Rattle.std.specs.declared.cmp.Ordering.TheVariants.{Less, Equal, Greater}
 use Rattle.std.specs.Ordering.{match_ordering}
-use Rattle.std.proofs.lemmas.Bool.{and_parts}
+use Rattle.std.proofs.lemmas.Bool.{and_parts, and_from}
 use Rattle.std.proofs.lemmas.Bool.Decides.{nat_tests}
 use Rattle.shq_terms.specs.Listed.{Listed}
-use Rattle.finite_model.specs.Written.{is_listed}
+use Rattle.finite_model.specs.Written.{uses_listed_names}
 use Rattle.finite_model.specs.ReadBack.{IsKept}
 use Rattle.finite_model.specs.ModelLists.{ModelLists, IsDomain, member_cmp, link_cmp, tuple_cmp, members_below, links_below}
 
-both : (a b : Bool) → a ≡ true → b ≡ true → (a && b) ≡ true
-both a b f g = rw (f, g)
-
 module _ {T : Type 0} (cmp : T → T → Ordering) (p : T → Bool) where
   all_inserted : (ts : List T) (u : T) → list_all p ts ≡ true → p u ≡ true → list_all p (insert_key cmp ts u) ≡ true
-  all_inserted [] u all here = both (p u) true here refl
+  all_inserted [] u all here = and_from (p u) true here refl
   all_inserted (t ∷ ts) u all here =
       let parts = and_parts (p t) (list_all p ts) all in
       by (cmp u t) parts.0 parts.1 (all_inserted ts u parts.1 here)
     where
       by : (o : Ordering) → p t ≡ true → list_all p ts ≡ true → list_all p (insert_key cmp ts u) ≡ true → list_all p (match_ordering o (u ∷ t ∷ ts) (t ∷ ts) (t ∷ insert_key cmp ts u)) ≡ true
-      by Less first rest more = both (p u) (p t && list_all p ts) here (both (p t) (list_all p ts) first rest)
-      by Equal first rest more = both (p t) (list_all p ts) first rest
-      by Greater first rest more = both (p t) (list_all p (insert_key cmp ts u)) first more
+      by Less first rest more = and_from (p u) (p t && list_all p ts) here (and_from (p t) (list_all p ts) first rest)
+      by Equal first rest more = and_from (p t) (list_all p ts) first rest
+      by Greater first rest more = and_from (p t) (list_all p (insert_key cmp ts u)) first more
 
 pub member_put : (size a x : ℕ) (ms : List (ℕ × ℕ)) (ls : List (ℕ × ℕ × ℕ)) → IsDomain size ms ls → x < size → IsDomain size (insert_key member_cmp ms (a, x)) ls
 member_put size a x ms ls inside below =
@@ -38,10 +35,10 @@ pub link_put : (size r x y : ℕ) (ms : List (ℕ × ℕ)) (ls : List (ℕ × �
 link_put size r x y ms ls inside from to =
     let is_from : nat_lt x size ≡ true = grind (arith, nat_tests) in
     let is_to : nat_lt y size ≡ true = grind (arith, nat_tests) in
-    record { some = inside.some; members_inside = inside.members_inside; links_inside = all_inserted tuple_cmp (λ l. nat_lt l.1 size && nat_lt l.2 size) ls (r, x, y) inside.links_inside (both (nat_lt x size) (nat_lt y size) is_from is_to) }
+    record { some = inside.some; members_inside = inside.members_inside; links_inside = all_inserted tuple_cmp (λ l. nat_lt l.1 size && nat_lt l.2 size) ls (r, x, y) inside.links_inside (and_from (nat_lt x size) (nat_lt y size) is_from is_to) }
 
 -- what is kept of an interpretation whose classes and roles are listed
-pub is_kept : (o : Listed) (k : ModelLists) → IsTrue (is_listed o k) → IsDomain k.size k.members k.links → k.size < 2 ^ 32 → IsStrictlySortedBy member_cmp k.members → IsStrictlySortedBy link_cmp k.links → IsKept o k
+pub is_kept : (o : Listed) (k : ModelLists) → IsTrue (uses_listed_names o k) → IsDomain k.size k.members k.links → k.size < 2 ^ 32 → IsStrictlySortedBy member_cmp k.members → IsStrictlySortedBy link_cmp k.links → IsKept o k
 is_kept o k listed inside small members links = record {
   some = inside.some;
   small = small;

@@ -7,6 +7,7 @@ pub mod First
 pub mod Skipped
 pub mod Empty
 pub mod Nexts
+pub mod AtElement
 pub mod Candidates
 pub mod Groups
 pub mod Inside

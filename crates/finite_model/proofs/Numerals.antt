@@ -9,16 +9,12 @@ use Rattle.std.proofs.lemmas.Bool.{and_parts}
 use Rattle.std.proofs.lemmas.Bool.Decides.{nat_tests}
 use Rattle.std.proofs.lemmas.List.{take-append-le, take_all}
 use Rattle.std.proofs.Math.Seq.{drop-append-add}
-use Rattle.std.proofs.lemmas.Fmt.{digits_decimal}
-use Rattle.certificate_lines.proofs.Digits.{own, digits_all}
+use Rattle.certificate_lines.proofs.Plain.{all_weaker, digits}
 use Rattle.certificate_lines.proofs.ReadBack.{number_read}
 use Rattle.finite_model.specs.ModelLists.{member_cmp, link_cmp}
 use Rattle.finite_model.specs.ModelText.{element_in, elements_from, pair_at, pair_in, is_at_least, pair_from, pairs_from}
 use Rattle.finite_model.specs.Written.{elements_of, pairs_of}
 use Rattle.finite_model.specs.declared.reading.Pair.{Pair}
-
-pub digits : (n : ℕ) → n < 2 ^ 32 → list_all is_ascii_digit (decimal n) ≡ true
-digits n small = digits_all (decimal n) ∙ digits_decimal own n (omega arith)
 
 -- ---- one element
 
@@ -61,8 +57,7 @@ digit_no_comma : (b : ℕ) → is_ascii_digit b ≡ true → not (nat_eq 44 b) �
 digit_no_comma b h = grind (arith, nat_tests)
 
 no_comma : (bs : List ℕ) → list_all is_ascii_digit bs ≡ true → list_all (λ b. not (nat_eq 44 b)) bs ≡ true
-no_comma [] h = refl
-no_comma (b ∷ bs) h = let parts = and_parts (is_ascii_digit b) (list_all is_ascii_digit bs) h in rw (digit_no_comma b parts.0, no_comma bs parts.1)
+no_comma bs h = all_weaker is_ascii_digit (λ b. not (nat_eq 44 b)) digit_no_comma bs h
 
 -- `X,Y`
 abbrev pub pair_word : ℕ × ℕ × ℕ → List ℕ

@@ -2,6 +2,7 @@
 use Rattle.std.proofs.Common.{◌≡◌, ℕ, zero, suc, ◌+◌, Bool, true, false, ◌&&◌, ◌||◌, cond, List, [], ◌∷◌, refl, ap, subst, sym, ◌∙◌, inl, inr, arith}
 use Rattle.std.specs.Prelude.{nat_eq, nat_le, if◌then◌else◌}
 use Rattle.std.proofs.lemmas.Bool.{cases_eq}
+use Rattle.std.proofs.Math.Bool.{and-true}
 use Rattle.std.specs.List.{filter, list_all, list_any}
 use Rattle.std.specs.declared.ops.Bound.TheVariants.{Included, Excluded}
 use Rattle.std.specs.BTreeMap.Range.{range_contains}
@@ -20,7 +21,7 @@ between r x l = grind (arith, nat_tests)
 pub row_between : (r x : ℕ) (ls : List (ℕ × ℕ × ℕ)) → row_of r x ls ≡ filter (is_from r x) ls
 row_between r x ls = ap (λ (p : ℕ × ℕ × ℕ → Bool). filter p ls) (λ i l. between r x l i)
 
-all_true : (n : ℕ) → all_below n (λ y. true) ≡ true
+pub all_true : (n : ℕ) → all_below n (λ y. true) ≡ true
 all_true zero = refl
 all_true (suc n) = ap (λ v. v && true) (all_true n)
 
@@ -30,7 +31,7 @@ shuffle true true false d = refl
 shuffle true false false d = refl
 shuffle false b c d = refl
 
-all_both : (n : ℕ) (p q : ℕ → Bool) → all_below n (λ y. p y && q y) ≡ (all_below n p && all_below n q)
+pub all_both : (n : ℕ) (p q : ℕ → Bool) → all_below n (λ y. p y && q y) ≡ (all_below n p && all_below n q)
 all_both zero p q = refl
 all_both (suc n) p q = ap (λ v. v && (p n && q n)) (all_both n p q) ∙ shuffle (all_below n p) (all_below n q) (p n) (q n)
 
@@ -57,15 +58,11 @@ last n z q = elim (cases_eq z n) [
     at_end : z ≡ n → ((nat_le n z || q z) && implies (nat_eq z n) (q n)) ≡ (nat_le (suc n) z || q z)
     at_end same = subst (λ k. ((nat_le k z || q z) && implies (nat_eq z k) (q k)) ≡ (nat_le (suc k) z || q z)) same (here z)
 
-    true_last : (a : Bool) → (a && true) ≡ a
-    true_last true = refl
-    true_last false = refl
-
     before : ¬ (z ≡ n) → ((nat_le n z || q z) && implies (nat_eq z n) (q n)) ≡ (nat_le (suc n) z || q z)
     before other =
         let differs : nat_eq z n ≡ false = grind (arith, nat_tests) in
         let same : nat_le n z ≡ nat_le (suc n) z = grind (arith, nat_tests) in
-        rw (differs, same) (true_last (nat_le (suc n) z || q z))
+        rw (differs, same) (and-true (nat_le (suc n) z || q z))
 
 one : (n z : ℕ) (q : ℕ → Bool) → all_below n (λ y. implies (nat_eq z y) (q y)) ≡ (nat_le n z || q z)
 one zero z q = let least : nat_le 0 z ≡ true = grind (arith, nat_tests) in rw least

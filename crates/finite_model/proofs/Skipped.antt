@@ -34,7 +34,7 @@ module _ (p q : ℕ → Bool) (empty : (k : ℕ) → p k ≡ false → q k ≡ t
   all_before size from x next = all_skipped q from x next.reached (λ k low high. empty k (next.passed_over.fails k low high))
 
   pub all_passed : (size from x after : ℕ) → all_below from q ≡ true → IsNextAt size from p x → q x ≡ true → after ≡ x + 1 → all_below after q ≡ true
-  all_passed size from x after so_far next here behind =
+  all_passed size from x after so_far next here later =
       let before : all_below x q ≡ true = all_before size from x next ∙ so_far in
       let next_is : after ≡ suc x = omega arith in
       rw (next_is, before, here)
@@ -50,7 +50,7 @@ all_failed q size x below fails = sym (all_below-false size q x below fails)
 
 module _ (p q : ℕ → Bool) (empty : (k : ℕ) → p k ≡ false → q k ≡ false) where
   pub count_stepped : (size from x after count more : ℕ) → count ≡ count_below from q → IsNextAt size from p x → more ≡ cond (q x) 1 0 → after ≡ x + 1 → count + more ≡ count_below after q
-  count_stepped size from x after count more so_far next here behind =
+  count_stepped size from x after count more so_far next here later =
       let before : count_below x q ≡ count = count_skipped q from x next.reached (λ k low high. empty k (next.passed_over.fails k low high)) ∙ sym so_far in
       let next_is : after ≡ suc x = omega arith in
       rw (next_is, before, here)

@@ -4,21 +4,23 @@ use Rattle.std.specs.Prelude.{nat_eq, nat_lt, codes, decimal, slice_get, option_
 use Rattle.std.specs.List.{filter, list_all, list_any}
 use Rattle.std.specs.List.Sorted.{IsStrictlySortedBy}
 use Rattle.std.specs.declared.cmp.Ordering.TheVariants.{Less, Greater}
-use Rattle.std.proofs.lemmas.Bool.{and_parts}
+use Rattle.std.proofs.lemmas.Bool.{and_parts, and_from}
 use Rattle.std.proofs.lemmas.Bool.Decides.{nat_tests}
 use Rattle.certificate_lines.specs.Lines.{lines, words}
+use Rattle.certificate_lines.specs.Names.{is_word_byte, AreNames}
 use Rattle.certificate_lines.specs.Written.{is_line}
-use Rattle.certificate_lines.proofs.ReadBack.{words_read, lines_read, number_read}
+use Rattle.certificate_lines.proofs.ReadBack.{lines_read, number_read}
+use Rattle.certificate_lines.proofs.Plain.{plain_words, plain_line, plain_decimal, lines_both}
 use Rattle.shq_terms.specs.Listed.{Listed}
 use Rattle.finite_model.specs.ModelLists.{ModelLists, member_cmp, link_cmp}
-use Rattle.finite_model.specs.ModelText.{with_elements, with_pairs, body_from, size_line, empty_body, model_of}
+use Rattle.finite_model.specs.ModelText.{with_elements, with_pairs, model_body, size_line, empty_body, model_of}
 use Rattle.finite_model.specs.Written.{elements_of, pairs_of, model_text}
-use Rattle.finite_model.specs.ReadBack.{is_plain, AreNames, IsKept}
+use Rattle.finite_model.specs.ReadBack.{IsKept}
 use Rattle.finite_model.specs.declared.reading.Pair.{Pair}
 use Rattle.finite_model.proofs.Groups.{insert_each, insert_each-append, inserted_each, groups, all_groups}
 use Rattle.finite_model.proofs.Numerals.{pair_word, pair_of, Ascend, PairsAscend, elements_ascend, at_least_none, pairs_ascend, pair_at_least_none}
-use Rattle.finite_model.proofs.TextLines.{class_row, role_row, rows_of_class, rows_of_role, class_rows, role_rows, size_row, model_rows, model_text_same, words_of_plain, line_of_plain, plain_decimal, lines_both}
-use Rattle.finite_model.proofs.TextRead.{both, plain_decimals, plain_pairs, row_is_line, StandAt, with_classes, with_roles, classes_read, roles_read}
+use Rattle.finite_model.proofs.TextLines.{class_row, role_row, rows_of_class, rows_of_role, class_rows, role_rows, size_row, model_rows, model_text_same}
+use Rattle.finite_model.proofs.TextRead.{plain_decimals, plain_pairs, row_is_line, StandAt, with_classes, with_roles, classes_read, roles_read}
 
 -- ---- what is put in is what is kept
 
@@ -77,37 +79,37 @@ link_rises l m h = grind (arith, nat_tests)
 
 -- ---- each line is a line
 
-class_rows_lines : (size : ℕ) → size < 2 ^ 32 → (ms : List (ℕ × ℕ)) → IsStrictlySortedBy member_cmp ms → list_all (λ m. nat_lt m.1 size) ms ≡ true → (ns : List (List ℕ)) (a : ℕ) → list_all (list_all is_plain) ns ≡ true → list_all is_line (class_rows a ns ms) ≡ true
+class_rows_lines : (size : ℕ) → size < 2 ^ 32 → (ms : List (ℕ × ℕ)) → IsStrictlySortedBy member_cmp ms → list_all (λ m. nat_lt m.1 size) ms ≡ true → (ns : List (List ℕ)) (a : ℕ) → list_all (list_all is_word_byte) ns ≡ true → list_all is_line (class_rows a ns ms) ≡ true
 class_rows_lines size small ms sorted below [] a plain = refl
 class_rows_lines size small ms sorted below (n ∷ ns) a plain =
-    let parts = and_parts (list_all is_plain n) (list_all (list_all is_plain) ns) plain in
+    let parts = and_parts (list_all is_word_byte n) (list_all (list_all is_word_byte) ns) plain in
     lines_both (rows_of_class n (elements_of a ms)) (class_rows (a + 1) ns ms) (by parts.0 (elements_of a ms) (elements_ascend a 0 size ms sorted (at_least_none a ms) below)) (class_rows_lines size small ms sorted below ns (a + 1) parts.1)
   where
-    by : list_all is_plain n ≡ true → (xs : List ℕ) → Ascend 0 size xs → list_all is_line (rows_of_class n xs) ≡ true
+    by : list_all is_word_byte n ≡ true → (xs : List ℕ) → Ascend 0 size xs → list_all is_line (rows_of_class n xs) ≡ true
     by name [] up = refl
-    by name (x ∷ xs) up = both (is_line (class_row n (x ∷ xs))) true (row_is_line (codes "class") n (map decimal (x ∷ xs)) refl name (plain_decimals 0 size (x ∷ xs) small up)) refl
+    by name (x ∷ xs) up = and_from (is_line (class_row n (x ∷ xs))) true (row_is_line (codes "class") n (map decimal (x ∷ xs)) refl name (plain_decimals 0 size (x ∷ xs) small up)) refl
 
-role_rows_lines : (size : ℕ) → size < 2 ^ 32 → (ls : List (ℕ × ℕ × ℕ)) → IsStrictlySortedBy link_cmp ls → list_all (λ l. nat_lt l.1 size && nat_lt l.2 size) ls ≡ true → (ns : List (List ℕ)) (r : ℕ) → list_all (list_all is_plain) ns ≡ true → list_all is_line (role_rows r ns ls) ≡ true
+role_rows_lines : (size : ℕ) → size < 2 ^ 32 → (ls : List (ℕ × ℕ × ℕ)) → IsStrictlySortedBy link_cmp ls → list_all (λ l. nat_lt l.1 size && nat_lt l.2 size) ls ≡ true → (ns : List (List ℕ)) (r : ℕ) → list_all (list_all is_word_byte) ns ≡ true → list_all is_line (role_rows r ns ls) ≡ true
 role_rows_lines size small ls sorted below [] r plain = refl
 role_rows_lines size small ls sorted below (n ∷ ns) r plain =
-    let parts = and_parts (list_all is_plain n) (list_all (list_all is_plain) ns) plain in
+    let parts = and_parts (list_all is_word_byte n) (list_all (list_all is_word_byte) ns) plain in
     lines_both (rows_of_role n (pairs_of r ls)) (role_rows (r + 1) ns ls) (by parts.0 (pairs_of r ls) (pairs_ascend r (record { from = 0; to = 0 }) size ls sorted (pair_at_least_none r ls) below)) (role_rows_lines size small ls sorted below ns (r + 1) parts.1)
   where
-    by : list_all is_plain n ≡ true → (ps : List (ℕ × ℕ × ℕ)) → PairsAscend (record { from = 0; to = 0 }) size ps → list_all is_line (rows_of_role n ps) ≡ true
+    by : list_all is_word_byte n ≡ true → (ps : List (ℕ × ℕ × ℕ)) → PairsAscend (record { from = 0; to = 0 }) size ps → list_all is_line (rows_of_role n ps) ≡ true
     by name [] up = refl
-    by name (p ∷ ps) up = both (is_line (role_row n (p ∷ ps))) true (row_is_line (codes "role") n (map pair_word (p ∷ ps)) refl name (plain_pairs (record { from = 0; to = 0 }) size (p ∷ ps) small up)) refl
+    by name (p ∷ ps) up = and_from (is_line (role_row n (p ∷ ps))) true (row_is_line (codes "role") n (map pair_word (p ∷ ps)) refl name (plain_pairs (record { from = 0; to = 0 }) size (p ∷ ps) small up)) refl
 
-size_plain : (n : ℕ) → n < 2 ^ 32 → list_all (list_all is_plain) (codes "model" ∷ decimal n ∷ []) ≡ true
-size_plain n small = both (list_all is_plain (codes "model")) (list_all (list_all is_plain) (decimal n ∷ [])) refl (both (list_all is_plain (decimal n)) true (plain_decimal n small) refl)
+size_plain : (n : ℕ) → n < 2 ^ 32 → list_all (list_all is_word_byte) (codes "model" ∷ decimal n ∷ []) ≡ true
+size_plain n small = and_from (list_all is_word_byte (codes "model")) (list_all (list_all is_word_byte) (decimal n ∷ [])) refl (and_from (list_all is_word_byte (decimal n)) true (plain_decimal n small) refl)
 
 module _ (o : Listed) (k : ModelLists) (classes : AreNames o.classes) (roles : AreNames o.roles) (kept : IsKept o k) where
   all_lines : list_all is_line (model_rows o k) ≡ true
   all_lines =
-      let first = line_of_plain (codes "model") (decimal k.size ∷ []) (size_plain k.size kept.small) in
+      let first = plain_line (codes "model") (decimal k.size ∷ []) (size_plain k.size kept.small) in
       let cs = class_rows_lines k.size kept.small k.members kept.members_ascend kept.members_inside o.classes 0 classes.plain in
       let rs = role_rows_lines k.size kept.small k.links kept.links_ascend kept.links_inside o.roles 0 roles.plain in
       lines_both ((size_row k.size ∷ class_rows 0 o.classes k.members) ++ role_rows 0 o.roles k.links) (codes "end" ∷ [])
-      (lines_both (size_row k.size ∷ class_rows 0 o.classes k.members) (role_rows 0 o.roles k.links) (both (is_line (size_row k.size)) (list_all is_line (class_rows 0 o.classes k.members)) first cs) rs) refl
+      (lines_both (size_row k.size ∷ class_rows 0 o.classes k.members) (role_rows 0 o.roles k.links) (and_from (is_line (size_row k.size)) (list_all is_line (class_rows 0 o.classes k.members)) first cs) rs) refl
 
   text_lines : lines (model_text o k) ≡ model_rows o k ++ [] ∷ []
   text_lines = ap lines (model_text_same o k) ∙ lines_read (model_rows o k) all_lines
@@ -116,7 +118,7 @@ module _ (o : Listed) (k : ModelLists) (classes : AreNames o.classes) (roles : A
   size_read =
       let some = kept.some in
       let more : nat_eq k.size 0 ≡ false = grind (arith, nat_tests) in
-      ap size_line (words_read (codes "model") (decimal k.size ∷ []) (words_of_plain (codes "model" ∷ decimal k.size ∷ []) (size_plain k.size kept.small)))
+      ap size_line (plain_words (codes "model") (decimal k.size ∷ []) (size_plain k.size kept.small))
       ∙ ap (option_and_then (λ x. if nat_eq x 0 then None else Some x)) (number_read k.size kept.small)
       ∙ ap (λ b. if b then None else Some k.size) more
 
@@ -156,8 +158,8 @@ module _ (o : Listed) (k : ModelLists) (classes : AreNames o.classes) (roles : A
       let whole : second.0.model ≡ k = second.2 ∙ ap (with_roles 0 o.roles k.links) model ∙ links_in in
       let together : cs ++ rs ++ codes "end" ∷ [] ++ [] ∷ [] ≡ cs ++ (rs ++ last) = append_assoc (cs ++ rs) (codes "end" ∷ []) ([] ∷ []) ∙ append_assoc cs rs last in
       ap (model_of o) text_lines
-      ∙ ap (option_and_then (λ n. body_from o (empty_body n) (cs ++ rs ++ codes "end" ∷ [] ++ [] ∷ []))) size_read
-      ∙ ap (body_from o empty) together
+      ∙ ap (option_and_then (λ n. model_body o (empty_body n) (cs ++ rs ++ codes "end" ∷ [] ++ [] ∷ []))) size_read
+      ∙ ap (model_body o empty) together
       ∙ first.reads
       ∙ second.1
       ∙ ap Some whole

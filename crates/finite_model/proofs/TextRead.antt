@@ -8,53 +8,52 @@ use Rattle.std.specs.BTreeSet.{insert_key}
 use Rattle.std.specs.declared.cmp.Ordering.{Ordering}
 use Rattle.std.specs.declared.cmp.Ordering.TheVariants.{Less, Equal, Greater}
 use Rattle.std.specs.Ordering.{nat_cmp, match_ordering}
-use Rattle.std.proofs.lemmas.Bool.{and_parts}
+use Rattle.std.proofs.lemmas.Bool.{and_parts, and_from, or_parts, false_from_ne_true}
 use Rattle.std.proofs.lemmas.Bool.Decides.{nat_tests}
 use Rattle.std.proofs.lemmas.Slice.Eq.{bytes_eq-Decides}
-use Rattle.certificate_lines.specs.Lines.{words, is_blank}
+use Rattle.certificate_lines.specs.Lines.{words}
+use Rattle.certificate_lines.specs.Names.{is_word_byte, name_word}
+use Rattle.certificate_lines.specs.Body.{is_end_line}
 use Rattle.certificate_lines.specs.Written.{line_of, is_line}
-use Rattle.certificate_lines.proofs.ReadBack.{words_read, iri_read}
+use Rattle.certificate_lines.proofs.ReadBack.{iri_read}
+use Rattle.certificate_lines.proofs.Plain.{plain_words, plain_line, plain_decimal, plain_name}
+use Rattle.certificate_lines.proofs.Body.{body_line}
 use Rattle.shq_terms.specs.Listed.{Listed}
 use Rattle.shq_terms.specs.Distinct.{AreDistinct}
 use Rattle.shq_terms.proofs.Distinct.{place_is_number}
 use Rattle.finite_model.specs.ModelLists.{ModelLists, member_cmp, link_cmp}
-use Rattle.finite_model.specs.ModelText.{elements_from, pairs_from, named_in, class_line, role_line, with_elements, with_pairs, Body, with_class, with_role, words_read as read_words, line_read, is_end, body_from}
+use Rattle.finite_model.specs.ModelText.{elements_from, pairs_from, subject_in, class_line_in, role_line_in, with_elements, with_pairs, Body, with_class, with_role, model_words_read, model_line_read, model_body}
 use Rattle.finite_model.specs.Written.{elements_of, pairs_of}
-use Rattle.finite_model.specs.ReadBack.{is_plain}
 use Rattle.finite_model.specs.declared.reading.Pair.{Pair}
-use Rattle.finite_model.proofs.First.{unless_true}
 use Rattle.finite_model.proofs.Numerals.{pair_word, pair_of, Ascend, PairsAscend, elements_read, pairs_read, elements_ascend, at_least_none, pairs_ascend, pair_at_least_none}
-use Rattle.finite_model.proofs.TextLines.{iri, class_row, role_row, rows_of_class, rows_of_role, class_rows, role_rows, words_of_plain, line_of_plain, plain_decimal, plain_iri, plain_pair}
-
-pub both : (a b : Bool) → a ≡ true → b ≡ true → (a && b) ≡ true
-both a b f g = rw (f, g)
+use Rattle.finite_model.proofs.TextLines.{class_row, role_row, rows_of_class, rows_of_role, class_rows, role_rows, plain_pair}
 
 -- ---- plain rows
 
-pub plain_decimals : (low size : ℕ) (xs : List ℕ) → size < 2 ^ 32 → Ascend low size xs → list_all (list_all is_plain) (map decimal xs) ≡ true
+pub plain_decimals : (low size : ℕ) (xs : List ℕ) → size < 2 ^ 32 → Ascend low size xs → list_all (list_all is_word_byte) (map decimal xs) ≡ true
 plain_decimals low size [] small up = refl
-plain_decimals low size (x ∷ xs) small up = both (list_all is_plain (decimal x)) (list_all (list_all is_plain) (map decimal xs)) (plain_decimal x (omega (arith, up.1))) (plain_decimals (x + 1) size xs small up.2)
+plain_decimals low size (x ∷ xs) small up = and_from (list_all is_word_byte (decimal x)) (list_all (list_all is_word_byte) (map decimal xs)) (plain_decimal x (omega (arith, up.1))) (plain_decimals (x + 1) size xs small up.2)
 
-pub plain_pairs : (low : Pair) (size : ℕ) (ls : List (ℕ × ℕ × ℕ)) → size < 2 ^ 32 → PairsAscend low size ls → list_all (list_all is_plain) (map pair_word ls) ≡ true
+pub plain_pairs : (low : Pair) (size : ℕ) (ls : List (ℕ × ℕ × ℕ)) → size < 2 ^ 32 → PairsAscend low size ls → list_all (list_all is_word_byte) (map pair_word ls) ≡ true
 plain_pairs low size [] small up = refl
-plain_pairs low size (l ∷ ls) small up = both (list_all is_plain (pair_word l)) (list_all (list_all is_plain) (map pair_word ls)) (plain_pair l (omega (arith, up.1)) (omega (arith, up.2))) (plain_pairs (record { from = l.1; to = l.2 + 1 }) size ls small up.3)
+plain_pairs low size (l ∷ ls) small up = and_from (list_all is_word_byte (pair_word l)) (list_all (list_all is_word_byte) (map pair_word ls)) (plain_pair l (omega (arith, up.1)) (omega (arith, up.2))) (plain_pairs (record { from = l.1; to = l.2 + 1 }) size ls small up.3)
 
-module _ (kind name : List ℕ) (ws : List (List ℕ)) (kind_plain : list_all is_plain kind ≡ true) (name_plain : list_all is_plain name ≡ true) (ws_plain : list_all (list_all is_plain) ws ≡ true) where
-  all_plain : list_all (list_all is_plain) (kind ∷ iri name ∷ ws) ≡ true
-  all_plain = both (list_all is_plain kind) (list_all (list_all is_plain) (iri name ∷ ws)) kind_plain (both (list_all is_plain (iri name)) (list_all (list_all is_plain) ws) (plain_iri name name_plain) ws_plain)
+module _ (kind name : List ℕ) (ws : List (List ℕ)) (kind_plain : list_all is_word_byte kind ≡ true) (name_plain : list_all is_word_byte name ≡ true) (ws_plain : list_all (list_all is_word_byte) ws ≡ true) where
+  all_plain : list_all (list_all is_word_byte) (kind ∷ name_word name ∷ ws) ≡ true
+  all_plain = and_from (list_all is_word_byte kind) (list_all (list_all is_word_byte) (name_word name ∷ ws)) kind_plain (and_from (list_all is_word_byte (name_word name)) (list_all (list_all is_word_byte) ws) (plain_name name name_plain) ws_plain)
 
-  row_words : words (line_of kind (iri name ∷ ws)) ≡ kind ∷ iri name ∷ ws
-  row_words = words_read kind (iri name ∷ ws) (words_of_plain (kind ∷ iri name ∷ ws) all_plain)
+  row_words : words (line_of kind (name_word name ∷ ws)) ≡ kind ∷ name_word name ∷ ws
+  row_words = plain_words kind (name_word name ∷ ws) all_plain
 
-  pub row_is_line : is_line (line_of kind (iri name ∷ ws)) ≡ true
-  row_is_line = line_of_plain kind (iri name ∷ ws) all_plain
+  pub row_is_line : is_line (line_of kind (name_word name ∷ ws)) ≡ true
+  row_is_line = plain_line kind (name_word name ∷ ws) all_plain
 
 -- ---- a line
 
-class_named : (names : List (List ℕ)) (name w : List ℕ) (ws : List (List ℕ)) (a : ℕ) → position (bytes_eq name) names ≡ Some a → named_in (codes "class") names (codes "class" ∷ iri name ∷ w ∷ ws) ≡ Some a
+class_named : (names : List (List ℕ)) (name w : List ℕ) (ws : List (List ℕ)) (a : ℕ) → position (bytes_eq name) names ≡ Some a → subject_in (codes "class") names (codes "class" ∷ name_word name ∷ w ∷ ws) ≡ Some a
 class_named names name w ws a at = ap (option_and_then (λ i. position (bytes_eq i) names)) (iri_read name) ∙ at
 
-role_named : (names : List (List ℕ)) (name w : List ℕ) (ws : List (List ℕ)) (r : ℕ) → position (bytes_eq name) names ≡ Some r → named_in (codes "role") names (codes "role" ∷ iri name ∷ w ∷ ws) ≡ Some r
+role_named : (names : List (List ℕ)) (name w : List ℕ) (ws : List (List ℕ)) (r : ℕ) → position (bytes_eq name) names ≡ Some r → subject_in (codes "role") names (codes "role" ∷ name_word name ∷ w ∷ ws) ≡ Some r
 role_named names name w ws r at = ap (option_and_then (λ i. position (bytes_eq i) names)) (iri_read name) ∙ at
 
 abbrev after_class : Body → ℕ → List ℕ → Body
@@ -63,44 +62,42 @@ after_class b a xs = record b { classes = insert_key nat_cmp b.classes a; model 
 abbrev after_role : Body → ℕ → List Pair → Body
 after_role b r ps = record b { roles = insert_key nat_cmp b.roles r; model = with_pairs r ps b.model }
 
-module _ (o : Listed) (b : Body) (name : List ℕ) (name_plain : list_all is_plain name ≡ true) (small : b.model.size < 2 ^ 32) where
-  class_row_read : (a x : ℕ) (xs : List ℕ) → position (bytes_eq name) o.classes ≡ Some a → Ascend 0 b.model.size (x ∷ xs) → list_any (nat_eq a) b.classes ≡ false → line_read o b (class_row name (x ∷ xs)) ≡ Some (after_class b a (x ∷ xs))
+module _ (o : Listed) (b : Body) (name : List ℕ) (name_plain : list_all is_word_byte name ≡ true) (small : b.model.size < 2 ^ 32) where
+  class_row_read : (a x : ℕ) (xs : List ℕ) → position (bytes_eq name) o.classes ≡ Some a → Ascend 0 b.model.size (x ∷ xs) → list_any (nat_eq a) b.classes ≡ false → model_line_read o b (class_row name (x ∷ xs)) ≡ Some (after_class b a (x ∷ xs))
   class_row_read a x xs at up fresh =
       let ws = map decimal (x ∷ xs) in
-      let split : words (class_row name (x ∷ xs)) ≡ codes "class" ∷ iri name ∷ ws = row_words (codes "class") name ws refl name_plain (plain_decimals 0 b.model.size (x ∷ xs) small up) in
-      let line : class_line o b.model.size (codes "class" ∷ iri name ∷ ws) ≡ Some (record { class = a; elements = x ∷ xs }) =
+      let split : words (class_row name (x ∷ xs)) ≡ codes "class" ∷ name_word name ∷ ws = row_words (codes "class") name ws refl name_plain (plain_decimals 0 b.model.size (x ∷ xs) small up) in
+      let line : class_line_in o b.model.size (codes "class" ∷ name_word name ∷ ws) ≡ Some (record { class = a; elements = x ∷ xs }) =
       ap (option_and_then (λ c. option_map (λ ys. record { class = c; elements = ys }) (elements_from 0 b.model.size ws))) (class_named o.classes name (decimal x) (map decimal xs) a at)
       ∙ ap (option_map (λ ys. record { class = a; elements = ys })) (elements_read 0 b.model.size (x ∷ xs) small up) in
-      ap (read_words o b) split ∙ ap (option_and_then (with_class b)) line ∙ ap (λ v. if v then None else Some (after_class b a (x ∷ xs))) fresh
+      ap (model_words_read o b) split ∙ ap (option_and_then (with_class b)) line ∙ ap (λ v. if v then None else Some (after_class b a (x ∷ xs))) fresh
 
-  role_row_read : (r : ℕ) (l : ℕ × ℕ × ℕ) (ls : List (ℕ × ℕ × ℕ)) → position (bytes_eq name) o.roles ≡ Some r → PairsAscend (record { from = 0; to = 0 }) b.model.size (l ∷ ls) → list_any (nat_eq r) b.roles ≡ false → line_read o b (role_row name (l ∷ ls)) ≡ Some (after_role b r (map pair_of (l ∷ ls)))
+  role_row_read : (r : ℕ) (l : ℕ × ℕ × ℕ) (ls : List (ℕ × ℕ × ℕ)) → position (bytes_eq name) o.roles ≡ Some r → PairsAscend (record { from = 0; to = 0 }) b.model.size (l ∷ ls) → list_any (nat_eq r) b.roles ≡ false → model_line_read o b (role_row name (l ∷ ls)) ≡ Some (after_role b r (map pair_of (l ∷ ls)))
   role_row_read r l ls at up fresh =
       let ws = map pair_word (l ∷ ls) in
-      let split : words (role_row name (l ∷ ls)) ≡ codes "role" ∷ iri name ∷ ws = row_words (codes "role") name ws refl name_plain (plain_pairs (record { from = 0; to = 0 }) b.model.size (l ∷ ls) small up) in
-      let line : role_line o b.model.size (codes "role" ∷ iri name ∷ ws) ≡ Some (record { role = r; pairs = map pair_of (l ∷ ls) }) =
+      let split : words (role_row name (l ∷ ls)) ≡ codes "role" ∷ name_word name ∷ ws = row_words (codes "role") name ws refl name_plain (plain_pairs (record { from = 0; to = 0 }) b.model.size (l ∷ ls) small up) in
+      let line : role_line_in o b.model.size (codes "role" ∷ name_word name ∷ ws) ≡ Some (record { role = r; pairs = map pair_of (l ∷ ls) }) =
       ap (option_and_then (λ s. option_map (λ ps. record { role = s; pairs = ps }) (pairs_from (record { from = 0; to = 0 }) b.model.size ws))) (role_named o.roles name (pair_word l) (map pair_word ls) r at)
       ∙ ap (option_map (λ ps. record { role = r; pairs = ps })) (pairs_read (record { from = 0; to = 0 }) b.model.size (l ∷ ls) small up) in
-      ap (read_words o b) split ∙ ap (option_and_then (with_role b)) line ∙ ap (λ v. if v then None else Some (after_role b r (map pair_of (l ∷ ls)))) fresh
+      ap (model_words_read o b) split ∙ ap (option_and_then (with_role b)) line ∙ ap (λ v. if v then None else Some (after_role b r (map pair_of (l ∷ ls)))) fresh
 
-not_end : (c : ℕ) (rest : List ℕ) → (c ≡ 101 → ⊥) → is_end (c ∷ rest) ≡ false
-not_end c rest other = unless_true (is_end (c ∷ rest)) (λ h. let same : c ∷ rest ≡ codes "end" = (bytes_eq-Decides (c ∷ rest) (codes "end")).0 h in let head : c ≡ 101 = cc in other head)
+not_end : (c : ℕ) (rest : List ℕ) → (c ≡ 101 → ⊥) → is_end_line (c ∷ rest) ≡ false
+not_end c rest other = false_from_ne_true (is_end_line (c ∷ rest)) (λ h. let same : c ∷ rest ≡ codes "end" = (bytes_eq-Decides (c ∷ rest) (codes "end")).0 h in let head : c ≡ 101 = cc in other head)
 
-class_goes_on : (rest : List ℕ) → is_end (codes "class" ++ rest) ≡ false
+class_goes_on : (rest : List ℕ) → is_end_line (codes "class" ++ rest) ≡ false
 class_goes_on rest = not_end 99 (codes "lass" ++ rest) (λ e. absurd (omega arith))
 
-role_goes_on : (rest : List ℕ) → is_end (codes "role" ++ rest) ≡ false
+role_goes_on : (rest : List ℕ) → is_end_line (codes "role" ++ rest) ≡ false
 role_goes_on rest = not_end 114 (codes "ole" ++ rest) (λ e. absurd (omega arith))
 
-body_step : (o : Listed) (b next : Body) (l : List ℕ) (ls : List (List ℕ)) → is_end l ≡ false → line_read o b l ≡ Some next → body_from o b (l ∷ ls) ≡ body_from o next ls
-body_step o b next l ls more read =
-    ap (λ e. elim e [ true ↦ (if list_all is_blank ls then Some b.model else None) | false ↦ elim (line_read o b l) [ None ↦ None | Some n ↦ body_from o n ls ] ]) more
-    ∙ ap (λ (r : Option Body). elim r [ None ↦ None | Some n ↦ body_from o n ls ]) read
+body_step : (o : Listed) (b next : Body) (l : List ℕ) (ls : List (List ℕ)) → is_end_line l ≡ false → model_line_read o b l ≡ Some next → model_body o b (l ∷ ls) ≡ model_body o next ls
+body_step o b next l ls more read = body_line (model_line_read o) (λ c. c.model) b l ls (Some next) more read
 
 -- ---- all lines
 
 pub record IsRead (o : Listed) (b : Body) (rows rest : List (List ℕ)) (model : ModelLists) : Type 0 where
   pub next : Body
-  pub reads : body_from o b (rows ++ rest) ≡ body_from o next rest
+  pub reads : model_body o b (rows ++ rest) ≡ model_body o next rest
   pub same_roles : next.roles ≡ b.roles
   pub becomes : next.model ≡ model
 
@@ -127,16 +124,12 @@ inserted_other (d ∷ ds) a c less h = by (nat_cmp a d) (inserted_other ds a c l
     other : nat_eq c a ≡ false
     other = grind (arith, nat_tests)
 
-    parts : (v w : Bool) → (v || w) ≡ false → (v ≡ false) × (w ≡ false)
-    parts true w g = let clash : true ≡ false = g in absurd (cc clash)
-    parts false w g = (refl, g)
-
     by : (q : Ordering) → (list_any (nat_eq c) ds ≡ false → list_any (nat_eq c) (insert_key nat_cmp ds a) ≡ false) → list_any (nat_eq c) (match_ordering q (a ∷ d ∷ ds) (d ∷ ds) (d ∷ insert_key nat_cmp ds a)) ≡ false
     by Less rest = ap (λ v. v || list_any (nat_eq c) (d ∷ ds)) other ∙ h
     by Equal rest = h
-    by Greater rest = let p = parts (nat_eq c d) (list_any (nat_eq c) ds) h in ap (λ v. v || list_any (nat_eq c) (insert_key nat_cmp ds a)) p.0 ∙ rest p.1
+    by Greater rest = let p = or_parts (nat_eq c d) (list_any (nat_eq c) ds) h in ap (λ v. v || list_any (nat_eq c) (insert_key nat_cmp ds a)) p.0 ∙ rest p.1
 
--- names that stand behind a number of others
+-- names that stand after a number of others
 abbrev pub StandAt : List (List ℕ) → ℕ → List (List ℕ) → Type 0
 StandAt all a names = (j : ℕ) (name : List ℕ) → slice_get names j ≡ Some name → slice_get all (a + j) ≡ Some name
 
@@ -147,13 +140,13 @@ first_number : (all : List (List ℕ)) (a : ℕ) (n : List ℕ) (ns : List (List
 first_number all a n ns distinct stand = let same : a + 0 ≡ a = omega arith in place_is_number all n a distinct (subst (λ k. slice_get all k ≡ Some n) same (stand 0 n refl))
 
 module _ (o : Listed) (size : ℕ) (small : size < 2 ^ 32) where
-  pub classes_read : (ms : List (ℕ × ℕ)) → IsStrictlySortedBy member_cmp ms → list_all (λ m. nat_lt m.1 size) ms ≡ true → AreDistinct o.classes → (names : List (List ℕ)) (a : ℕ) → StandAt o.classes a names → list_all (list_all is_plain) names ≡ true → (b : Body) → b.model.size ≡ size → ((c : ℕ) → a ≤ c → list_any (nat_eq c) b.classes ≡ false) → (rest : List (List ℕ)) → IsRead o b (class_rows a names ms) rest (with_classes a names ms b.model)
+  pub classes_read : (ms : List (ℕ × ℕ)) → IsStrictlySortedBy member_cmp ms → list_all (λ m. nat_lt m.1 size) ms ≡ true → AreDistinct o.classes → (names : List (List ℕ)) (a : ℕ) → StandAt o.classes a names → list_all (list_all is_word_byte) names ≡ true → (b : Body) → b.model.size ≡ size → ((c : ℕ) → a ≤ c → list_any (nat_eq c) b.classes ≡ false) → (rest : List (List ℕ)) → IsRead o b (class_rows a names ms) rest (with_classes a names ms b.model)
   classes_read ms sorted below distinct [] a stand plain b same fresh rest = record { next = b; reads = refl; same_roles = refl; becomes = refl }
   classes_read ms sorted below distinct (n ∷ ns) a stand plain b same fresh rest =
       by (elements_of a ms) (elements_ascend a 0 size ms sorted (at_least_none a ms) below) (λ next eq free. classes_read ms sorted below distinct ns (a + 1) (stand_next o.classes a n ns stand) parts.1 next eq free rest)
     where
-      parts : (list_all is_plain n ≡ true) × (list_all (list_all is_plain) ns ≡ true)
-      parts = and_parts (list_all is_plain n) (list_all (list_all is_plain) ns) plain
+      parts : (list_all is_word_byte n ≡ true) × (list_all (list_all is_word_byte) ns ≡ true)
+      parts = and_parts (list_all is_word_byte n) (list_all (list_all is_word_byte) ns) plain
 
       by : (xs : List ℕ) → Ascend 0 size xs → ((next : Body) → next.model.size ≡ size → ((c : ℕ) → a + 1 ≤ c → list_any (nat_eq c) next.classes ≡ false) → IsRead o next (class_rows (a + 1) ns ms) rest (with_classes (a + 1) ns ms next.model)) → IsRead o b (rows_of_class n xs ++ class_rows (a + 1) ns ms) rest (with_classes (a + 1) ns ms (with_elements a xs b.model))
       by [] up more = more b same (λ c le. fresh c (omega arith))
@@ -165,20 +158,20 @@ module _ (o : Listed) (size : ℕ) (small : size < 2 ^ 32) where
           let line = class_row_read o b n parts.0 (omega arith) a x xs (first_number o.classes a n ns distinct stand) ascend (fresh a (omega arith)) in
           record {
             next = read.next;
-            reads = body_step o b next (class_row n (x ∷ xs)) (class_rows (a + 1) ns ms ++ rest) (class_goes_on (flat_map (λ w. 32 ∷ w) (iri n ∷ map decimal (x ∷ xs)))) line ∙ read.reads;
+            reads = body_step o b next (class_row n (x ∷ xs)) (class_rows (a + 1) ns ms ++ rest) (class_goes_on (flat_map (λ w. 32 ∷ w) (name_word n ∷ map decimal (x ∷ xs)))) line ∙ read.reads;
             same_roles = read.same_roles;
             becomes = read.becomes;
           }
 
-  pub roles_read : (ls : List (ℕ × ℕ × ℕ)) → IsStrictlySortedBy link_cmp ls → list_all (λ l. nat_lt l.1 size && nat_lt l.2 size) ls ≡ true → AreDistinct o.roles → (names : List (List ℕ)) (r : ℕ) → StandAt o.roles r names → list_all (list_all is_plain) names ≡ true → (b : Body) → b.model.size ≡ size → ((c : ℕ) → r ≤ c → list_any (nat_eq c) b.roles ≡ false) → (rest : List (List ℕ)) → (next : Body) × (body_from o b (role_rows r names ls ++ rest) ≡ body_from o next rest) × (next.model ≡ with_roles r names ls b.model)
+  pub roles_read : (ls : List (ℕ × ℕ × ℕ)) → IsStrictlySortedBy link_cmp ls → list_all (λ l. nat_lt l.1 size && nat_lt l.2 size) ls ≡ true → AreDistinct o.roles → (names : List (List ℕ)) (r : ℕ) → StandAt o.roles r names → list_all (list_all is_word_byte) names ≡ true → (b : Body) → b.model.size ≡ size → ((c : ℕ) → r ≤ c → list_any (nat_eq c) b.roles ≡ false) → (rest : List (List ℕ)) → (next : Body) × (model_body o b (role_rows r names ls ++ rest) ≡ model_body o next rest) × (next.model ≡ with_roles r names ls b.model)
   roles_read ls sorted below distinct [] r stand plain b same fresh rest = (b, refl, refl)
   roles_read ls sorted below distinct (n ∷ ns) r stand plain b same fresh rest =
       by (pairs_of r ls) (pairs_ascend r (record { from = 0; to = 0 }) size ls sorted (pair_at_least_none r ls) below) (λ next eq free. roles_read ls sorted below distinct ns (r + 1) (stand_next o.roles r n ns stand) parts.1 next eq free rest)
     where
-      parts : (list_all is_plain n ≡ true) × (list_all (list_all is_plain) ns ≡ true)
-      parts = and_parts (list_all is_plain n) (list_all (list_all is_plain) ns) plain
+      parts : (list_all is_word_byte n ≡ true) × (list_all (list_all is_word_byte) ns ≡ true)
+      parts = and_parts (list_all is_word_byte n) (list_all (list_all is_word_byte) ns) plain
 
-      by : (ps : List (ℕ × ℕ × ℕ)) → PairsAscend (record { from = 0; to = 0 }) size ps → ((next : Body) → next.model.size ≡ size → ((c : ℕ) → r + 1 ≤ c → list_any (nat_eq c) next.roles ≡ false) → (last : Body) × (body_from o next (role_rows (r + 1) ns ls ++ rest) ≡ body_from o last rest) × (last.model ≡ with_roles (r + 1) ns ls next.model)) → (last : Body) × (body_from o b ((rows_of_role n ps ++ role_rows (r + 1) ns ls) ++ rest) ≡ body_from o last rest) × (last.model ≡ with_roles (r + 1) ns ls (with_pairs r (map pair_of ps) b.model))
+      by : (ps : List (ℕ × ℕ × ℕ)) → PairsAscend (record { from = 0; to = 0 }) size ps → ((next : Body) → next.model.size ≡ size → ((c : ℕ) → r + 1 ≤ c → list_any (nat_eq c) next.roles ≡ false) → (last : Body) × (model_body o next (role_rows (r + 1) ns ls ++ rest) ≡ model_body o last rest) × (last.model ≡ with_roles (r + 1) ns ls next.model)) → (last : Body) × (model_body o b ((rows_of_role n ps ++ role_rows (r + 1) ns ls) ++ rest) ≡ model_body o last rest) × (last.model ≡ with_roles (r + 1) ns ls (with_pairs r (map pair_of ps) b.model))
       by [] up more = more b same (λ c le. fresh c (omega arith))
       by (l ∷ ps) up more =
           let next = after_role b r (map pair_of (l ∷ ps)) in
@@ -186,4 +179,4 @@ module _ (o : Listed) (size : ℕ) (small : size < 2 ^ 32) where
           let read = more next eq (λ c le. inserted_other b.roles r c (omega arith) (fresh c (omega arith))) in
           let ascend : PairsAscend (record { from = 0; to = 0 }) b.model.size (l ∷ ps) = subst (λ s. PairsAscend (record { from = 0; to = 0 }) s (l ∷ ps)) (sym same) up in
           let line = role_row_read o b n parts.0 (omega arith) r l ps (first_number o.roles r n ns distinct stand) ascend (fresh r (omega arith)) in
-          (read.0, body_step o b next (role_row n (l ∷ ps)) (role_rows (r + 1) ns ls ++ rest) (role_goes_on (flat_map (λ w. 32 ∷ w) (iri n ∷ map pair_word (l ∷ ps)))) line ∙ read.1, read.2)
+          (read.0, body_step o b next (role_row n (l ∷ ps)) (role_rows (r + 1) ns ls ++ rest) (role_goes_on (flat_map (λ w. 32 ∷ w) (name_word n ∷ map pair_word (l ∷ ps)))) line ∙ read.1, read.2)

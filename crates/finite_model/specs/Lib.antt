@@ -1,5 +1,6 @@
 pub mod ModelLists
 pub mod Next
+pub mod AtElement
 pub mod ModelText
 pub mod Malformed
 pub mod BodyRead

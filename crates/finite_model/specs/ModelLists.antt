@@ -1,6 +1,9 @@
 -- What an interpretation keeps, and what it stands for. Members and pairs are kept in ascending order, each once.
-use Rattle.std.specs.Prelude.{ℕ, ◌≤◌, Bool, ◌&&◌, nat_eq, nat_lt, IsTrue, List}
-use Rattle.std.specs.List.{list_any, list_all}
+use Rattle.std.specs.Prelude.{ℕ, ◌≤◌, Bool, ◌&&◌, nat_eq, nat_lt, IsTrue, List, Option, slice_get}
+use Rattle.std.specs.List.{list_any, list_all, filter}
+use Rattle.std.specs.BTreeSet.{insert_key}
+use Rattle.std.specs.BTreeMap.Range.{range_contains}
+use Rattle.std.specs.declared.ops.Bound.TheVariants.{Included}
 use Rattle.std.specs.declared.cmp.Ordering.{Ordering}
 use Rattle.std.specs.Ordering.{nat_cmp, ordering_then}
 use Rattle.shq_meaning.specs.Truth.{Interpretation}
@@ -58,3 +61,14 @@ link_cmp a b = ordering_then (nat_cmp a.0 b.0) (ordering_then (nat_cmp a.1 b.1) 
 -- the same order, as a set of triples keeps it
 abbrev pub tuple_cmp : ℕ × ℕ × ℕ → ℕ × ℕ × ℕ → Ordering
 tuple_cmp a b = ordering_then (ordering_then (nat_cmp a.0 b.0) (nat_cmp a.1 b.1)) (nat_cmp a.2 b.2)
+
+-- one member more, and one pair more
+abbrev pub with_member : ℕ → ℕ → ModelLists → ModelLists
+with_member a x k = record k { members = insert_key member_cmp k.members (a, x) }
+
+abbrev pub with_link : ℕ → ℕ → ℕ → ModelLists → ModelLists
+with_link r x y k = record k { links = insert_key link_cmp k.links (r, x, y) }
+
+-- the first of a list between two bounds
+abbrev pub first_between : {T : Type 0} → (T → T → Ordering) → T → T → List T → Option T
+first_between cmp low high ts = slice_get (filter (range_contains cmp (Included low) (Included high)) ts) 0

@@ -4,9 +4,11 @@ use Rattle.std.specs.List.{list_all, list_any}
 use Rattle.std.specs.Ordering.{nat_cmp}
 use Rattle.std.specs.BTreeSet.{insert_key}
 use Rattle.std.specs.Str.{bytes_eq}
-use Rattle.certificate_lines.specs.Lines.{words, is_blank, number_in, iri_in}
+use Rattle.certificate_lines.specs.Lines.{words, number_in}
+use Rattle.certificate_lines.specs.Names.{name_place}
+use Rattle.certificate_lines.specs.Body.{after_line, read_body}
 use Rattle.shq_terms.specs.Listed.{Listed}
-use Rattle.finite_model.specs.ModelLists.{ModelLists, member_cmp, link_cmp}
+use Rattle.finite_model.specs.ModelLists.{ModelLists, with_member, with_link}
 use Rattle.finite_model.specs.declared.reading.Pair.{Pair}
 
 -- the number of a word, where it is at least low and below the size
@@ -32,40 +34,43 @@ is_at_least low p = nat_lt low.from p.from || (nat_eq low.from p.from && nat_le 
 abbrev pub pair_from : Pair → ℕ → List ℕ → Option Pair
 pair_from low size word = option_and_then (λ p. if is_at_least low p then Some p else None) (pair_in size word)
 
--- the pairs of words, the first at least low and each other behind the one before it
+-- the pairs of words, the first at least low and each other after the one before it
 abbrev pub pairs_from : Pair → ℕ → List (List ℕ) → Option (List Pair)
 pairs_from low size [] = Some []
 pairs_from low size (w ∷ ws) = elim (pair_from low size w) [ None ↦ None | Some p ↦ option_map (λ ps. p ∷ ps) (pairs_from (record { from = p.from; to = p.to + 1 }) size ws) ]
 
+-- the pairs of words in ascending order, whatever the first
+abbrev pub pairs_in : ℕ → List (List ℕ) → Option (List Pair)
+pairs_in size ws = pairs_from (record { from = 0; to = 0 }) size ws
+
 -- the number of the name of `KIND NAME X ..`, where there is an X
-abbrev pub named_in : List ℕ → List (List ℕ) → List (List ℕ) → Option ℕ
-named_in kind names (k ∷ name ∷ w ∷ ws) =
-    if bytes_eq k kind then option_and_then (λ iri. position (bytes_eq iri) names) (iri_in name) else None
-named_in kind names _ = None
+abbrev pub subject_in : List ℕ → List (List ℕ) → List (List ℕ) → Option ℕ
+subject_in kind names (k ∷ name ∷ w ∷ ws) = if bytes_eq k kind then name_place names name else None
+subject_in kind names _ = None
 
 -- a class with its elements
 pub record ClassLine : Type 0 where
   pub class : ℕ
   pub elements : List ℕ
 
-abbrev pub class_line : Listed → ℕ → List (List ℕ) → Option ClassLine
-class_line o size ws = option_and_then (λ a. option_map (λ xs. record { class = a; elements = xs }) (elements_from 0 size (drop 2 ws))) (named_in (codes "class") o.classes ws)
+abbrev pub class_line_in : Listed → ℕ → List (List ℕ) → Option ClassLine
+class_line_in o size ws = option_and_then (λ a. option_map (λ xs. record { class = a; elements = xs }) (elements_from 0 size (drop 2 ws))) (subject_in (codes "class") o.classes ws)
 
 -- a role with its pairs
 pub record RoleLine : Type 0 where
   pub role : ℕ
   pub pairs : List Pair
 
-abbrev pub role_line : Listed → ℕ → List (List ℕ) → Option RoleLine
-role_line o size ws = option_and_then (λ r. option_map (λ ps. record { role = r; pairs = ps }) (pairs_from (record { from = 0; to = 0 }) size (drop 2 ws))) (named_in (codes "role") o.roles ws)
+abbrev pub role_line_in : Listed → ℕ → List (List ℕ) → Option RoleLine
+role_line_in o size ws = option_and_then (λ r. option_map (λ ps. record { role = r; pairs = ps }) (pairs_in size (drop 2 ws))) (subject_in (codes "role") o.roles ws)
 
 abbrev pub with_elements : ℕ → List ℕ → ModelLists → ModelLists
 with_elements a [] k = k
-with_elements a (x ∷ xs) k = with_elements a xs (record k { members = insert_key member_cmp k.members (a, x) })
+with_elements a (x ∷ xs) k = with_elements a xs (with_member a x k)
 
 abbrev pub with_pairs : ℕ → List Pair → ModelLists → ModelLists
 with_pairs r [] k = k
-with_pairs r (p ∷ ps) k = with_pairs r ps (record k { links = insert_key link_cmp k.links (r, p.from, p.to) })
+with_pairs r (p ∷ ps) k = with_pairs r ps (with_link r p.from p.to k)
 
 -- what was read: the classes and the roles that had a line, and the model so far
 pub record Body : Type 0 where
@@ -90,32 +95,28 @@ is_role_line [] = false
 is_role_line (k ∷ ws) = bytes_eq k (codes "role")
 
 abbrev pub class_read : Listed → Body → List (List ℕ) → Option Body
-class_read o b ws = option_and_then (with_class b) (class_line o b.model.size ws)
+class_read o b ws = option_and_then (with_class b) (class_line_in o b.model.size ws)
 
 abbrev pub role_read : Listed → Body → List (List ℕ) → Option Body
-role_read o b ws = option_and_then (with_role b) (role_line o b.model.size ws)
+role_read o b ws = option_and_then (with_role b) (role_line_in o b.model.size ws)
 
-abbrev pub words_read : Listed → Body → List (List ℕ) → Option Body
-words_read o b ws = if is_role_line ws then role_read o b ws else class_read o b ws
+abbrev pub model_words_read : Listed → Body → List (List ℕ) → Option Body
+model_words_read o b ws = if is_role_line ws then role_read o b ws else class_read o b ws
 
-abbrev pub line_read : Listed → Body → List ℕ → Option Body
-line_read o b line = words_read o b (words line)
+abbrev pub model_line_read : Listed → Body → List ℕ → Option Body
+model_line_read o b line = model_words_read o b (words line)
 
-abbrev pub is_end : List ℕ → Bool
-is_end line = bytes_eq line (codes "end")
-
--- the lines behind the first: lines of classes and roles, then the line `end`, and then blank lines
-abbrev pub body_from : Listed → Body → List (List ℕ) → Option ModelLists
-body_from o b [] = None
-body_from o b (l ∷ ls) = elim (is_end l) [
-  | true ↦ if list_all is_blank ls then Some b.model else None
-  | false ↦ elim (line_read o b l) [ None ↦ None | Some next ↦ body_from o next ls ]
-]
+-- the lines after the first: lines of classes and roles, then the line `end`, and then blank lines
+abbrev pub model_body : Listed → Body → List (List ℕ) → Option ModelLists
+model_body o b ls = read_body (model_line_read o) (λ c. c.model) b ls
 
 -- `model N`, with at least one element
 abbrev pub size_line : List (List ℕ) → Option ℕ
 size_line (k ∷ n ∷ []) = if bytes_eq k (codes "model") then option_and_then (λ x. if nat_eq x 0 then None else Some x) (number_in n) else None
 size_line _ = None
+
+abbrev pub size_in : List ℕ → Option ℕ
+size_in line = size_line (words line)
 
 -- nothing was put
 abbrev pub empty_body : ℕ → Body
@@ -123,5 +124,4 @@ empty_body n = record { classes = []; roles = []; model = record { size = n; mem
 
 -- the model that the lines stand for, where they are the text of one
 abbrev pub model_of : Listed → List (List ℕ) → Option ModelLists
-model_of o [] = None
-model_of o (l ∷ ls) = option_and_then (λ n. body_from o (empty_body n) ls) (size_line (words l))
+model_of o ls = after_line size_in (λ n. model_body o (empty_body n)) ls

@@ -1,28 +1,18 @@
 -- The text of a model is read back.
-use Rattle.std.specs.Prelude.{◌≡◌, ℕ, ◌^◌, ◌<◌, ◌≤◌, Bool, not, ◌&&◌, nat_eq, IsTrue, List, Some}
-use Rattle.std.specs.List.{list_all}
+use Rattle.std.specs.Prelude.{◌≡◌, ◌^◌, ◌<◌, ◌≤◌, IsTrue, Some}
 use Rattle.std.specs.List.Sorted.{IsStrictlySortedBy}
 use Rattle.certificate_lines.specs.Lines.{lines}
+use Rattle.certificate_lines.specs.Names.{AreNames}
 use Rattle.shq_terms.specs.Listed.{Listed}
-use Rattle.shq_terms.specs.Distinct.{AreDistinct}
 use Rattle.finite_model.specs.ModelLists.{ModelLists, members_below, links_below, member_cmp, link_cmp}
 use Rattle.finite_model.specs.ModelText.{model_of}
-use Rattle.finite_model.specs.Written.{is_listed, model_text}
-
--- neither a blank nor an end of a line, as each character of an IRI between `<` and `>`
-abbrev pub is_plain : ℕ → Bool
-is_plain b = not (nat_eq b 32) && not (nat_eq b 10) && not (nat_eq b 13)
-
--- names that are listed once, of plain characters
-pub record AreNames (names : List (List ℕ)) : Type 0 where
-  pub distinct : AreDistinct names
-  pub plain : IsTrue (list_all (list_all is_plain) names)
+use Rattle.finite_model.specs.Written.{uses_listed_names, model_text}
 
 -- an interpretation of listed classes and roles, as its members and pairs are kept
 pub record IsKept (o : Listed) (k : ModelLists) : Type 0 where
   pub some : 1 ≤ k.size
   pub small : k.size < 2 ^ 32
-  pub listed : IsTrue (is_listed o k)
+  pub listed : IsTrue (uses_listed_names o k)
   pub members_ascend : IsStrictlySortedBy member_cmp k.members
   pub members_inside : IsTrue (members_below k.size k.members)
   pub links_ascend : IsStrictlySortedBy link_cmp k.links

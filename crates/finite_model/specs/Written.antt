@@ -25,30 +25,30 @@ abbrev pub line_text : List ℕ → List ℕ → List ℕ → List ℕ
 line_text kind name items = kind ++ codes " <" ++ name ++ codes ">" ++ items ++ 10 ∷ []
 
 -- the line of a class, where it has elements
-abbrev pub class_text : List ℕ → List ℕ → List ℕ
-class_text name [] = []
-class_text name (x ∷ xs) = line_text (codes "class") name (flat_map element_text (x ∷ xs))
+abbrev pub class_line : List ℕ → List ℕ → List ℕ
+class_line name [] = []
+class_line name (x ∷ xs) = line_text (codes "class") name (flat_map element_text (x ∷ xs))
 
 -- the line of a role, where it has pairs
-abbrev pub role_text : List ℕ → List (ℕ × ℕ × ℕ) → List ℕ
-role_text name [] = []
-role_text name (l ∷ ls) = line_text (codes "role") name (flat_map pair_text (l ∷ ls))
+abbrev pub role_line : List ℕ → List (ℕ × ℕ × ℕ) → List ℕ
+role_line name [] = []
+role_line name (l ∷ ls) = line_text (codes "role") name (flat_map pair_text (l ∷ ls))
 
 -- the lines of classes in list order, where the first has the number a
-abbrev pub class_texts : ℕ → List (List ℕ) → List (ℕ × ℕ) → List ℕ
-class_texts a [] members = []
-class_texts a (name ∷ names) members = class_text name (elements_of a members) ++ class_texts (a + 1) names members
+abbrev pub class_lines : ℕ → List (List ℕ) → List (ℕ × ℕ) → List ℕ
+class_lines a [] members = []
+class_lines a (name ∷ names) members = class_line name (elements_of a members) ++ class_lines (a + 1) names members
 
 -- the lines of roles in list order, where the first has the number r
-abbrev pub role_texts : ℕ → List (List ℕ) → List (ℕ × ℕ × ℕ) → List ℕ
-role_texts r [] links = []
-role_texts r (name ∷ names) links = role_text name (pairs_of r links) ++ role_texts (r + 1) names links
+abbrev pub role_lines : ℕ → List (List ℕ) → List (ℕ × ℕ × ℕ) → List ℕ
+role_lines r [] links = []
+role_lines r (name ∷ names) links = role_line name (pairs_of r links) ++ role_lines (r + 1) names links
 
 -- the line of the size, the lines of classes, the lines of roles, and the line `end`
 abbrev pub model_text : Listed → ModelLists → List ℕ
 model_text o k =
-    codes "model " ++ decimal k.size ++ 10 ∷ [] ++ class_texts 0 o.classes k.members ++ role_texts 0 o.roles k.links ++ codes "end" ++ 10 ∷ []
+    codes "model " ++ decimal k.size ++ 10 ∷ [] ++ class_lines 0 o.classes k.members ++ role_lines 0 o.roles k.links ++ codes "end" ++ 10 ∷ []
 
 -- each class and each role of which something was put is listed
-abbrev pub is_listed : Listed → ModelLists → Bool
-is_listed o k = list_all (λ m. nat_lt m.0 (length o.classes)) k.members && list_all (λ l. nat_lt l.0 (length o.roles)) k.links
+abbrev pub uses_listed_names : Listed → ModelLists → Bool
+uses_listed_names o k = list_all (λ m. nat_lt m.0 (length o.classes)) k.members && list_all (λ l. nat_lt l.0 (length o.roles)) k.links

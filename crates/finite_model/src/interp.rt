@@ -1,14 +1,9 @@
 // A finite interpretation: what it keeps, and how elements are found in it.
-ghost use Rattle.std.specs.Prelude.{◌≡◌, ◌<◌, ◌≤◌, ◌+◌, ◌^◌, [], true, false, OnOk, OnErr, IfOk, IfSome, ◌||◌, nat_le, slice_get};
-ghost use Rattle.std.specs.BTreeMap.Range.{range_contains};
-ghost use Rattle.std.specs.BTreeSet.{insert_key};
-ghost use Rattle.std.specs.List.{filter};
+ghost use Rattle.std.specs.Prelude.{◌≡◌, ◌<◌, ◌≤◌, ◌+◌, ◌^◌, [], true, false, OnOk, OnErr, IfOk, IfSome, ◌||◌, nat_le};
 ghost use Rattle.std.specs.List.Sorted.{IsStrictlySortedBy};
 ghost use Rattle.std.specs.Ordering.{is_gt};
-ghost use Rattle.std.specs.declared.ops.Bound.TheVariants.{Included};
-ghost use Rattle.shq_meaning.specs.Below.{all_below};
-ghost use Rattle.shq_meaning.specs.Truth.{implies};
-ghost use Rattle.finite_model.specs.ModelLists.{meaning, begins, IsDomain, member_cmp, link_cmp, tuple_cmp};
+ghost use Rattle.finite_model.specs.ModelLists.{meaning, begins, IsDomain, member_cmp, link_cmp, tuple_cmp, with_member, with_link, first_between};
+ghost use Rattle.finite_model.specs.AtElement.{row_within, row_is_transitive};
 ghost use Rattle.finite_model.specs.Next.{IsNext, within};
 ghost use Rattle.finite_model.specs.Written.{elements_of, pairs_of};
 
@@ -73,7 +68,7 @@ impl Interp {
     /// Puts the element into the class, where it stands once, or changes nothing. The element is below the size.
     pub fn put_class(&mut self, class: u32, x: u32) -> Result<(), NoMemory>
         requires { x < self.old.size }
-        ensures put { OnOk result (self.new ≡ record self.old { members = insert_key member_cmp self.old.members (class, x) }) }
+        ensures put { OnOk result (self.new ≡ with_member class x self.old) }
         ensures unchanged { OnErr result (self.new ≡ self.old) }
     {
         self.members.insert((class, x))?;
@@ -84,7 +79,7 @@ impl Interp {
     pub fn put_pair(&mut self, role: u32, x: u32, y: u32) -> Result<(), NoMemory>
         requires from { x < self.old.size }
         requires to { y < self.old.size }
-        ensures put { OnOk result (self.new ≡ record self.old { links = insert_key link_cmp self.old.links (role, x, y) }) }
+        ensures put { OnOk result (self.new ≡ with_link role x y self.old) }
         ensures unchanged { OnErr result (self.new ≡ self.old) }
     {
         self.links.insert((role, x, y))?;
@@ -105,7 +100,7 @@ impl Interp {
         )
     }
 
-    /// The pairs of the role, each behind the role, ascending.
+    /// The pairs of the role, each after the role, ascending.
     #[tactic(auto, using(crate::proofs::Ranges::links_between))]
     pub(crate) fn pairs(&self, alloc: Global, role: u32) -> Result<Vec<(u32, u32, u32)>, NoMemory>
         requires { role < 4294967295 }
@@ -131,8 +126,8 @@ impl Interp {
         self.links.contains(&(role, x, y))
     }
 
-    /// The number behind that of an element.
-    pub(crate) fn behind(&self, x: u32) -> u32
+    /// The number after that of an element.
+    pub(crate) fn after(&self, x: u32) -> u32
         requires { x < self.now.size }
         ensures { result ≡ x + 1 }
     {
@@ -150,7 +145,7 @@ impl Interp {
     // The least member between the bounds.
     fn first_member(&self, low: (u32, u32), high: (u32, u32)) -> Option<(u32, u32)>
         requires { is_gt (member_cmp low high) ≡ false }
-        ensures first { result ≡ slice_get (filter (range_contains member_cmp (Included low) (Included high)) self.now.members) 0 }
+        ensures first { result ≡ first_between member_cmp low high self.now.members }
         ensures ordered { IsStrictlySortedBy member_cmp self.now.members }
         ensures small { self.now.size < 2 ^ 32 }
     {
@@ -162,7 +157,7 @@ impl Interp {
     // The least pair between the bounds, with its role.
     fn first_link(&self, low: (u32, u32, u32), high: (u32, u32, u32)) -> Option<(u32, u32, u32)>
         requires { is_gt (tuple_cmp low high) ≡ false }
-        ensures first { result ≡ slice_get (filter (range_contains tuple_cmp (Included low) (Included high)) self.now.links) 0 }
+        ensures first { result ≡ first_between tuple_cmp low high self.now.links }
         ensures ordered { IsStrictlySortedBy tuple_cmp self.now.links }
         ensures small { self.now.size < 2 ^ 32 }
     {
@@ -203,40 +198,31 @@ impl Interp {
         y >= self.size || self.in_role(role, x, y)
     }
 
-    pub(crate) fn row_included(&self, role: u32, other: u32, x: u32) -> bool
-        requires { x < self.now.size }
-        ensures { result ≡ all_below self.now.size (λ y. implies ((meaning self.now).in_role role x y) ((meaning self.now).in_role other x y)) }
-    {
-        prove!(x < self.size);
-        self.links
-            .range((role, x, 0)..(role, x + 1, 0))
-            .all(|link| self.is_pair_unless_outside(other, x, link.2))
-    }
-
-    fn passes_on(&self, role: u32, x: u32, y: u32) -> bool
+    /// Whether each successor of y in the role is one of x in the other role.
+    pub(crate) fn row_within(&self, role: u32, y: u32, other: u32, x: u32) -> bool
         requires { y < self.now.size }
-        ensures { result ≡ all_below self.now.size (λ z. implies ((meaning self.now).in_role role y z) ((meaning self.now).in_role role x z)) }
+        ensures { result ≡ row_within (meaning self.now) role y other x }
     {
         prove!(y < self.size);
         self.links
             .range((role, y, 0)..(role, y + 1, 0))
-            .all(|link| self.is_pair_unless_outside(role, x, link.2))
+            .all(|link| self.is_pair_unless_outside(other, x, link.2))
     }
 
     // Whether the element y is outside the domain, or x has the successors of y.
-    fn passes_on_unless_outside(&self, role: u32, x: u32, y: u32) -> bool
-        ensures { result ≡ (nat_le self.now.size y || all_below self.now.size (λ z. implies ((meaning self.now).in_role role y z) ((meaning self.now).in_role role x z))) }
+    fn hands_on_unless_outside(&self, role: u32, x: u32, y: u32) -> bool
+        ensures { result ≡ (nat_le self.now.size y || row_within (meaning self.now) role y role x) }
     {
-        y >= self.size || self.passes_on(role, x, y)
+        y >= self.size || self.row_within(role, y, role, x)
     }
 
     pub(crate) fn row_is_transitive(&self, role: u32, x: u32) -> bool
         requires { x < self.now.size }
-        ensures { result ≡ all_below self.now.size (λ y. implies ((meaning self.now).in_role role x y) (all_below self.now.size (λ z. implies ((meaning self.now).in_role role y z) ((meaning self.now).in_role role x z)))) }
+        ensures { result ≡ row_is_transitive (meaning self.now) role x }
     {
         prove!(x < self.size);
         self.links
             .range((role, x, 0)..(role, x + 1, 0))
-            .all(|link| self.passes_on_unless_outside(role, x, link.2))
+            .all(|link| self.hands_on_unless_outside(role, x, link.2))
     }
 }

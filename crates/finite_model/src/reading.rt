@@ -1,8 +1,9 @@
 // The text of a model, as it stands in a certificate.
 ghost use Rattle.std.specs.Prelude.{◌≡◌, ◌<◌, ◌≤◌, map, length, nat_eq, position, All, Some, IfOk, IfErr, OnOk, IfSome, codes};
+ghost use Rattle.certificate_lines.specs.Lines.{bytes_of};
 ghost use Rattle.certificate_lines.specs.Malformed.{IsFaultOf, IsFaultAt, IsFaultOfLine};
-ghost use Rattle.finite_model.specs.ModelText.{element_in, elements_from, pair_at, pair_in, pair_from, pairs_from, named_in, class_line, role_line, with_class, with_role, with_elements, with_pairs, is_role_line, class_read, role_read, line_read, body_from, size_line, model_of};
-ghost use Rattle.finite_model.specs.Malformed.{malformed_from, first_malformed};
+ghost use Rattle.finite_model.specs.ModelText.{element_in, elements_from, pair_at, pair_in, pair_from, pairs_in, subject_in, class_line_in, role_line_in, with_class, with_role, with_elements, with_pairs, is_role_line, class_read, role_read, model_line_read, model_body, size_line, model_of};
+ghost use Rattle.finite_model.specs.Malformed.{malformed_model_line, malformed_in_model};
 ghost use Rattle.finite_model.specs.BodyRead.{body_of, class_of, role_of};
 
 use crate::{Interp, ModelFault};
@@ -14,16 +15,18 @@ use std::collections::BTreeSet;
 /// The model whose text these lines are: `model N`, lines `class NAME X ..` and `role NAME X,Y ..` in any order, the line
 /// `end`, and blank lines. A name is the full IRI of a listed class or role between `<` and `>`, and has one line at most
 /// as a class and one as a role. Elements are below N and ascend strictly on their line. Pairs ascend strictly by the
-/// first element and then by the second.
+/// first element and then by the second. A line `class NAME` without an element is malformed, and so is a line `role NAME`
+/// without a pair: what is empty has no line.
 ///
 /// # Errors
 ///
 /// `Malformed` exactly where the lines are no such text, and `NoMemory`. The first of the lines has the number 2. The
-/// malformed line is the first with which no text begins, or the line behind the last where a text begins with them all.
+/// malformed line is the first with which no text begins, or the line after the last where a text begins with them all.
+/// After an error nothing of what was read is left, and the ontology and the lines are as they were.
 pub fn read_text(alloc: Global, lines: &[&[u8]], ontology: &Ontology) -> Result<Interp, ModelFault>
-    ensures model { IfOk result (λ k. model_of ontology.now (map (λ l. l.now) lines.now) ≡ Some k) }
-    ensures fault { IfErr result (IsFaultOf (model_of ontology.now (map (λ l. l.now) lines.now))) }
-    ensures line { IfErr result (IsFaultOfLine (first_malformed ontology.now (map (λ l. l.now) lines.now))) }
+    ensures model { IfOk result (λ k. model_of ontology.now (bytes_of lines.now) ≡ Some k) }
+    ensures fault { IfErr result (IsFaultOf (model_of ontology.now (bytes_of lines.now))) }
+    ensures line { IfErr result (IsFaultOfLine (malformed_model_line ontology.now (bytes_of lines.now))) }
 {
     if lines.is_empty() {
         return Err(ModelFault::Malformed(2));
@@ -41,7 +44,7 @@ pub fn read_text(alloc: Global, lines: &[&[u8]], ontology: &Ontology) -> Result<
 }
 
 fn read_size(words: &[&[u8]]) -> Option<u32>
-    ensures size { result ≡ size_line (map (λ w. w.now) words.now) }
+    ensures size { result ≡ size_line (bytes_of words.now) }
     ensures some { IfSome result (λ n. 1 ≤ n) }
 {
     match words {
@@ -67,9 +70,9 @@ fn read_body(
     ontology: &Ontology,
     mut body: BodyRead,
 ) -> Result<Interp, ModelFault>
-    ensures model { IfOk result (λ k. body_from ontology.now (body_of body) (map (λ l. l.now) lines.now) ≡ Some k) }
-    ensures fault { IfErr result (IsFaultOf (body_from ontology.now (body_of body) (map (λ l. l.now) lines.now))) }
-    ensures line { IfErr result (IsFaultOfLine (malformed_from ontology.now 3 (body_of body) (map (λ l. l.now) lines.now))) }
+    ensures model { IfOk result (λ k. model_body ontology.now (body_of body) (bytes_of lines.now) ≡ Some k) }
+    ensures fault { IfErr result (IsFaultOf (model_body ontology.now (body_of body) (bytes_of lines.now))) }
+    ensures line { IfErr result (IsFaultOfLine (malformed_in_model ontology.now (body_of body) (bytes_of lines.now))) }
 {
     for index in 0..lines.len() {
         if lines[index] == b"end".as_slice() {
@@ -91,8 +94,8 @@ fn read_line(
     ontology: &Ontology,
     body: &mut BodyRead,
 ) -> Result<(), ModelFault>
-    ensures read { OnOk result (line_read ontology.now (body_of body.old) line.now ≡ Some (body_of body.new)) }
-    ensures fault { IfErr result (IsFaultAt number (line_read ontology.now (body_of body.old) line.now)) }
+    ensures read { OnOk result (model_line_read ontology.now (body_of body.old) line.now ≡ Some (body_of body.new)) }
+    ensures fault { IfErr result (IsFaultAt number (model_line_read ontology.now (body_of body.old) line.now)) }
 {
     let words = words(alloc, line)?;
     if is_role_line(&words) {
@@ -103,7 +106,7 @@ fn read_line(
 }
 
 fn is_role_line(words: &[&[u8]]) -> bool
-    ensures { result ≡ is_role_line (map (λ w. w.now) words.now) }
+    ensures { result ≡ is_role_line (bytes_of words.now) }
 {
     !words.is_empty() && words[0] == b"role".as_slice()
 }
@@ -115,8 +118,8 @@ fn add_class_line(
     ontology: &Ontology,
     body: &mut BodyRead,
 ) -> Result<(), ModelFault>
-    ensures read { OnOk result (class_read ontology.now (body_of body.old) (map (λ w. w.now) words.now) ≡ Some (body_of body.new)) }
-    ensures fault { IfErr result (IsFaultAt number (class_read ontology.now (body_of body.old) (map (λ w. w.now) words.now))) }
+    ensures read { OnOk result (class_read ontology.now (body_of body.old) (bytes_of words.now) ≡ Some (body_of body.new)) }
+    ensures fault { IfErr result (IsFaultAt number (class_read ontology.now (body_of body.old) (bytes_of words.now))) }
 {
     let line = read_class_line(alloc, words, number, ontology, body.model.size())?;
     put_class_line(body, number, &line)
@@ -129,8 +132,8 @@ fn add_role_line(
     ontology: &Ontology,
     body: &mut BodyRead,
 ) -> Result<(), ModelFault>
-    ensures read { OnOk result (role_read ontology.now (body_of body.old) (map (λ w. w.now) words.now) ≡ Some (body_of body.new)) }
-    ensures fault { IfErr result (IsFaultAt number (role_read ontology.now (body_of body.old) (map (λ w. w.now) words.now))) }
+    ensures read { OnOk result (role_read ontology.now (body_of body.old) (bytes_of words.now) ≡ Some (body_of body.new)) }
+    ensures fault { IfErr result (IsFaultAt number (role_read ontology.now (body_of body.old) (bytes_of words.now))) }
 {
     let line = read_role_line(alloc, words, number, ontology, body.model.size())?;
     put_role_line(body, number, &line)
@@ -190,8 +193,8 @@ fn read_class_line(
     size: u32,
 ) -> Result<ClassRead, ModelFault>
     ensures below { IfOk result (λ c. All (λ x. x < size) c.elements.items) }
-    ensures line { IfOk result (λ c. class_line ontology.now size (map (λ w. w.now) words.now) ≡ Some (class_of c)) }
-    ensures fault { IfErr result (IsFaultAt number (class_line ontology.now size (map (λ w. w.now) words.now))) }
+    ensures line { IfOk result (λ c. class_line_in ontology.now size (bytes_of words.now) ≡ Some (class_of c)) }
+    ensures fault { IfErr result (IsFaultAt number (class_line_in ontology.now size (bytes_of words.now))) }
 {
     let Some(class) = read_class(words, ontology) else {
         return Err(ModelFault::Malformed(number));
@@ -209,8 +212,8 @@ fn read_role_line(
     size: u32,
 ) -> Result<RoleRead, ModelFault>
     ensures below { IfOk result (λ r. All (λ p. (p.from < size) × (p.to < size)) r.pairs.items) }
-    ensures line { IfOk result (λ r. role_line ontology.now size (map (λ w. w.now) words.now) ≡ Some (role_of r)) }
-    ensures fault { IfErr result (IsFaultAt number (role_line ontology.now size (map (λ w. w.now) words.now))) }
+    ensures line { IfOk result (λ r. role_line_in ontology.now size (bytes_of words.now) ≡ Some (role_of r)) }
+    ensures fault { IfErr result (IsFaultAt number (role_line_in ontology.now size (bytes_of words.now))) }
 {
     let Some(role) = read_role(words, ontology) else {
         return Err(ModelFault::Malformed(number));
@@ -221,7 +224,7 @@ fn read_role_line(
 
 // The class that the first words name, where an element follows them.
 fn read_class(words: &[&[u8]], ontology: &Ontology) -> Option<u32>
-    ensures value { result ≡ named_in (codes "class") ontology.now.classes (map (λ w. w.now) words.now) }
+    ensures value { result ≡ subject_in (codes "class") ontology.now.classes (bytes_of words.now) }
     ensures long { IfSome result (λ _. 3 ≤ length words.now) }
 {
     if words.len() < 3 || words[0] != b"class".as_slice() {
@@ -232,7 +235,7 @@ fn read_class(words: &[&[u8]], ontology: &Ontology) -> Option<u32>
 
 // The role that the first words name, where a pair follows them.
 fn read_role(words: &[&[u8]], ontology: &Ontology) -> Option<u32>
-    ensures value { result ≡ named_in (codes "role") ontology.now.roles (map (λ w. w.now) words.now) }
+    ensures value { result ≡ subject_in (codes "role") ontology.now.roles (bytes_of words.now) }
     ensures long { IfSome result (λ _. 3 ≤ length words.now) }
 {
     if words.len() < 3 || words[0] != b"role".as_slice() {
@@ -248,8 +251,8 @@ fn read_elements(
     size: u32,
 ) -> Result<Vec<u32>, ModelFault>
     ensures below { IfOk result (λ xs. All (λ x. x < size) xs.items) }
-    ensures elements { IfOk result (λ xs. elements_from 0 size (map (λ w. w.now) words.now) ≡ Some xs.items) }
-    ensures fault { IfErr result (IsFaultAt number (elements_from 0 size (map (λ w. w.now) words.now))) }
+    ensures elements { IfOk result (λ xs. elements_from 0 size (bytes_of words.now) ≡ Some xs.items) }
+    ensures fault { IfErr result (IsFaultAt number (elements_from 0 size (bytes_of words.now))) }
 {
     let mut elements = Vec::new(alloc);
     let mut low = 0;
@@ -279,8 +282,8 @@ fn read_pairs(
     size: u32,
 ) -> Result<Vec<Pair>, ModelFault>
     ensures below { IfOk result (λ ps. All (λ p. (p.from < size) × (p.to < size)) ps.items) }
-    ensures pairs { IfOk result (λ ps. pairs_from (record { from = 0; to = 0 }) size (map (λ w. w.now) words.now) ≡ Some ps.items) }
-    ensures fault { IfErr result (IsFaultAt number (pairs_from (record { from = 0; to = 0 }) size (map (λ w. w.now) words.now))) }
+    ensures pairs { IfOk result (λ ps. pairs_in size (bytes_of words.now) ≡ Some ps.items) }
+    ensures fault { IfErr result (IsFaultAt number (pairs_in size (bytes_of words.now))) }
 {
     let mut pairs = Vec::new(alloc);
     let mut low = Pair { from: 0, to: 0 };

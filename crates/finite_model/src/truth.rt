@@ -65,7 +65,7 @@ impl Interp {
         let mut count = 0;
         let mut from = 0;
         while let Some(y) = self.next_successor(role, x, from) {
-            from = self.behind(y);
+            from = self.after(y);
             count += self.holds(filler, y) as u32;
         }
         count
@@ -81,7 +81,7 @@ impl Interp {
             if !self.holds(filler, y) {
                 return false;
             }
-            from = self.behind(y);
+            from = self.after(y);
         }
         true
     }
@@ -155,7 +155,7 @@ impl Interp {
             if self.refutes_at(query, x) {
                 return Some(x);
             }
-            from = self.behind(x);
+            from = self.after(x);
         }
         None
     }

@@ -2,7 +2,7 @@
 ghost use Rattle.std.specs.Prelude.{◌≡◌, ◌++◌, codes, decimal, IsTrue, IfOk, OnOk, OnErr};
 ghost use Rattle.std.specs.List.{flat_map};
 ghost use Rattle.finite_model.specs.ReadBack.{IsKept};
-ghost use Rattle.finite_model.specs.Written.{element_text, pair_text, class_text, role_text, class_texts, role_texts, model_text, is_listed};
+ghost use Rattle.finite_model.specs.Written.{element_text, pair_text, class_line, role_line, class_lines, role_lines, model_text, uses_listed_names};
 
 use crate::{Interp, NoMemory};
 use shq_terms::Ontology;
@@ -10,7 +10,7 @@ use std::alloc::Global;
 
 impl Interp {
     /// Appends the text of the interpretation, or nothing: `model N`, a line `class <IRI> X ..` for each class that has
-    /// elements, a line `role <IRI> X,Y ..` for each role that has pairs, and `end`, each with a line feed behind it.
+    /// elements, a line `role <IRI> X,Y ..` for each role that has pairs, and `end`, each with a line feed after it.
     /// Classes and roles stand in list order, and the items of a line ascend. Each class and role of which something was
     /// put is listed. The memory is `alloc`'s.
     ///
@@ -23,7 +23,7 @@ impl Interp {
         out: &mut Vec<u8>,
         ontology: &Ontology,
     ) -> Result<(), NoMemory>
-        requires { IsTrue (is_listed ontology.now self.now) }
+        requires { IsTrue (uses_listed_names ontology.now self.now) }
         ensures text { OnOk result (out.new.items ≡ out.old.items ++ model_text ontology.now self.now) }
         ensures unchanged { OnErr result (out.new.items ≡ out.old.items) }
         ensures kept { IsKept ontology.now self.now }
@@ -53,7 +53,7 @@ impl Interp {
         text: &mut Vec<u8>,
         ontology: &Ontology,
     ) -> Result<(), NoMemory>
-        ensures { OnOk result (text.new.items ≡ text.old.items ++ class_texts 0 ontology.now.classes self.now.members) }
+        ensures { OnOk result (text.new.items ≡ text.old.items ++ class_lines 0 ontology.now.classes self.now.members) }
     {
         for class in 0..ontology.class_count() {
             let elements = self.elements(alloc, class)?;
@@ -68,7 +68,7 @@ impl Interp {
         text: &mut Vec<u8>,
         ontology: &Ontology,
     ) -> Result<(), NoMemory>
-        ensures { OnOk result (text.new.items ≡ text.old.items ++ role_texts 0 ontology.now.roles self.now.links) }
+        ensures { OnOk result (text.new.items ≡ text.old.items ++ role_lines 0 ontology.now.roles self.now.links) }
     {
         for role in 0..ontology.role_count() {
             let pairs = self.pairs(alloc, role)?;
@@ -84,7 +84,7 @@ fn push_class(
     name: &str,
     elements: &[u32],
 ) -> Result<(), NoMemory>
-    ensures { OnOk result (text.new.items ≡ text.old.items ++ class_text name.now elements.now) }
+    ensures { OnOk result (text.new.items ≡ text.old.items ++ class_line name.now elements.now) }
 {
     if elements.is_empty() {
         return Ok(());
@@ -101,7 +101,7 @@ fn push_role(
     name: &str,
     pairs: &[(u32, u32, u32)],
 ) -> Result<(), NoMemory>
-    ensures { OnOk result (text.new.items ≡ text.old.items ++ role_text name.now pairs.now) }
+    ensures { OnOk result (text.new.items ≡ text.old.items ++ role_line name.now pairs.now) }
 {
     if pairs.is_empty() {
         return Ok(());

@@ -10,7 +10,7 @@ use Rattle.lane_sieve.proofs.Ranges.{any-passing}
 use Rattle.lane_sieve.proofs.Bits.{contains_insert}
 use Rattle.axiom_sets.specs.Sets.{Limited, IsWithin, member_list}
 use Rattle.shape_specs.specs.Rows.{is_ascending}
-use Rattle.refutation_tree.specs.RefutationText.{are_axiom_numbers, with_numbers, axiom_set, axioms_of, axioms_line}
+use Rattle.refutation_tree.specs.RefutationText.{are_axiom_numbers, with_numbers, axiom_set, axioms_numbered, axioms_line}
 use Rattle.refutation_tree.proofs.FieldsBack.{are_small, numbers_back}
 
 -- ---- numbers of a range that pass a test
@@ -89,6 +89,6 @@ module _ (s : Limited) (within : IsWithin s.limit s.members) where
 
   pub axioms_back : s.limit < 2 ^ 32 → axioms_line s.limit (codes "axioms" ∷ map decimal (member_list s)) ≡ Some s
   axioms_back small =
-      ap (option_and_then (axioms_of s.limit)) (numbers_back (member_list s) (members_small small))
+      ap (option_and_then (axioms_numbered s.limit)) (numbers_back (member_list s) (members_small small))
       ∙ ap (λ b. if b then Some (axiom_set s.limit (member_list s)) else None) are_numbers
       ∙ ap Some members_again

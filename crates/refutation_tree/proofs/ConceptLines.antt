@@ -10,7 +10,7 @@ use Rattle.shape_specs.specs.Shape.Shape.{top}
 use Rattle.refutation_tree.specs.Shapes.{shape_at}
 use Rattle.refutation_tree.specs.Written.{concept_line, concept_lines, shape_is_listed}
 
--- the shape at a place, and those behind it
+-- the shape at a place, and those after it
 pub shape_first : (shapes : List Shape) (i : ℕ) → i < length shapes → drop i shapes ≡ shape_at shapes (i + 1) ∷ drop (i + 1) shapes
 shape_first shapes i lt =
     let next : suc i ≡ i + 1 = omega arith in

@@ -9,10 +9,9 @@ use Rattle.std.proofs.lemmas.List.Sums.{AllPass-from_list_all}
 use Rattle.certificate_lines.specs.Lines.{number_in}
 use Rattle.certificate_lines.proofs.ReadBack.{number_read, iri_read}
 use Rattle.shq_terms.proofs.Distinct.{place_is_number}
-use Rattle.finite_model.specs.ReadBack.{is_plain, AreNames}
-use Rattle.finite_model.proofs.TextLines.{plain_decimal, plain_iri}
-use Rattle.refutation_tree.specs.RefutationText.{numbers_in, named_in}
-use Rattle.refutation_tree.specs.Written.{iri_word}
+use Rattle.certificate_lines.specs.Names.{is_word_byte}
+use Rattle.certificate_lines.proofs.Plain.{plain_decimal}
+use Rattle.refutation_tree.specs.RefutationText.{numbers_in}
 
 -- the numbers fit 32 bits
 abbrev pub are_small : List ℕ → Bool
@@ -28,20 +27,11 @@ numbers_back (n ∷ ns) small =
     ap (λ (r : Option ℕ). elim r [ None ↦ None | Some m ↦ option_map (λ ms. m ∷ ms) (numbers_in (map decimal ns)) ]) (number_back n parts.0)
     ∙ ap (option_map (λ ms. n ∷ ms)) (numbers_back ns parts.1)
 
-pub number_plain : (n : ℕ) → nat_lt n (2 ^ 32) ≡ true → list_all is_plain (decimal n) ≡ true
+pub number_plain : (n : ℕ) → nat_lt n (2 ^ 32) ≡ true → list_all is_word_byte (decimal n) ≡ true
 number_plain n small = plain_decimal n (ltb-true n (2 ^ 32) small)
 
-pub numbers_plain : (ns : List ℕ) → are_small ns ≡ true → list_all (list_all is_plain) (map decimal ns) ≡ true
+pub numbers_plain : (ns : List ℕ) → are_small ns ≡ true → list_all (list_all is_word_byte) (map decimal ns) ≡ true
 numbers_plain [] small = refl
 numbers_plain (n ∷ ns) small =
     let parts = and_parts (nat_lt n (2 ^ 32)) (are_small ns) small in
-    and_from (list_all is_plain (decimal n)) (list_all (list_all is_plain) (map decimal ns)) (number_plain n parts.0) (numbers_plain ns parts.1)
-
-module _ (names : List (List ℕ)) (are : AreNames names) (n : ℕ) (listed : nat_lt n (length names) ≡ true) where
-  pub name_back : named_in names (iri_word names n) ≡ Some n
-  name_back =
-      ap (option_and_then (λ i. position (bytes_eq i) names)) (iri_read (get_or names n []))
-      ∙ place_is_number names (get_or names n []) n are.distinct (slice_get-get_or names n [] (ltb-true n (length names) listed))
-
-  pub name_plain : list_all is_plain (iri_word names n) ≡ true
-  name_plain = plain_iri (get_or names n []) (AllPass-from_list_all (list_all is_plain) names are.plain n [] (ltb-true n (length names) listed))
+    and_from (list_all is_word_byte (decimal n)) (list_all (list_all is_word_byte) (map decimal ns)) (number_plain n parts.0) (numbers_plain ns parts.1)

@@ -2,14 +2,15 @@
 use Rattle.std.proofs.Common.{◌≡◌, ℕ, ◌+◌, ◌≤◌, Bool, true, false, List, [], ◌∷◌, ◌++◌, length, refl, ap, Option, Some, None, arith, length-append}
 use Rattle.std.specs.Prelude.{option_and_then, if◌then◌else◌}
 use Rattle.std.specs.List.{list_all}
-use Rattle.certificate_lines.specs.Lines.{words, is_blank}
+use Rattle.certificate_lines.specs.Lines.{words}
+use Rattle.certificate_lines.proofs.Body.{body_keeps}
 use Rattle.shq_terms.specs.Listed.{Listed}
 use Rattle.shape_specs.specs.Shape.{Shape}
 use Rattle.refutation_specs.specs.Line.{Line}
 use Rattle.refutation_tree.specs.Shapes.{admits}
 use Rattle.refutation_tree.specs.RuleLine.{names_concepts}
 use Rattle.refutation_tree.specs.RefutationLists.{RefutationLists}
-use Rattle.refutation_tree.specs.RefutationText.{concept_in, rule_line, with_shape, with_line, concept_read, is_concept_line, line_read, is_end, body_from}
+use Rattle.refutation_tree.specs.RefutationText.{concept_in, rule_line, with_shape, with_line, concept_read, is_concept_line, refutation_line_read, refutation_body}
 use Rattle.refutation_tree.proofs.Writable.{and_then_some, when_some}
 
 shape_adds : (k next : RefutationLists) (s : Shape) → with_shape k s ≡ Some next → length next.lines ≤ length k.lines + 1
@@ -35,19 +36,11 @@ module _ (o : Listed) where
   words_add k next ws true h = concept_adds k next k.lines ws h
   words_add k next ws false h = let line = and_then_some (with_line k) (rule_line o ws) next h in line_adds k next line.0 line.2
 
-  pub body_adds : (k m : RefutationLists) (ls : List (List ℕ)) → body_from o k ls ≡ Some m → length m.lines ≤ length k.lines + length ls
-  body_adds k m [] h = cc
-  body_adds k m (l ∷ ls) h = by_end (λ next. body_adds next m ls) (is_end l) h
-    where
-      by_end : ((next : RefutationLists) → body_from o next ls ≡ Some m → length m.lines ≤ length next.lines + length ls) → (e : Bool)
-          → (elim e [ true ↦ if list_all is_blank ls then Some k else None | false ↦ elim (line_read o k l) [ None ↦ None | Some next ↦ body_from o next ls ] ]) ≡ Some m → length m.lines ≤ length k.lines + length (l ∷ ls)
-      by_end rest true g =
-          let last = when_some (list_all is_blank ls) (Some k) m g in
-          let same : k ≡ m = cc last.1 in
-          let lines : length k.lines ≡ length m.lines = ap (λ (n : RefutationLists). length n.lines) same in
-          omega (arith, lines)
-      by_end rest false g = by_line (line_read o k l) refl g
-        where
-          by_line : (read : Option RefutationLists) → line_read o k l ≡ read → (elim read [ None ↦ None | Some next ↦ body_from o next ls ]) ≡ Some m → length m.lines ≤ length k.lines + length (l ∷ ls)
-          by_line None is f = cc
-          by_line (Some next) is f = omega (arith, rest next f, words_add k next (words l) (is_concept_line (words l)) is)
+  line_read_adds : (first : ℕ) (n : ℕ) (k next : RefutationLists) (l : List ℕ) → length k.lines ≤ first + n → refutation_line_read o k l ≡ Some next → length next.lines ≤ first + (n + 1)
+  line_read_adds first n k next l few h = omega (arith, few, words_add k next (words l) (is_concept_line (words l)) h)
+
+  pub body_adds : (k m : RefutationLists) (ls : List (List ℕ)) → refutation_body o k ls ≡ Some m → length m.lines ≤ length k.lines + length ls
+  body_adds k m ls h =
+      let ends = body_keeps (refutation_line_read o) (λ last. last) (λ n b. length b.lines ≤ length k.lines + n) (line_read_adds (length k.lines)) 0 k m ls (omega arith) h in
+      let lines : length ends.last.lines ≡ length m.lines = ap (λ (n : RefutationLists). length n.lines) ends.becomes in
+      omega (arith, ends.keeps, ends.within, lines)

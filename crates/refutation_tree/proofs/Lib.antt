@@ -1,6 +1,6 @@
 pub mod Words
 pub mod Shapes
-pub mod Kept
+pub mod ShapePushed
 pub mod FirstLine
 pub mod ConceptLines
 pub mod FieldsBack

@@ -1,4 +1,4 @@
--- Shapes that are numbered from 1 are normal over all of them, behind top.
+-- Shapes that are numbered from 1 are normal over all of them, after top.
 use Rattle.std.proofs.Common.{◌≡◌, ℕ, zero, suc, ◌+◌, ◌<◌, ◌≤◌, true, List, [], ◌∷◌, length, take, refl, ap, sym, ◌∙◌, arith}
 use Rattle.std.specs.Prelude.{nat_lt, slice_index_or}
 use Rattle.std.specs.List.{list_all}

@@ -5,18 +5,18 @@ use Rattle.std.specs.List.{list_all, flat_map}
 use Rattle.std.specs.Str.{bytes_eq}
 use Rattle.std.proofs.lemmas.Bool.{and_parts, and_from}
 use Rattle.certificate_lines.specs.Lines.{words, number_in}
+use Rattle.certificate_lines.specs.Body.{is_end_line}
 use Rattle.certificate_lines.specs.Written.{is_line}
-use Rattle.certificate_lines.proofs.ReadBack.{words_read}
 use Rattle.shq_terms.specs.Listed.{Listed}
 use Rattle.refutation_specs.specs.Line.{Line}
 use Rattle.refutation_specs.specs.Line.Line.{start_line, and_line, or_line, all_line, carry_line, row_line, range_line, some_line, least_line, choose_line, pair_line, bottom_line, clash_line, most_line}
-use Rattle.finite_model.specs.ReadBack.{is_plain, AreNames}
-use Rattle.finite_model.proofs.TextLines.{words_of_plain, line_of_plain}
+use Rattle.certificate_lines.specs.Names.{is_word_byte, AreNames}
+use Rattle.certificate_lines.proofs.Plain.{plain_words, plain_line}
 use Rattle.refutation_tree.specs.RuleLine.{names_concepts}
 use Rattle.refutation_tree.specs.RefutationLists.{RefutationLists}
 use Rattle.refutation_tree.specs.Keywords.{line_kind}
-use Rattle.refutation_tree.specs.RefutationText.{restriction_in, numbered_line, rule_in, rule_line, concept_read, with_line, words_read as read_words, line_read, is_end}
-use Rattle.refutation_tree.specs.Written.{iri_word, line_keyword, line_fields, rule_text, line_is_listed}
+use Rattle.refutation_tree.specs.RefutationText.{restriction_in, numbered_line, rule_in, rule_line, concept_read, with_line, refutation_words_read, refutation_line_read}
+use Rattle.refutation_tree.specs.Written.{listed_word, line_keyword, line_fields, rule_text, line_is_listed}
 use Rattle.refutation_tree.specs.ReadBack.{has_nodes, is_small}
 use Rattle.refutation_tree.specs.declared.keywords.LineKind.{LineKind}
 use Rattle.refutation_tree.specs.declared.keywords.LineKind.TheVariants as L
@@ -44,9 +44,9 @@ kind_of (most_line x c ys) = L.Most
 -- what its keyword says
 record IsKeywordOf (line : Line) : Type 0 where
   kind : line_kind (line_keyword line) ≡ Some (kind_of line)
-  plain : list_all is_plain (line_keyword line) ≡ true
+  plain : list_all is_word_byte (line_keyword line) ≡ true
   no_concept : bytes_eq (line_keyword line) (codes "concept") ≡ false
-  no_end : (more : List ℕ) → is_end (line_keyword line ++ more) ≡ false
+  no_end : (more : List ℕ) → is_end_line (line_keyword line ++ more) ≡ false
 
 keyword_is : (line : Line) → IsKeywordOf line
 unfolding line_kind
@@ -70,12 +70,12 @@ most_back x c [] h = cc
 most_back x c (y ∷ ys) h = refl
 
 module _ (o : Listed) (classes : AreNames o.classes) (roles : AreNames o.roles) where
-  carry_back : (x y r c : ℕ) → nat_lt r (length o.roles) ≡ true → are_small (x ∷ y ∷ c ∷ []) ≡ true → rule_in o L.Carry (decimal x ∷ decimal y ∷ iri_word o.roles r ∷ decimal c ∷ []) ≡ Some (carry_line x y r c)
+  carry_back : (x y r c : ℕ) → nat_lt r (length o.roles) ≡ true → are_small (x ∷ y ∷ c ∷ []) ≡ true → rule_in o L.Carry (decimal x ∷ decimal y ∷ listed_word o.roles r ∷ decimal c ∷ []) ≡ Some (carry_line x y r c)
   carry_back x y r c listed small =
       let first = and_parts (nat_lt x (2 ^ 32)) (are_small (y ∷ c ∷ [])) small in
       let second = and_parts (nat_lt y (2 ^ 32)) (are_small (c ∷ [])) first.1 in
       let third = and_parts (nat_lt c (2 ^ 32)) true second.1 in
-      let fields = iri_word o.roles r ∷ decimal c ∷ [] in
+      let fields = listed_word o.roles r ∷ decimal c ∷ [] in
       ap (option_and_then (λ m. option_and_then (λ n. option_map (λ (q : Restriction). carry_line m n q.role q.filler) (restriction_in o fields)) (number_in (decimal y)))) (number_back x first.0)
       ∙ ap (option_and_then (λ n. option_map (λ (q : Restriction). carry_line x n q.role q.filler) (restriction_in o fields))) (number_back y second.0)
       ∙ ap (option_map (λ (q : Restriction). carry_line x y q.role q.filler)) (restriction_back o classes roles r c listed third.0)
@@ -96,14 +96,14 @@ module _ (o : Listed) (classes : AreNames o.classes) (roles : AreNames o.roles) 
   fields_back (clash_line x c) listed nodes small = ap (option_and_then (numbered_line L.Clash)) (numbers_back (x ∷ c ∷ []) small)
   fields_back (most_line x c ys) listed nodes small = ap (option_and_then (numbered_line L.Most)) (numbers_back (x ∷ c ∷ ys) small) ∙ most_back x c ys nodes
 
-  carry_plain : (x y r c : ℕ) → nat_lt r (length o.roles) ≡ true → are_small (x ∷ y ∷ c ∷ []) ≡ true → list_all (list_all is_plain) (decimal x ∷ decimal y ∷ iri_word o.roles r ∷ decimal c ∷ []) ≡ true
+  carry_plain : (x y r c : ℕ) → nat_lt r (length o.roles) ≡ true → are_small (x ∷ y ∷ c ∷ []) ≡ true → list_all (list_all is_word_byte) (decimal x ∷ decimal y ∷ listed_word o.roles r ∷ decimal c ∷ []) ≡ true
   carry_plain x y r c listed small =
       let first = and_parts (nat_lt x (2 ^ 32)) (are_small (y ∷ c ∷ [])) small in
       let second = and_parts (nat_lt y (2 ^ 32)) (are_small (c ∷ [])) first.1 in
-      and_from (list_all is_plain (decimal x)) (list_all (list_all is_plain) (decimal y ∷ iri_word o.roles r ∷ decimal c ∷ [])) (number_plain x first.0)
-      (and_from (list_all is_plain (decimal y)) (list_all (list_all is_plain) (iri_word o.roles r ∷ decimal c ∷ [])) (number_plain y second.0) (restriction_plain o classes roles r c listed second.1))
+      and_from (list_all is_word_byte (decimal x)) (list_all (list_all is_word_byte) (decimal y ∷ listed_word o.roles r ∷ decimal c ∷ [])) (number_plain x first.0)
+      (and_from (list_all is_word_byte (decimal y)) (list_all (list_all is_word_byte) (listed_word o.roles r ∷ decimal c ∷ [])) (number_plain y second.0) (restriction_plain o classes roles r c listed second.1))
 
-  fields_plain : (line : Line) → line_is_listed o line ≡ true → is_small line ≡ true → list_all (list_all is_plain) (line_fields o line) ≡ true
+  fields_plain : (line : Line) → line_is_listed o line ≡ true → is_small line ≡ true → list_all (list_all is_word_byte) (line_fields o line) ≡ true
   fields_plain (carry_line x y r c) listed small = carry_plain x y r c listed small
   fields_plain start_line listed small = refl
   fields_plain (and_line x c) listed small = numbers_plain (x ∷ c ∷ []) small
@@ -120,24 +120,24 @@ module _ (o : Listed) (classes : AreNames o.classes) (roles : AreNames o.roles) 
   fields_plain (most_line x c ys) listed small = numbers_plain (x ∷ c ∷ ys) small
 
   module _ (line : Line) (listed : line_is_listed o line ≡ true) (nodes : has_nodes line ≡ true) (small : is_small line ≡ true) where
-    all_plain : list_all (list_all is_plain) (line_keyword line ∷ line_fields o line) ≡ true
-    all_plain = and_from (list_all is_plain (line_keyword line)) (list_all (list_all is_plain) (line_fields o line)) (keyword_is line).plain (fields_plain line listed small)
+    all_plain : list_all (list_all is_word_byte) (line_keyword line ∷ line_fields o line) ≡ true
+    all_plain = and_from (list_all is_word_byte (line_keyword line)) (list_all (list_all is_word_byte) (line_fields o line)) (keyword_is line).plain (fields_plain line listed small)
 
     pub rule_is_line : is_line (rule_text o line) ≡ true
-    rule_is_line = line_of_plain (line_keyword line) (line_fields o line) all_plain
+    rule_is_line = plain_line (line_keyword line) (line_fields o line) all_plain
 
     rule_words : words (rule_text o line) ≡ line_keyword line ∷ line_fields o line
-    rule_words = words_read (line_keyword line) (line_fields o line) (words_of_plain (line_keyword line ∷ line_fields o line) all_plain)
+    rule_words = plain_words (line_keyword line) (line_fields o line) all_plain
 
     rule_back : rule_line o (line_keyword line ∷ line_fields o line) ≡ Some line
     rule_back = ap (option_and_then (λ kind. rule_in o kind (line_fields o line))) (keyword_is line).kind ∙ fields_back line listed nodes small
 
-    pub line_back : (k : RefutationLists) → names_concepts k.shapes line ≡ true → line_read o k (rule_text o line) ≡ Some (record k { lines = k.lines ++ line ∷ [] })
+    pub line_back : (k : RefutationLists) → names_concepts k.shapes line ≡ true → refutation_line_read o k (rule_text o line) ≡ Some (record k { lines = k.lines ++ line ∷ [] })
     line_back k known =
-        ap (read_words o k) rule_words
+        ap (refutation_words_read o k) rule_words
         ∙ ap (λ b. if b then concept_read o k k.lines (line_keyword line ∷ line_fields o line) else option_and_then (with_line k) (rule_line o (line_keyword line ∷ line_fields o line))) (keyword_is line).no_concept
         ∙ ap (option_and_then (with_line k)) rule_back
         ∙ ap (λ b. if b then Some (record k { lines = k.lines ++ line ∷ [] }) else None) known
 
-    pub line_goes_on : is_end (rule_text o line) ≡ false
+    pub line_goes_on : is_end_line (rule_text o line) ≡ false
     line_goes_on = (keyword_is line).no_end (flat_map (λ w. 32 ∷ w) (line_fields o line))

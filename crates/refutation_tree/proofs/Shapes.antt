@@ -11,7 +11,7 @@ use Rattle.shq_nnf.specs.declared.shapes.KeptShape.{KeptShape}
 use Rattle.shq_nnf.specs.declared.shapes.KeptShape.TheVariants.{Top, Bottom, Name, NotName, And, Or, SomeOf, AllOf, Min, Max}
 use Rattle.shq_nnf.specs.contracts.shapes.KeptShapePartialEq.TheImpl.{ghosts}
 use Rattle.shq_nnf.specs.Kept.{form_of_kept}
-use Rattle.refutation_tree.specs.Shapes.{shape_at, fits, same_shape, is_listed, admits, AreShapes}
+use Rattle.refutation_tree.specs.Shapes.{shape_at, fits, same_shape, is_among_shapes, admits, AreShapes}
 
 -- ---- the test of equal shapes
 
@@ -47,12 +47,12 @@ same_as_itself (at_least n r c) = and_from (eqb n n) (eqb r r && eqb c c) (eq-eq
 same_as_itself (at_most n r c) = and_from (eqb n n) (eqb r r && eqb c c) (eq-eqb n n refl) (and_from (eqb r r) (eqb c c) (eq-eqb r r refl) (eq-eqb c c refl))
 
 -- a shape at a place is listed
-pub listed_at : (s : Shape) (ts : List Shape) (n : ℕ) → n < length ts → slice_index_or ts n top ≡ s → is_listed ts s ≡ true
+pub listed_at : (s : Shape) (ts : List Shape) (n : ℕ) → n < length ts → slice_index_or ts n top ≡ s → is_among_shapes ts s ≡ true
 listed_at s [] n lt e = absurd (omega arith)
-listed_at s (t ∷ ts) zero lt e = ap (λ b. b || is_listed ts s) (ap (same_shape s) e ∙ same_as_itself s)
+listed_at s (t ∷ ts) zero lt e = ap (λ b. b || is_among_shapes ts s) (ap (same_shape s) e ∙ same_as_itself s)
 listed_at s (t ∷ ts) (suc n) lt e = by (same_shape s t) (listed_at s ts n (omega arith) e)
   where
-    by : (b : Bool) → is_listed ts s ≡ true → (b || is_listed ts s) ≡ true
+    by : (b : Bool) → is_among_shapes ts s ≡ true → (b || is_among_shapes ts s) ≡ true
     by true h = refl
     by false h = h
 
@@ -71,8 +71,8 @@ module _ (t : List Shape) (s : Shape) (good : AreShapes t) (admitted : admits t 
   last_shape : slice_index_or more (length t) top ≡ s
   last_shape = get_or_push t s top (length t) refl
 
-  parts : (fits t s ≡ true) × (not (is_listed t s) ≡ true)
-  parts = and_parts (fits t s) (not (is_listed t s)) admitted
+  parts : (fits t s ≡ true) × (not (is_among_shapes t s) ≡ true)
+  parts = and_parts (fits t s) (not (is_among_shapes t s)) admitted
 
   absent : (n : ℕ) → n < length t → slice_index_or t n top ≡ s → ⊥
   absent n lt e = let clash : false ≡ true = sym (ap not (listed_at s t n lt e)) ∙ parts.1 in absurd (cc clash)
@@ -118,7 +118,7 @@ kept_same (Min n r c) (Min m s d) = refl
 kept_same (Max n r c) (Max m s d) = refl
 kept_same a b = refl
 
-pub kept_listed : (k : KeptShape) (keys : List KeptShape) → list_any (ghosts.eq k) keys ≡ is_listed (map form_of_kept keys) (form_of_kept k)
+pub kept_listed : (k : KeptShape) (keys : List KeptShape) → list_any (ghosts.eq k) keys ≡ is_among_shapes (map form_of_kept keys) (form_of_kept k)
 kept_listed k [] = refl
 kept_listed k (x ∷ xs) = ap (λ b. b || list_any (ghosts.eq k) xs) (kept_same k x) ∙ ap (λ b. same_shape (form_of_kept k) (form_of_kept x) || b) (kept_listed k xs)
 

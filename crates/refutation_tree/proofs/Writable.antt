@@ -11,7 +11,9 @@ use Rattle.std.proofs.lemmas.List.Folds.{list_all-append}
 use Rattle.lane_sieve.specs.Sets.{NumberSet}
 use Rattle.axiom_sets.specs.Sets.{Limited, IsWithin}
 use Rattle.axiom_sets.proofs.Kept.{put_within}
-use Rattle.certificate_lines.specs.Lines.{words, is_blank, is_numeral, number_in, iri_in}
+use Rattle.certificate_lines.specs.Lines.{words, is_numeral, number_in, iri_in}
+use Rattle.certificate_lines.specs.Names.{name_place}
+use Rattle.certificate_lines.proofs.Body.{body_keeps}
 use Rattle.shq_terms.specs.Listed.{Listed}
 use Rattle.shape_specs.specs.Rows.{is_ascending}
 use Rattle.shape_specs.specs.Shape.{Shape}
@@ -22,7 +24,7 @@ use Rattle.refutation_tree.specs.Shapes.{admits}
 use Rattle.refutation_tree.specs.RuleLine.{names_concepts}
 use Rattle.refutation_tree.specs.RefutationLists.{RefutationLists}
 use Rattle.refutation_tree.specs.Keywords.{shape_kind, line_kind}
-use Rattle.refutation_tree.specs.RefutationText.{is_number, numbers_in, named_in, are_axiom_numbers, with_numbers, axiom_set, axioms_of, axioms_line, class_in, restriction_in, counted_in, when_none, shape_in, concept_in, one_of, two_of, three_of, start_in, short_line, row_in, most_in, numbered_line, carry_in, rule_in, rule_line, with_shape, with_line, concept_read, is_concept_line, line_read, is_end, body_from, begun, axioms_from, is_head, refutation_of}
+use Rattle.refutation_tree.specs.RefutationText.{is_number, numbers_in, are_axiom_numbers, with_numbers, axiom_set, axioms_numbered, axioms_line, class_in, restriction_in, counted_in, when_none, shape_in, concept_in, one_of, two_of, three_of, start_in, short_line, row_in, most_in, numbered_line, carry_in, rule_in, rule_line, with_shape, with_line, concept_read, is_concept_line, refutation_line_read, refutation_body, begun, axioms_in, axioms_from, head_in, refutation_of}
 use Rattle.refutation_tree.specs.Written.{shape_is_listed, line_is_listed}
 use Rattle.refutation_tree.specs.ReadBack.{has_nodes, is_small, IsWritable}
 use Rattle.refutation_tree.specs.declared.keywords.ShapeKind.{ShapeKind}
@@ -72,7 +74,7 @@ position_within p xs n h =
     let same : m ≡ n = cc found.1 in
     ap (λ k. nat_lt k (length xs)) (sym same) ∙ found.0
 
-named_listed : (names : List (List ℕ)) (w : List ℕ) (n : ℕ) → named_in names w ≡ Some n → nat_lt n (length names) ≡ true
+named_listed : (names : List (List ℕ)) (w : List ℕ) (n : ℕ) → name_place names w ≡ Some n → nat_lt n (length names) ≡ true
 named_listed names w n h = let at = and_then_some (λ i. position (bytes_eq i) names) (iri_in w) n h in position_within (bytes_eq at.0) names n at.2
 
 module _ (o : Listed) where
@@ -85,7 +87,7 @@ module _ (o : Listed) where
   restriction_listed [] q h = cc
   restriction_listed (r ∷ []) q h = cc
   restriction_listed (r ∷ c ∷ []) q h =
-      let role = and_then_some (λ (m : ℕ). option_map (λ (n : ℕ). record { role = m; filler = n }) (number_in c)) (named_in o.roles r) q h in
+      let role = and_then_some (λ (m : ℕ). option_map (λ (n : ℕ). record { role = m; filler = n }) (number_in c)) (name_place o.roles r) q h in
       let filler = map_some (λ (n : ℕ). record { role = role.0; filler = n }) (number_in c) q role.2 in
       subst (λ (p : Restriction). (nat_lt p.role (length o.roles) ≡ true) × (nat_lt p.filler (2 ^ 32) ≡ true)) filler.2 (named_listed o.roles r role.0 role.1, number_small c filler.0 filler.1)
   restriction_listed (r ∷ c ∷ w ∷ ws) q h = cc
@@ -299,18 +301,13 @@ module _ (o : Listed) where
   words_more k next ws true can h = concept_more k next k.lines ws refl can h
   words_more k next ws false can h = let line = and_then_some (with_line k) (rule_line o ws) next h in line_more k next line.0 (line_good ws line.0 line.1) can line.2
 
-  pub body_writable : (k m : RefutationLists) (ls : List (List ℕ)) → IsWritable o k → body_from o k ls ≡ Some m → IsWritable o m
-  body_writable k m [] can h = cc
-  body_writable k m (l ∷ ls) can h = by_end (λ next more. body_writable next m ls more) (is_end l) h
-    where
-      by_end : ((next : RefutationLists) → IsWritable o next → body_from o next ls ≡ Some m → IsWritable o m) → (e : Bool)
-          → (elim e [ true ↦ if list_all is_blank ls then Some k else None | false ↦ elim (line_read o k l) [ None ↦ None | Some next ↦ body_from o next ls ] ]) ≡ Some m → IsWritable o m
-      by_end rest true g = let last = when_some (list_all is_blank ls) (Some k) m g in let same : k ≡ m = cc last.1 in subst (IsWritable o) same can
-      by_end rest false g = by_line (line_read o k l) refl g
-        where
-          by_line : (read : Option RefutationLists) → line_read o k l ≡ read → (elim read [ None ↦ None | Some next ↦ body_from o next ls ]) ≡ Some m → IsWritable o m
-          by_line None is f = cc
-          by_line (Some next) is f = rest next (words_more k next (words l) (is_concept_line (words l)) can is) f
+  line_writable : (n : ℕ) (k next : RefutationLists) (l : List ℕ) → IsWritable o k → refutation_line_read o k l ≡ Some next → IsWritable o next
+  line_writable n k next l can h = words_more k next (words l) (is_concept_line (words l)) can h
+
+  pub body_writable : (k m : RefutationLists) (ls : List (List ℕ)) → IsWritable o k → refutation_body o k ls ≡ Some m → IsWritable o m
+  body_writable k m ls can h =
+      let ends = body_keeps (refutation_line_read o) (λ last. last) (λ n b. IsWritable o b) line_writable 0 k m ls can h in
+      subst (IsWritable o) ends.becomes ends.keeps
 
   -- ---- the axioms
 
@@ -327,8 +324,8 @@ module _ (o : Listed) where
   pub begun_writable : (ws : List (List ℕ)) (a : Limited) → length o.axioms < 2 ^ 32 → axioms_line (length o.axioms) ws ≡ Some a → IsWritable o (begun a)
   begun_writable [] a few h = cc
   begun_writable (k ∷ ws) a few h =
-      let keyword = when_some (bytes_eq k (codes "axioms")) (option_and_then (axioms_of (length o.axioms)) (numbers_in ws)) a h in
-      let ns = and_then_some (axioms_of (length o.axioms)) (numbers_in ws) a keyword.1 in
+      let keyword = when_some (bytes_eq k (codes "axioms")) (option_and_then (axioms_numbered (length o.axioms)) (numbers_in ws)) a h in
+      let ns = and_then_some (axioms_numbered (length o.axioms)) (numbers_in ws) a keyword.1 in
       let set_of = when_some (are_axiom_numbers (length o.axioms) ns.0) (Some (axiom_set (length o.axioms) ns.0)) a ns.2 in
       let same : axiom_set (length o.axioms) ns.0 ≡ a = cc set_of.1 in
       let bounds = (and_parts (list_all (λ n. nat_lt 0 n && nat_le n (length o.axioms)) ns.0) (is_ascending ns.0) set_of.0).0 in
@@ -345,9 +342,9 @@ module _ (o : Listed) where
   axioms_writable : (ls : List (List ℕ)) (k : RefutationLists) → length o.axioms < 2 ^ 32 → axioms_from o ls ≡ Some k → IsWritable o k
   axioms_writable [] k few h = cc
   axioms_writable (l ∷ ls) k few h =
-      let a = and_then_some (λ b. body_from o (begun b) ls) (axioms_line (length o.axioms) (words l)) k h in
+      let a = and_then_some (λ b. refutation_body o (begun b) ls) (axioms_in o l) k h in
       body_writable (begun a.0) k ls (begun_writable (words l) a.0 few a.1) a.2
 
   pub read_is_writable : (ls : List (List ℕ)) (k : RefutationLists) → length o.axioms < 2 ^ 32 → refutation_of o ls ≡ Some k → IsWritable o k
   read_is_writable [] k few h = cc
-  read_is_writable (l ∷ ls) k few h = let head = when_some (is_head l) (axioms_from o ls) k h in axioms_writable ls k few head.1
+  read_is_writable (l ∷ ls) k few h = let head = and_then_some (λ u. axioms_from o ls) (head_in l) k h in axioms_writable ls k few head.2

@@ -1,30 +1,22 @@
 -- The first malformed line of what is to be the text of a refutation. The line `refutation` has the number 2.
-use Rattle.std.specs.Prelude.{◌≡◌, ℕ, ◌+◌, true, false, List, [], ◌∷◌, length, Option, Some, None, if◌then◌else◌}
-use Rattle.certificate_lines.specs.Lines.{words}
-use Rattle.certificate_lines.specs.Malformed.{first_unblank, IsFirstMalformed}
+use Rattle.std.specs.Prelude.{ℕ, List, Option}
+use Rattle.certificate_lines.specs.Malformed.{TellsMalformed}
+use Rattle.certificate_lines.specs.Body.{malformed_after_line, malformed_in_body}
 use Rattle.shq_terms.specs.Listed.{Listed}
 use Rattle.refutation_tree.specs.RefutationLists.{RefutationLists}
-use Rattle.refutation_tree.specs.RefutationText.{line_read, is_end, begun, axioms_line, is_head, refutation_of}
+use Rattle.refutation_tree.specs.RefutationText.{refutation_line_read, begun, axioms_in, head_in, refutation_of}
 
--- the number of the first malformed line behind that of the axioms
-abbrev pub malformed_from : Listed → ℕ → RefutationLists → List (List ℕ) → Option ℕ
-malformed_from o n k [] = Some n
-malformed_from o n k (l ∷ ls) = elim (is_end l) [
-  | true ↦ first_unblank (n + 1) ls
-  | false ↦ elim (line_read o k l) [ None ↦ Some n | Some next ↦ malformed_from o (n + 1) next ls ]
-]
+-- of the lines after that of the axioms, where what was read so far is given
+abbrev pub malformed_in_refutation : Listed → RefutationLists → List (List ℕ) → Option ℕ
+malformed_in_refutation o k ls = malformed_in_body (refutation_line_read o) 4 k ls
 
+-- from the line of the axioms on
 abbrev pub malformed_axioms : Listed → List (List ℕ) → Option ℕ
-malformed_axioms o [] = Some 3
-malformed_axioms o (l ∷ ls) = elim (axioms_line (length o.axioms) (words l)) [ None ↦ Some 3 | Some a ↦ malformed_from o 4 (begun a) ls ]
+malformed_axioms o ls = malformed_after_line 3 (axioms_in o) (λ a. malformed_in_refutation o (begun a)) ls
 
-abbrev pub first_malformed : Listed → List (List ℕ) → Option ℕ
-first_malformed o [] = Some 2
-first_malformed o (l ∷ ls) = if is_head l then malformed_axioms o ls else Some 2
+abbrev pub malformed_refutation_line : Listed → List (List ℕ) → Option ℕ
+malformed_refutation_line o ls = malformed_after_line 2 head_in (λ u. malformed_axioms o) ls
 
--- the malformed line that is told is the first, and without one the lines are a text
-abbrev pub MalformedIsFirst : Type 0
-MalformedIsFirst = (o : Listed) (lines : List (List ℕ)) (n : ℕ) → first_malformed o lines ≡ Some n → IsFirstMalformed (refutation_of o) lines n
-
-abbrev pub UnlessMalformed : Type 0
-UnlessMalformed = (o : Listed) (lines : List (List ℕ)) → first_malformed o lines ≡ None → (k : RefutationLists) × (refutation_of o lines ≡ Some k)
+-- the malformed line that is told is the first, and without one the lines are the text of a refutation
+abbrev pub RefutationsTellMalformed : Type 0
+RefutationsTellMalformed = (o : Listed) → TellsMalformed 2 (refutation_of o) (malformed_refutation_line o)

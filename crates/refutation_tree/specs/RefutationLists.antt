@@ -1,10 +1,14 @@
 -- What a refutation keeps.
-use Rattle.std.specs.Prelude.{◌≡◌, ◌^◌, ◌<◌, true, List, length}
+use Rattle.std.specs.Prelude.{◌≡◌, ℕ, ◌^◌, ◌<◌, true, List, length, Option, MatchOption}
 use Rattle.std.specs.List.{list_all}
 use Rattle.axiom_sets.specs.Sets.{Limited}
 use Rattle.shape_specs.specs.Shape.{Shape}
+use Rattle.shape_specs.specs.Shape.Shape.{top}
+use Rattle.shq_nnf.specs.declared.shapes.KeptShape.{KeptShape}
+use Rattle.shq_nnf.specs.Kept.{form_of_kept}
 use Rattle.refutation_specs.specs.Line.{Line}
-use Rattle.refutation_tree.specs.Shapes.{AreShapes}
+use denote.Ref.{Bor}
+use Rattle.refutation_tree.specs.Shapes.{shape_at, AreShapes}
 use Rattle.refutation_tree.specs.RuleLine.{names_concepts}
 
 -- the axioms that are named, the shapes of concepts numbered from 1, and the rule lines in preorder
@@ -19,3 +23,7 @@ pub record IsKept (shapes : List Shape) (lines : List Line) : Type 0 where
   pub few : length shapes < 2 ^ 32
   pub are_shapes : AreShapes shapes
   pub are_known : list_all (names_concepts shapes) lines ≡ true
+
+-- the kept shape of a number, where there is one
+abbrev pub IsKeptAt : List Shape → ℕ → Option (Bor KeptShape) → Type 0
+IsKeptAt shapes c kept = MatchOption kept (shape_at shapes c ≡ top) (λ k. form_of_kept k.now ≡ shape_at shapes c)

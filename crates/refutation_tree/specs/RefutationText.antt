@@ -5,7 +5,9 @@ use Rattle.std.specs.Str.{bytes_eq}
 use Rattle.std.specs.FinSet as set
 use Rattle.lane_sieve.specs.Sets.{NumberSet}
 use Rattle.axiom_sets.specs.Sets.{Limited}
-use Rattle.certificate_lines.specs.Lines.{words, is_blank, number_in, iri_in}
+use Rattle.certificate_lines.specs.Lines.{words, number_in}
+use Rattle.certificate_lines.specs.Names.{name_place}
+use Rattle.certificate_lines.specs.Body.{after_line, read_body}
 use Rattle.shq_terms.specs.Listed.{Listed}
 use Rattle.shape_specs.specs.Rows.{is_ascending}
 use Rattle.shape_specs.specs.Shape.{Shape}
@@ -30,10 +32,6 @@ abbrev pub numbers_in : List (List ℕ) → Option (List ℕ)
 numbers_in [] = Some []
 numbers_in (w ∷ ws) = elim (number_in w) [ None ↦ None | Some n ↦ option_map (λ ns. n ∷ ns) (numbers_in ws) ]
 
--- the place in a list of the name that stands between brackets
-abbrev pub named_in : List (List ℕ) → List ℕ → Option ℕ
-named_in names word = option_and_then (λ iri. position (bytes_eq iri) names) (iri_in word)
-
 abbrev pub is_number : ℕ → Option ℕ → Bool
 is_number n None = false
 is_number n (Some m) = nat_eq m n
@@ -51,24 +49,24 @@ with_numbers (n ∷ ns) s = with_numbers ns (set.insert s n)
 abbrev pub axiom_set : ℕ → List ℕ → Limited
 axiom_set count ns = record { limit = count; members = with_numbers ns set.empty }
 
-abbrev pub axioms_of : ℕ → List ℕ → Option Limited
-axioms_of count ns = if are_axiom_numbers count ns then Some (axiom_set count ns) else None
+abbrev pub axioms_numbered : ℕ → List ℕ → Option Limited
+axioms_numbered count ns = if are_axiom_numbers count ns then Some (axiom_set count ns) else None
 
 -- `axioms K ..`
 abbrev pub axioms_line : ℕ → List (List ℕ) → Option Limited
 axioms_line count [] = None
-axioms_line count (k ∷ ws) = if bytes_eq k (codes "axioms") then option_and_then (axioms_of count) (numbers_in ws) else None
+axioms_line count (k ∷ ws) = if bytes_eq k (codes "axioms") then option_and_then (axioms_numbered count) (numbers_in ws) else None
 
 -- ---- concept lines
 
 -- a listed class alone
 abbrev pub class_in : Listed → List (List ℕ) → Option ℕ
-class_in o (w ∷ []) = named_in o.classes w
+class_in o (w ∷ []) = name_place o.classes w
 class_in o _ = None
 
 -- a listed role and a number
 abbrev pub restriction_in : Listed → List (List ℕ) → Option Restriction
-restriction_in o (r ∷ c ∷ []) = option_and_then (λ role. option_map (λ filler. record { role = role; filler = filler }) (number_in c)) (named_in o.roles r)
+restriction_in o (r ∷ c ∷ []) = option_and_then (λ role. option_map (λ filler. record { role = role; filler = filler }) (number_in c)) (name_place o.roles r)
 restriction_in o _ = None
 
 -- a cardinality before them
@@ -104,6 +102,10 @@ shape_in o kind ws = short_shape o kind ws
 abbrev pub concept_in : Listed → ℕ → List (List ℕ) → Option Shape
 concept_in o n (c ∷ k ∷ kind ∷ ws) = if is_number n (number_in k) then option_and_then (λ s. shape_in o s ws) (shape_kind kind) else None
 concept_in o n _ = None
+
+-- the concept after a count of others
+abbrev pub next_concept_in : Listed → ℕ → List (List ℕ) → Option Shape
+next_concept_in o count ws = concept_in o (count + 1) ws
 
 -- ---- rule lines
 
@@ -184,39 +186,40 @@ abbrev pub concept_read : Listed → RefutationLists → List Line → List (Lis
 concept_read o k [] ws = option_and_then (with_shape k) (concept_in o (length k.shapes + 1) ws)
 concept_read o k (line ∷ lines) ws = None
 
+abbrev pub concept_added : Listed → RefutationLists → List (List ℕ) → Option RefutationLists
+concept_added o k ws = concept_read o k k.lines ws
+
+abbrev pub rule_added : Listed → RefutationLists → List (List ℕ) → Option RefutationLists
+rule_added o k ws = option_and_then (with_line k) (rule_line o ws)
+
 abbrev pub is_concept_line : List (List ℕ) → Bool
 is_concept_line [] = false
 is_concept_line (k ∷ ws) = bytes_eq k (codes "concept")
 
-abbrev pub words_read : Listed → RefutationLists → List (List ℕ) → Option RefutationLists
-words_read o k ws = if is_concept_line ws then concept_read o k k.lines ws else option_and_then (with_line k) (rule_line o ws)
+abbrev pub refutation_words_read : Listed → RefutationLists → List (List ℕ) → Option RefutationLists
+refutation_words_read o k ws = if is_concept_line ws then concept_added o k ws else rule_added o k ws
 
-abbrev pub line_read : Listed → RefutationLists → List ℕ → Option RefutationLists
-line_read o k line = words_read o k (words line)
+abbrev pub refutation_line_read : Listed → RefutationLists → List ℕ → Option RefutationLists
+refutation_line_read o k line = refutation_words_read o k (words line)
 
-abbrev pub is_end : List ℕ → Bool
-is_end line = bytes_eq line (codes "end")
-
--- the lines behind that of the axioms: concept lines, rule lines, then the line `end`, and then blank lines
-abbrev pub body_from : Listed → RefutationLists → List (List ℕ) → Option RefutationLists
-body_from o k [] = None
-body_from o k (l ∷ ls) = elim (is_end l) [
-  | true ↦ if list_all is_blank ls then Some k else None
-  | false ↦ elim (line_read o k l) [ None ↦ None | Some next ↦ body_from o next ls ]
-]
+-- the lines after that of the axioms: concept lines, rule lines, then the line `end`, and then blank lines
+abbrev pub refutation_body : Listed → RefutationLists → List (List ℕ) → Option RefutationLists
+refutation_body o k ls = read_body (refutation_line_read o) (λ last. last) k ls
 
 -- a refutation without concepts and lines
 abbrev pub begun : Limited → RefutationLists
 begun axioms = record { axioms = axioms; shapes = []; lines = [] }
 
-abbrev pub axioms_from : Listed → List (List ℕ) → Option RefutationLists
-axioms_from o [] = None
-axioms_from o (l ∷ ls) = option_and_then (λ a. body_from o (begun a) ls) (axioms_line (length o.axioms) (words l))
+abbrev pub axioms_in : Listed → List ℕ → Option Limited
+axioms_in o line = axioms_line (length o.axioms) (words line)
 
-abbrev pub is_head : List ℕ → Bool
-is_head line = bytes_eq line (codes "refutation")
+abbrev pub axioms_from : Listed → List (List ℕ) → Option RefutationLists
+axioms_from o ls = after_line (axioms_in o) (λ a. refutation_body o (begun a)) ls
+
+-- `refutation`
+abbrev pub head_in : List ℕ → Option (Unit {0})
+head_in line = if bytes_eq line (codes "refutation") then Some tt else None
 
 -- the refutation that the lines stand for, where they are the text of one
 abbrev pub refutation_of : Listed → List (List ℕ) → Option RefutationLists
-refutation_of o [] = None
-refutation_of o (l ∷ ls) = if is_head l then axioms_from o ls else None
+refutation_of o ls = after_line head_in (λ u. axioms_from o) ls

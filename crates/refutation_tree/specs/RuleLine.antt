@@ -1,5 +1,5 @@
 -- The rule lines that the code keeps, as plain lines.
-use Rattle.std.specs.Prelude.{ℕ, Bool, List, [], ◌∷◌}
+use Rattle.std.specs.Prelude.{◌≡◌, ℕ, Bool, List, [], ◌∷◌, Option, Some, None}
 use Rattle.std.specs.List.{list_all}
 use Rattle.shape_specs.specs.Shape.{Shape}
 use Rattle.refutation_specs.specs.Line.{Line}
@@ -40,6 +40,11 @@ concept_numbers (pair_line y z) = []
 concept_numbers (bottom_line x) = []
 concept_numbers (clash_line x c) = c ∷ []
 concept_numbers (most_line x c ys) = c ∷ []
+
+-- the number of the concept that a line names, where it names one
+abbrev pub NamesConcept : Line → Option ℕ → Type 0
+NamesConcept line None = concept_numbers line ≡ []
+NamesConcept line (Some c) = concept_numbers line ≡ c ∷ []
 
 -- whether each number of a concept that a line names is that of one of these shapes
 abbrev pub names_concepts : List Shape → Line → Bool

@@ -44,19 +44,19 @@ same_shape (at_least n r c) (at_least m s d) = n == m && (r == s && c == d)
 same_shape (at_most n r c) (at_most m s d) = n == m && (r == s && c == d)
 same_shape _ _ = false
 
-abbrev pub is_listed : List Shape → Shape → Bool
-is_listed shapes s = list_any (same_shape s) shapes
+abbrev pub is_among_shapes : List Shape → Shape → Bool
+is_among_shapes shapes s = list_any (same_shape s) shapes
 
--- whether the shape may be put behind these: it has its parts among them, is normal, and is none of them
+-- whether the shape may be put after these: it has its parts among them, is normal, and is none of them
 abbrev pub admits : List Shape → Shape → Bool
-admits shapes s = fits shapes s && not (is_listed shapes s)
+admits shapes s = fits shapes s && not (is_among_shapes shapes s)
 
 -- each shape has its parts among the shapes before it and is normal, and none stands twice
 pub record AreShapes (shapes : List Shape) : Type 0 where
   pub fit : (n : ℕ) → n < length shapes → fits (take n shapes) (slice_index_or shapes n top) ≡ true
   pub are_distinct : (n m : ℕ) → n < length shapes → m < length shapes → slice_index_or shapes n top ≡ slice_index_or shapes m top → n ≡ m
 
--- behind top each shape is normal, and its parts stand below it
+-- after top each shape is normal, and its parts stand below it
 abbrev pub ShapesAreNormal : Type 0
 ShapesAreNormal = (shapes : List Shape) → AreShapes shapes → (c : ℕ) → 1 ≤ c → c ≤ length shapes
     → (has_parts_below c (shape_at shapes c) ≡ true) × (is_normal (top ∷ shapes) (shape_at shapes c) ≡ true)

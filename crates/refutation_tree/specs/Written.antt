@@ -1,8 +1,9 @@
 -- The text that is written of a refutation.
 use Rattle.std.specs.Prelude.{ℕ, ◌+◌, Bool, true, ◌&&◌, List, [], ◌∷◌, ◌++◌, map, length, codes, decimal, nat_lt, slice_index_or}
 use Rattle.std.specs.List.{list_all}
-use Rattle.axiom_sets.specs.Sets.{member_list}
-use Rattle.certificate_lines.specs.Written.{line_of, text_of}
+use Rattle.axiom_sets.specs.Sets.{Limited, member_list}
+use Rattle.certificate_lines.specs.Names.{name_word}
+use Rattle.certificate_lines.specs.Written.{spaced, line_of, fed, text_of}
 use Rattle.shq_terms.specs.Listed.{Listed}
 use Rattle.shape_specs.specs.Shape.{Shape}
 use Rattle.shape_specs.specs.Shape.Shape.{top, bottom, name, not_name, intersection, union, some_of, all_of, at_least, at_most}
@@ -11,8 +12,22 @@ use Rattle.refutation_specs.specs.Line.Line.{start_line, and_line, or_line, all_
 use Rattle.refutation_tree.specs.RefutationLists.{RefutationLists}
 
 -- the name of a number between brackets
-abbrev pub iri_word : List (List ℕ) → ℕ → List ℕ
-iri_word names n = codes "<" ++ slice_index_or names n [] ++ codes ">"
+abbrev pub listed_word : List (List ℕ) → ℕ → List ℕ
+listed_word names n = name_word (slice_index_or names n [])
+
+-- a class after a keyword, and a role with a concept
+abbrev pub class_words : Listed → List ℕ → ℕ → List (List ℕ)
+class_words o keyword a = keyword ∷ listed_word o.classes a ∷ []
+
+abbrev pub role_words : Listed → ℕ → ℕ → List (List ℕ)
+role_words o r c = listed_word o.roles r ∷ decimal c ∷ []
+
+-- ` KIND ROLE I` and ` KIND N ROLE I`
+abbrev pub restriction_text : Listed → List ℕ → ℕ → ℕ → List ℕ
+restriction_text o keyword r c = spaced (keyword ∷ role_words o r c)
+
+abbrev pub cardinality_text : Listed → List ℕ → ℕ → ℕ → ℕ → List ℕ
+cardinality_text o keyword n r c = spaced (keyword ∷ decimal n ∷ role_words o r c)
 
 -- ---- concept lines
 
@@ -28,27 +43,37 @@ shape_keyword (all_of r c) = codes "all"
 shape_keyword (at_least n r c) = codes "least"
 shape_keyword (at_most n r c) = codes "most"
 
--- the words behind the keyword
+-- the words after the keyword
 abbrev pub shape_fields : Listed → Shape → List (List ℕ)
 shape_fields o top = []
 shape_fields o bottom = []
-shape_fields o (name a) = iri_word o.classes a ∷ []
-shape_fields o (not_name a) = iri_word o.classes a ∷ []
+shape_fields o (name a) = listed_word o.classes a ∷ []
+shape_fields o (not_name a) = listed_word o.classes a ∷ []
 shape_fields o (intersection cs) = map decimal cs
 shape_fields o (union cs) = map decimal cs
-shape_fields o (some_of r c) = iri_word o.roles r ∷ decimal c ∷ []
-shape_fields o (all_of r c) = iri_word o.roles r ∷ decimal c ∷ []
-shape_fields o (at_least n r c) = decimal n ∷ iri_word o.roles r ∷ decimal c ∷ []
-shape_fields o (at_most n r c) = decimal n ∷ iri_word o.roles r ∷ decimal c ∷ []
+shape_fields o (some_of r c) = listed_word o.roles r ∷ decimal c ∷ []
+shape_fields o (all_of r c) = listed_word o.roles r ∷ decimal c ∷ []
+shape_fields o (at_least n r c) = decimal n ∷ listed_word o.roles r ∷ decimal c ∷ []
+shape_fields o (at_most n r c) = decimal n ∷ listed_word o.roles r ∷ decimal c ∷ []
+
+-- the keyword and what follows it
+abbrev pub shape_words : Listed → Shape → List (List ℕ)
+shape_words o s = shape_keyword s ∷ shape_fields o s
 
 -- `concept K KIND ..`
 abbrev pub concept_line : Listed → ℕ → Shape → List ℕ
 concept_line o n s = line_of (codes "concept") (decimal n ∷ shape_keyword s ∷ shape_fields o s)
 
+abbrev pub concept_row : Listed → ℕ → Shape → List ℕ
+concept_row o n s = fed (concept_line o n s)
+
 -- the lines of concepts, of which the first has the number n
 abbrev pub concept_lines : Listed → ℕ → List Shape → List (List ℕ)
 concept_lines o n [] = []
 concept_lines o n (s ∷ ss) = concept_line o n s ∷ concept_lines o (n + 1) ss
+
+abbrev pub concepts_text : Listed → List Shape → List ℕ
+concepts_text o shapes = text_of (concept_lines o 1 shapes)
 
 -- ---- rule lines
 
@@ -68,7 +93,7 @@ line_keyword (bottom_line x) = codes "bottom"
 line_keyword (clash_line x c) = codes "clash"
 line_keyword (most_line x c ys) = codes "most"
 
--- the numbers behind the keyword
+-- the numbers after the keyword
 abbrev pub line_numbers : Line → List ℕ
 line_numbers start_line = []
 line_numbers (and_line x c) = x ∷ c ∷ []
@@ -85,21 +110,24 @@ line_numbers (bottom_line x) = x ∷ []
 line_numbers (clash_line x c) = x ∷ c ∷ []
 line_numbers (most_line x c ys) = x ∷ c ∷ ys
 
--- the words behind the keyword: numbers alone, but for the role of `carry X Y ROLE C`
+-- the words after the keyword: numbers alone, but for the role of `carry X Y ROLE C`
 abbrev pub line_fields : Listed → Line → List (List ℕ)
-line_fields o (carry_line x y r c) = decimal x ∷ decimal y ∷ iri_word o.roles r ∷ decimal c ∷ []
+line_fields o (carry_line x y r c) = decimal x ∷ decimal y ∷ listed_word o.roles r ∷ decimal c ∷ []
 line_fields o line = map decimal (line_numbers line)
 
 abbrev pub rule_text : Listed → Line → List ℕ
 rule_text o line = line_of (line_keyword line) (line_fields o line)
 
+abbrev pub rules_text : Listed → List Line → List ℕ
+rules_text o lines = text_of (map (rule_text o) lines)
+
 -- ---- the whole text
 
-abbrev pub axioms_text : RefutationLists → List ℕ
-axioms_text k = line_of (codes "axioms") (map decimal (member_list k.axioms))
+abbrev pub axioms_text : Limited → List ℕ
+axioms_text axioms = line_of (codes "axioms") (map decimal (member_list axioms))
 
 abbrev pub refutation_lines : Listed → RefutationLists → List (List ℕ)
-refutation_lines o k = codes "refutation" ∷ axioms_text k ∷ concept_lines o 1 k.shapes ++ map (rule_text o) k.lines ++ codes "end" ∷ []
+refutation_lines o k = codes "refutation" ∷ axioms_text k.axioms ∷ concept_lines o 1 k.shapes ++ map (rule_text o) k.lines ++ codes "end" ∷ []
 
 -- the line `refutation`, the axioms, the concepts, the rule lines and the line `end`
 abbrev pub refutation_text : Listed → RefutationLists → List ℕ

@@ -2,8 +2,8 @@
 ghost use Rattle.std.specs.Prelude.{◌≡◌, IsTrue, ◌+◌, ◌<◌, ◌^◌, map, Some, IfOk, IfErr, length, option_map};
 ghost use Rattle.shape_specs.specs.Shape.Shape.{top, bottom};
 ghost use Rattle.shq_nnf.specs.Kept.{form_of_kept};
-ghost use Rattle.certificate_lines.specs.Lines.{number_in};
-ghost use Rattle.refutation_tree.specs.RefutationText.{is_number, when_none, short_shape, shape_in, concept_in};
+ghost use Rattle.certificate_lines.specs.Lines.{bytes_of, number_in};
+ghost use Rattle.refutation_tree.specs.RefutationText.{is_number, when_none, short_shape, shape_in, next_concept_in};
 ghost use Rattle.certificate_lines.specs.Malformed.{IsFaultAt};
 
 use crate::CertFault;
@@ -14,7 +14,7 @@ use shq_nnf::KeptShape;
 use shq_terms::Ontology;
 use std::alloc::Global;
 
-/// The shape that the words of a concept line say, where the line's concept is to have the number behind `count`.
+/// The shape that the words of a concept line say, where the line's concept is to have the number after `count`.
 #[tactic(auto, using(certificate_lines::proofs::Borrowed::lines_drop))]
 pub(crate) fn read_concept_line(
     alloc: Global,
@@ -23,11 +23,11 @@ pub(crate) fn read_concept_line(
     ontology: &Ontology,
     count: u32,
 ) -> Result<KeptShape, CertFault>
-    ensures value { IfOk result (λ s. concept_in ontology.now (count + 1) (map (λ w. w.now) words.now) ≡ Some (form_of_kept s)) }
+    ensures value { IfOk result (λ s. next_concept_in ontology.now count (bytes_of words.now) ≡ Some (form_of_kept s)) }
     ensures room { IfOk result (λ s. count + 1 < 2 ^ 32) }
-    ensures fault { IfErr result (IsFaultAt line (concept_in ontology.now (count + 1) (map (λ w. w.now) words.now))) }
+    ensures fault { IfErr result (IsFaultAt line (next_concept_in ontology.now count (bytes_of words.now))) }
 {
-    if words.len() < 3 || !is_behind(count, words[1]) {
+    if words.len() < 3 || !is_next(count, words[1]) {
         return Err(CertFault::Malformed(line));
     }
     match shape_kind(words[2]) {
@@ -36,8 +36,8 @@ pub(crate) fn read_concept_line(
     }
 }
 
-// Whether the word is the number behind the one that is given.
-fn is_behind(count: u32, word: &[u8]) -> bool
+// Whether the word is the number after the one that is given.
+fn is_next(count: u32, word: &[u8]) -> bool
     ensures value { result ≡ is_number (count + 1) (number_in word.now) }
     ensures room { IsTrue result → count + 1 < 2 ^ 32 }
 {
@@ -54,8 +54,8 @@ fn read_shape(
     line: u32,
     ontology: &Ontology,
 ) -> Result<KeptShape, CertFault>
-    ensures value { IfOk result (λ s. shape_in ontology.now kind (map (λ w. w.now) fields.now) ≡ Some (form_of_kept s)) }
-    ensures fault { IfErr result (IsFaultAt line (shape_in ontology.now kind (map (λ w. w.now) fields.now))) }
+    ensures value { IfOk result (λ s. shape_in ontology.now kind (bytes_of fields.now) ≡ Some (form_of_kept s)) }
+    ensures fault { IfErr result (IsFaultAt line (shape_in ontology.now kind (bytes_of fields.now))) }
 {
     match kind {
         ShapeKind::And => Ok(KeptShape::And(read_numbers(alloc, fields, line)?)),
@@ -69,7 +69,7 @@ fn read_shape(
 
 // The shape of a kind with as many fields as each of its kind has.
 fn short_shape(kind: ShapeKind, fields: &[&[u8]], ontology: &Ontology) -> Option<KeptShape>
-    ensures { option_map form_of_kept result ≡ short_shape ontology.now kind (map (λ w. w.now) fields.now) }
+    ensures { option_map form_of_kept result ≡ short_shape ontology.now kind (bytes_of fields.now) }
 {
     match kind {
         ShapeKind::Top => top_in(fields),
@@ -97,7 +97,7 @@ fn short_shape(kind: ShapeKind, fields: &[&[u8]], ontology: &Ontology) -> Option
 }
 
 fn top_in(fields: &[&[u8]]) -> Option<KeptShape>
-    ensures { option_map form_of_kept result ≡ when_none (map (λ w. w.now) fields.now) top }
+    ensures { option_map form_of_kept result ≡ when_none (bytes_of fields.now) top }
 {
     match fields {
         [] => Some(KeptShape::Top),
@@ -106,7 +106,7 @@ fn top_in(fields: &[&[u8]]) -> Option<KeptShape>
 }
 
 fn bottom_in(fields: &[&[u8]]) -> Option<KeptShape>
-    ensures { option_map form_of_kept result ≡ when_none (map (λ w. w.now) fields.now) bottom }
+    ensures { option_map form_of_kept result ≡ when_none (bytes_of fields.now) bottom }
 {
     match fields {
         [] => Some(KeptShape::Bottom),

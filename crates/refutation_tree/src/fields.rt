@@ -1,6 +1,8 @@
 // The fields of a line: numbers, names, and what is made of them.
 ghost use Rattle.std.specs.Prelude.{◌≡◌, map, Some, IfOk, IfErr};
-ghost use Rattle.refutation_tree.specs.RefutationText.{numbers_in, named_in, class_in, restriction_in, counted_in, one_of, two_of, three_of};
+ghost use Rattle.certificate_lines.specs.Lines.{bytes_of};
+ghost use Rattle.refutation_tree.specs.RefutationText.{numbers_in, class_in, restriction_in, counted_in, one_of, two_of, three_of};
+ghost use Rattle.certificate_lines.specs.Names.{name_place};
 ghost use Rattle.certificate_lines.specs.Malformed.{IsFaultAt};
 
 use crate::CertFault;
@@ -24,8 +26,8 @@ pub(crate) struct Counted {
 
 /// The numbers that words are, on the line whose number is given.
 pub(crate) fn read_numbers(alloc: Global, words: &[&[u8]], line: u32) -> Result<Vec<u32>, CertFault>
-    ensures numbers { IfOk result (λ ns. numbers_in (map (λ w. w.now) words.now) ≡ Some ns.items) }
-    ensures fault { IfErr result (IsFaultAt line (numbers_in (map (λ w. w.now) words.now))) }
+    ensures numbers { IfOk result (λ ns. numbers_in (bytes_of words.now) ≡ Some ns.items) }
+    ensures fault { IfErr result (IsFaultAt line (numbers_in (bytes_of words.now))) }
 {
     let mut numbers = Vec::new(alloc);
     for word in words {
@@ -39,7 +41,7 @@ pub(crate) fn read_numbers(alloc: Global, words: &[&[u8]], line: u32) -> Result<
 
 /// The class that the only word names.
 pub(crate) fn class_in(words: &[&[u8]], ontology: &Ontology) -> Option<u32>
-    ensures { result ≡ class_in ontology.now (map (λ w. w.now) words.now) }
+    ensures { result ≡ class_in ontology.now (bytes_of words.now) }
 {
     match words {
         [name] => ontology.class_of_bytes(iri(name)?),
@@ -48,14 +50,14 @@ pub(crate) fn class_in(words: &[&[u8]], ontology: &Ontology) -> Option<u32>
 }
 
 fn role_in(word: &[u8], ontology: &Ontology) -> Option<u32>
-    ensures { result ≡ named_in ontology.now.roles word.now }
+    ensures { result ≡ name_place ontology.now.roles word.now }
 {
     ontology.role_of_bytes(iri(word)?)
 }
 
 /// The role and the concept that two words are.
 pub(crate) fn restriction_in(words: &[&[u8]], ontology: &Ontology) -> Option<Restriction>
-    ensures { result ≡ restriction_in ontology.now (map (λ w. w.now) words.now) }
+    ensures { result ≡ restriction_in ontology.now (bytes_of words.now) }
 {
     match words {
         [name, concept] => {
@@ -69,7 +71,7 @@ pub(crate) fn restriction_in(words: &[&[u8]], ontology: &Ontology) -> Option<Res
 
 /// The cardinality, the role and the concept that three words are.
 pub(crate) fn counted_in(words: &[&[u8]], ontology: &Ontology) -> Option<Counted>
-    ensures { result ≡ counted_in ontology.now (map (λ w. w.now) words.now) }
+    ensures { result ≡ counted_in ontology.now (bytes_of words.now) }
 {
     match words {
         [first, others @ ..] => {

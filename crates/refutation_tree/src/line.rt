@@ -1,6 +1,5 @@
 // The lines of a refutation.
-ghost use Rattle.std.specs.Prelude.{◌≡◌, [], ◌∷◌, MatchOption};
-ghost use Rattle.refutation_tree.specs.RuleLine.{line_of, concept_numbers};
+ghost use Rattle.refutation_tree.specs.RuleLine.{line_of, NamesConcept};
 
 use shq_terms::NumberList;
 
@@ -42,7 +41,7 @@ pub enum Line {
 impl Line {
     /// The number of the concept that the line names.
     pub(crate) fn concept(&self) -> Option<u32>
-        ensures { MatchOption result (concept_numbers (line_of self.now) ≡ []) (λ c. concept_numbers (line_of self.now) ≡ c ∷ []) }
+        ensures { NamesConcept (line_of self.now) result }
     {
         match self {
             Line::And(_, concept) | Line::Or(_, concept) => Some(*concept),

@@ -1,14 +1,14 @@
 // The text of a refutation is read.
-ghost use Rattle.std.specs.Prelude.{◌≡◌, ◌<◌, ◌≤◌, ◌+◌, ◌^◌, option_and_then, nat_lt, nat_le, ◌&&◌, IsTrue, [], map, length, All, Some, IfOk, IfErr, OnOk, IfSome, codes, option_map};
+ghost use Rattle.std.specs.Prelude.{◌≡◌, ◌<◌, ◌≤◌, ◌+◌, ◌^◌, nat_lt, nat_le, ◌&&◌, IsTrue, [], map, length, All, Some, IfOk, IfErr, OnOk, IfSome, codes, option_map};
 ghost use Rattle.std.specs.List.{list_all};
-ghost use Rattle.certificate_lines.specs.Lines.{words};
+ghost use Rattle.certificate_lines.specs.Lines.{bytes_of, words};
 ghost use Rattle.certificate_lines.specs.Malformed.{IsFaultOf, IsFaultAt, IsFaultOfLine};
 ghost use Rattle.shape_specs.specs.Rows.{is_ascending};
 ghost use Rattle.shq_nnf.specs.Kept.{form_of_kept};
 ghost use Rattle.refutation_tree.specs.RuleLine.{line_of};
-ghost use Rattle.refutation_tree.specs.RefutationText.{are_axiom_numbers, axiom_set, axioms_of, axioms_line, rule_line, with_shape, with_line, concept_read, is_concept_line, line_read, body_from, refutation_of};
+ghost use Rattle.refutation_tree.specs.RefutationText.{are_axiom_numbers, axiom_set, axioms_numbered, axioms_line, with_shape, with_line, concept_added, rule_added, is_concept_line, refutation_line_read, refutation_body, refutation_of};
 ghost use Rattle.refutation_tree.specs.ReadBack.{IsWritable};
-ghost use Rattle.refutation_tree.specs.Malformed.{malformed_from, first_malformed};
+ghost use Rattle.refutation_tree.specs.Malformed.{malformed_refutation_line, malformed_in_refutation};
 
 use crate::concept_lines::read_concept_line;
 use crate::fields::read_numbers;
@@ -27,21 +27,23 @@ use std::alloc::Global;
 /// `concept K` and then `top`, `bottom`, `name NAME`, `not NAME`, `and I J ..`, `or I J ..`, `some ROLE I`, `all ROLE I`,
 /// `least N ROLE I` or `most N ROLE I`, in normal form, with parts of smaller numbers, and none stands twice. A name is the
 /// full IRI of a listed class or role between `<` and `>`. A number of a concept on a rule line is that of a concept line.
+/// There may be no axioms, no concept lines and no rule lines: whether the lines refute anything is no matter of the format.
 ///
 /// # Errors
 ///
 /// `Malformed` exactly where the lines are no such text, and `NoMemory`. The first of the lines has the number 2. The
-/// malformed line is the first with which no text begins, or the line behind the last where a text begins with them all.
+/// malformed line is the first with which no text begins, or the line after the last where a text begins with them all.
+/// After an error nothing of what was read is left, and the ontology and the lines are as they were.
 pub fn read_text(
     alloc: Global,
     lines: &[&[u8]],
     ontology: &Ontology,
 ) -> Result<Refutation, CertFault>
-    ensures refutation { IfOk result (λ k. refutation_of ontology.now (map (λ l. l.now) lines.now) ≡ Some k) }
+    ensures refutation { IfOk result (λ k. refutation_of ontology.now (bytes_of lines.now) ≡ Some k) }
     ensures writable { IfOk result (λ k. IsWritable ontology.now k) }
     ensures lines { IfOk result (λ k. length k.lines ≤ length lines.now) }
-    ensures fault { IfErr result (IsFaultOf (refutation_of ontology.now (map (λ l. l.now) lines.now))) }
-    ensures line { IfErr result (IsFaultOfLine (first_malformed ontology.now (map (λ l. l.now) lines.now))) }
+    ensures fault { IfErr result (IsFaultOf (refutation_of ontology.now (bytes_of lines.now))) }
+    ensures line { IfErr result (IsFaultOfLine (malformed_refutation_line ontology.now (bytes_of lines.now))) }
 {
     if lines.is_empty() || lines[0] != b"refutation".as_slice() {
         return Err(CertFault::Malformed(2));
@@ -54,16 +56,16 @@ pub fn read_text(
     read_body(alloc, &lines[2..], ontology, refutation)
 }
 
-// Reads the lines behind that of the axioms.
+// Reads the lines after that of the axioms.
 fn read_body(
     alloc: Global,
     lines: &[&[u8]],
     ontology: &Ontology,
     mut refutation: Refutation,
 ) -> Result<Refutation, CertFault>
-    ensures refutation { IfOk result (λ k. body_from ontology.now refutation (map (λ l. l.now) lines.now) ≡ Some k) }
-    ensures fault { IfErr result (IsFaultOf (body_from ontology.now refutation (map (λ l. l.now) lines.now))) }
-    ensures line { IfErr result (IsFaultOfLine (malformed_from ontology.now 4 refutation (map (λ l. l.now) lines.now))) }
+    ensures refutation { IfOk result (λ k. refutation_body ontology.now refutation (bytes_of lines.now) ≡ Some k) }
+    ensures fault { IfErr result (IsFaultOf (refutation_body ontology.now refutation (bytes_of lines.now))) }
+    ensures line { IfErr result (IsFaultOfLine (malformed_in_refutation ontology.now refutation (bytes_of lines.now))) }
 {
     for index in 0..lines.len() {
         if lines[index] == b"end".as_slice() {
@@ -91,8 +93,8 @@ fn read_line(
     ontology: &Ontology,
     refutation: &mut Refutation,
 ) -> Result<(), CertFault>
-    ensures read { OnOk result (line_read ontology.now refutation.old line.now ≡ Some refutation.new) }
-    ensures fault { IfErr result (IsFaultAt number (line_read ontology.now refutation.old line.now)) }
+    ensures read { OnOk result (refutation_line_read ontology.now refutation.old line.now ≡ Some refutation.new) }
+    ensures fault { IfErr result (IsFaultAt number (refutation_line_read ontology.now refutation.old line.now)) }
 {
     let words = words(alloc, line)?;
     if is_concept_line(&words) {
@@ -103,7 +105,7 @@ fn read_line(
 }
 
 fn is_concept_line(words: &[&[u8]]) -> bool
-    ensures { result ≡ is_concept_line (map (λ w. w.now) words.now) }
+    ensures { result ≡ is_concept_line (bytes_of words.now) }
 {
     !words.is_empty() && words[0] == b"concept".as_slice()
 }
@@ -116,8 +118,8 @@ fn add_concept(
     ontology: &Ontology,
     refutation: &mut Refutation,
 ) -> Result<(), CertFault>
-    ensures read { OnOk result (concept_read ontology.now refutation.old refutation.old.lines (map (λ w. w.now) words.now) ≡ Some refutation.new) }
-    ensures fault { IfErr result (IsFaultAt number (concept_read ontology.now refutation.old refutation.old.lines (map (λ w. w.now) words.now))) }
+    ensures read { OnOk result (concept_added ontology.now refutation.old (bytes_of words.now) ≡ Some refutation.new) }
+    ensures fault { IfErr result (IsFaultAt number (concept_added ontology.now refutation.old (bytes_of words.now))) }
 {
     if !refutation.lines().is_empty() {
         return Err(CertFault::Malformed(number));
@@ -147,8 +149,8 @@ fn add_line(
     ontology: &Ontology,
     refutation: &mut Refutation,
 ) -> Result<(), CertFault>
-    ensures read { OnOk result (option_and_then (with_line refutation.old) (rule_line ontology.now (map (λ w. w.now) words.now)) ≡ Some refutation.new) }
-    ensures fault { IfErr result (IsFaultAt number (option_and_then (with_line refutation.old) (rule_line ontology.now (map (λ w. w.now) words.now)))) }
+    ensures read { OnOk result (rule_added ontology.now refutation.old (bytes_of words.now) ≡ Some refutation.new) }
+    ensures fault { IfErr result (IsFaultAt number (rule_added ontology.now refutation.old (bytes_of words.now))) }
 {
     let line = read_rule_line(alloc, words, number, ontology)?;
     add_rule(refutation, number, line)
@@ -175,16 +177,16 @@ fn read_axioms(alloc: Global, line: &[u8], ontology: &Ontology) -> Result<AxiomS
     match words.as_slice() {
         [keyword, fields @ ..] if *keyword == b"axioms".as_slice() => {
             let numbers = read_numbers(alloc, fields, 3)?;
-            axioms_of(alloc, &numbers, ontology.axiom_count())
+            axioms_numbered(alloc, &numbers, ontology.axiom_count())
         }
         _ => Err(CertFault::Malformed(3)),
     }
 }
 
 // The set of these numbers, where they are numbers of axioms and ascend strictly.
-fn axioms_of(alloc: Global, numbers: &[u32], count: u32) -> Result<AxiomSet, CertFault>
-    ensures axioms { IfOk result (λ a. axioms_of count numbers.now ≡ Some a) }
-    ensures fault { IfErr result (IsFaultAt 3 (axioms_of count numbers.now)) }
+fn axioms_numbered(alloc: Global, numbers: &[u32], count: u32) -> Result<AxiomSet, CertFault>
+    ensures axioms { IfOk result (λ a. axioms_numbered count numbers.now ≡ Some a) }
+    ensures fault { IfErr result (IsFaultAt 3 (axioms_numbered count numbers.now)) }
 {
     if !are_axiom_numbers(count, numbers) {
         return Err(CertFault::Malformed(3));

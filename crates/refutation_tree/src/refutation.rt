@@ -1,12 +1,12 @@
 // Refutations as they are kept.
-ghost use Rattle.std.specs.Prelude.{◌≡◌, ◌+◌, ◌^◌, ◌<◌, ◌≤◌, [], ◌∷◌, ◌++◌, IsTrue, OnOk, OnErr, MatchOption, length, map};
+ghost use Rattle.std.specs.Prelude.{◌≡◌, ◌+◌, ◌^◌, ◌<◌, ◌≤◌, [], ◌∷◌, ◌++◌, IsTrue, OnOk, OnErr, length, map};
 ghost use Rattle.std.specs.List.{list_all};
 ghost use Rattle.shape_specs.specs.Shape.{is_conjunct, is_disjunct, is_normal};
 ghost use Rattle.shape_specs.specs.Shape.Shape.{top as plain_top};
 ghost use Rattle.shq_nnf.specs.Kept.{form_of, form_of_kept};
 ghost use Rattle.refutation_tree.specs.Shapes.{shape_at, is_concept, part_numbers, fits, admits};
 ghost use Rattle.refutation_tree.specs.RuleLine.{line_of, names_concepts};
-ghost use Rattle.refutation_tree.specs.RefutationLists.{IsKept};
+ghost use Rattle.refutation_tree.specs.RefutationLists.{IsKept, IsKeptAt};
 ghost use Rattle.refutation_tree.specs.RefutationText.{begun};
 
 use crate::{Line, NoMemory};
@@ -175,7 +175,7 @@ impl Refutation {
 
     // The shape of the number, if there is one.
     fn kept(&self, concept: u32) -> Option<&KeptShape>
-        ensures { MatchOption result (shape_at self.now.shapes concept ≡ plain_top) (λ k. form_of_kept k.now ≡ shape_at self.now.shapes concept) }
+        ensures { IsKeptAt self.now.shapes concept result }
     {
         if concept == 0 {
             return None;

@@ -1,5 +1,6 @@
 // Rule lines are read.
 ghost use Rattle.std.specs.Prelude.{◌≡◌, map, Some, IfOk, IfErr, option_map, length};
+ghost use Rattle.certificate_lines.specs.Lines.{bytes_of};
 ghost use Rattle.refutation_tree.specs.RuleLine.{line_of};
 ghost use Rattle.refutation_tree.specs.RefutationText.{start_in, short_line, row_in, most_in, numbered_line, carry_in, rule_in, rule_line};
 ghost use Rattle.certificate_lines.specs.Malformed.{IsFaultAt};
@@ -18,8 +19,8 @@ pub(crate) fn read_rule_line(
     line: u32,
     ontology: &Ontology,
 ) -> Result<Line, CertFault>
-    ensures value { IfOk result (λ l. rule_line ontology.now (map (λ w. w.now) words.now) ≡ Some (line_of l)) }
-    ensures fault { IfErr result (IsFaultAt line (rule_line ontology.now (map (λ w. w.now) words.now))) }
+    ensures value { IfOk result (λ l. rule_line ontology.now (bytes_of words.now) ≡ Some (line_of l)) }
+    ensures fault { IfErr result (IsFaultAt line (rule_line ontology.now (bytes_of words.now))) }
 {
     match words {
         [keyword, fields @ ..] => match line_kind(keyword) {
@@ -37,8 +38,8 @@ fn read_rule(
     line: u32,
     ontology: &Ontology,
 ) -> Result<Line, CertFault>
-    ensures value { IfOk result (λ l. rule_in ontology.now kind (map (λ w. w.now) fields.now) ≡ Some (line_of l)) }
-    ensures fault { IfErr result (IsFaultAt line (rule_in ontology.now kind (map (λ w. w.now) fields.now))) }
+    ensures value { IfOk result (λ l. rule_in ontology.now kind (bytes_of fields.now) ≡ Some (line_of l)) }
+    ensures fault { IfErr result (IsFaultAt line (rule_in ontology.now kind (bytes_of fields.now))) }
 {
     if kind == LineKind::Carry {
         return found(carry_in(fields, ontology), line);
@@ -59,7 +60,7 @@ fn found(rule: Option<Line>, line: u32) -> Result<Line, CertFault>
 }
 
 fn carry_in(fields: &[&[u8]], ontology: &Ontology) -> Option<Line>
-    ensures { option_map line_of result ≡ carry_in ontology.now (map (λ w. w.now) fields.now) }
+    ensures { option_map line_of result ≡ carry_in ontology.now (bytes_of fields.now) }
 {
     match fields {
         [from, to, others @ ..] => {

@@ -1,11 +1,10 @@
 // The text of a refutation, as it is written.
 ghost use Rattle.std.specs.Prelude.{◌≡◌, ◌+◌, ◌<◌, ◌++◌, ◌∷◌, [], codes, decimal, length, map, IsTrue, IfOk, OnOk, OnErr};
-ghost use Rattle.std.specs.List.{flat_map, list_all};
-ghost use Rattle.axiom_sets.specs.Sets.{member_list};
+ghost use Rattle.std.specs.List.{list_all};
 ghost use Rattle.shq_nnf.specs.Kept.{form_of};
-ghost use Rattle.certificate_lines.specs.Written.{line_of, text_of};
+ghost use Rattle.certificate_lines.specs.Written.{spaced, fed, line_of};
 ghost use Rattle.refutation_tree.specs.RuleLine.{line_of as plain_line};
-ghost use Rattle.refutation_tree.specs.Written.{iri_word, shape_keyword, shape_fields, concept_line, concept_lines, line_keyword, line_numbers, line_fields, rule_text, axioms_text, refutation_text, shape_is_listed, line_is_listed, names_are_listed};
+ghost use Rattle.refutation_tree.specs.Written.{class_words, role_words, restriction_text, cardinality_text, shape_words, concept_row, concepts_text, rule_text, rules_text, axioms_text, refutation_text, shape_is_listed, line_is_listed, names_are_listed};
 
 use crate::{Line, NoMemory, Refutation};
 use axiom_sets::AxiomSet;
@@ -15,12 +14,12 @@ use std::alloc::Global;
 
 impl Refutation {
     /// Appends the text of the refutation, or nothing: `refutation`, `axioms K ..` with its axioms, a line `concept K ..`
-    /// for each concept, its lines in order, and `end`, each with a line feed behind it. The classes and roles that it names
+    /// for each concept, its lines in order, and `end`, each with a line feed after it. The classes and roles that it names
     /// are listed. The memory is `alloc`'s.
     ///
     /// # Errors
     ///
-    /// Want of memory.
+    /// `NoMemory`.
     pub fn text(
         &self,
         alloc: Global,
@@ -57,7 +56,7 @@ impl Refutation {
         ontology: &Ontology,
     ) -> Result<(), NoMemory>
         requires { IsTrue (list_all (shape_is_listed ontology.now) self.now.shapes) }
-        ensures { OnOk result (text.new.items ≡ text.old.items ++ text_of (concept_lines ontology.now 1 self.now.shapes)) }
+        ensures { OnOk result (text.new.items ≡ text.old.items ++ concepts_text ontology.now self.now.shapes) }
     {
         for index in 0..self.shape_count() {
             let number = index + 1;
@@ -73,14 +72,14 @@ impl Refutation {
         ontology: &Ontology,
     ) -> Result<(), NoMemory>
         requires { IsTrue (list_all (line_is_listed ontology.now) self.now.lines) }
-        ensures { OnOk result (text.new.items ≡ text.old.items ++ text_of (map (rule_text ontology.now) self.now.lines)) }
+        ensures { OnOk result (text.new.items ≡ text.old.items ++ rules_text ontology.now self.now.lines) }
     {
         push_rules(alloc, text, self.lines(), ontology)
     }
 }
 
 fn push_axioms(alloc: Global, text: &mut Vec<u8>, axioms: &AxiomSet) -> Result<(), NoMemory>
-    ensures { OnOk result (text.new.items ≡ text.old.items ++ (line_of (codes "axioms") (map decimal (member_list axioms.now)) ++ 10 ∷ [])) }
+    ensures { OnOk result (text.new.items ≡ text.old.items ++ fed (axioms_text axioms.now)) }
 {
     text.extend_from_slice(b"axioms")?;
     for number in axioms.numbers() {
@@ -98,7 +97,7 @@ fn push_concept(
     ontology: &Ontology,
 ) -> Result<(), NoMemory>
     requires { IsTrue (shape_is_listed ontology.now (form_of shape)) }
-    ensures { OnOk result (text.new.items ≡ text.old.items ++ (concept_line ontology.now number (form_of shape.entry) ++ 10 ∷ [])) }
+    ensures { OnOk result (text.new.items ≡ text.old.items ++ concept_row ontology.now number (form_of shape.entry)) }
 {
     text.extend_from_slice(b"concept")?;
     push_number(alloc, text, number)?;
@@ -107,7 +106,7 @@ fn push_concept(
     Ok(())
 }
 
-// Appends the keyword of a shape and what follows it, each word behind a blank.
+// Appends the keyword of a shape and what follows it, each word after a blank.
 fn push_shape(
     alloc: Global,
     text: &mut Vec<u8>,
@@ -115,7 +114,7 @@ fn push_shape(
     ontology: &Ontology,
 ) -> Result<(), NoMemory>
     requires { IsTrue (shape_is_listed ontology.now (form_of shape)) }
-    ensures { OnOk result (text.new.items ≡ text.old.items ++ flat_map (λ w. 32 ∷ w) (shape_keyword (form_of shape.entry) ∷ shape_fields ontology.now (form_of shape.entry))) }
+    ensures { OnOk result (text.new.items ≡ text.old.items ++ spaced (shape_words ontology.now (form_of shape.entry))) }
 {
     match shape {
         Shape::Top => push_word(text, b"top"),
@@ -146,7 +145,7 @@ fn push_class(
     ontology: &Ontology,
 ) -> Result<(), NoMemory>
     requires { class < length ontology.now.classes }
-    ensures { OnOk result (text.new.items ≡ text.old.items ++ flat_map (λ w. 32 ∷ w) (keyword.now ∷ iri_word ontology.now.classes class ∷ [])) }
+    ensures { OnOk result (text.new.items ≡ text.old.items ++ spaced (class_words ontology.now keyword.now class)) }
 {
     push_word(text, keyword)?;
     push_iri(text, ontology.class_name(class))
@@ -158,7 +157,7 @@ fn push_parts(
     keyword: &[u8],
     parts: &[u32],
 ) -> Result<(), NoMemory>
-    ensures { OnOk result (text.new.items ≡ text.old.items ++ flat_map (λ w. 32 ∷ w) (keyword.now ∷ map decimal parts.now)) }
+    ensures { OnOk result (text.new.items ≡ text.old.items ++ spaced (keyword.now ∷ map decimal parts.now)) }
 {
     push_word(text, keyword)?;
     push_numbers(alloc, text, parts)
@@ -173,7 +172,7 @@ fn push_restriction(
     ontology: &Ontology,
 ) -> Result<(), NoMemory>
     requires { role < length ontology.now.roles }
-    ensures { OnOk result (text.new.items ≡ text.old.items ++ flat_map (λ w. 32 ∷ w) (keyword.now ∷ iri_word ontology.now.roles role ∷ decimal filler ∷ [])) }
+    ensures { OnOk result (text.new.items ≡ text.old.items ++ restriction_text ontology.now keyword.now role filler) }
 {
     push_word(text, keyword)?;
     push_role_and_concept(alloc, text, role, filler, ontology)
@@ -189,7 +188,7 @@ fn push_cardinality(
     ontology: &Ontology,
 ) -> Result<(), NoMemory>
     requires { role < length ontology.now.roles }
-    ensures { OnOk result (text.new.items ≡ text.old.items ++ flat_map (λ w. 32 ∷ w) (keyword.now ∷ decimal count ∷ iri_word ontology.now.roles role ∷ decimal filler ∷ [])) }
+    ensures { OnOk result (text.new.items ≡ text.old.items ++ cardinality_text ontology.now keyword.now count role filler) }
 {
     push_word(text, keyword)?;
     push_number(alloc, text, count)?;
@@ -204,7 +203,7 @@ fn push_role_and_concept(
     ontology: &Ontology,
 ) -> Result<(), NoMemory>
     requires { role < length ontology.now.roles }
-    ensures { OnOk result (text.new.items ≡ text.old.items ++ flat_map (λ w. 32 ∷ w) (iri_word ontology.now.roles role ∷ decimal concept ∷ [])) }
+    ensures { OnOk result (text.new.items ≡ text.old.items ++ spaced (role_words ontology.now role concept)) }
 {
     push_iri(text, ontology.role_name(role))?;
     push_number(alloc, text, concept)
@@ -217,7 +216,7 @@ fn push_rules(
     ontology: &Ontology,
 ) -> Result<(), NoMemory>
     requires { IsTrue (list_all (line_is_listed ontology.now) (map plain_line lines.now)) }
-    ensures { OnOk result (text.new.items ≡ text.old.items ++ text_of (map (rule_text ontology.now) (map plain_line lines.now))) }
+    ensures { OnOk result (text.new.items ≡ text.old.items ++ rules_text ontology.now (map plain_line lines.now)) }
 {
     for line in lines {
         push_rule(alloc, text, line, ontology)?;
@@ -262,7 +261,7 @@ fn push_rule(
     }
 }
 
-// Appends a keyword, and numbers behind a blank each.
+// Appends a keyword, and numbers after a blank each.
 fn push_fields(
     alloc: Global,
     text: &mut Vec<u8>,
@@ -276,7 +275,7 @@ fn push_fields(
 }
 
 fn push_numbers(alloc: Global, text: &mut Vec<u8>, numbers: &[u32]) -> Result<(), NoMemory>
-    ensures { OnOk result (text.new.items ≡ text.old.items ++ flat_map (λ w. 32 ∷ w) (map decimal numbers.now)) }
+    ensures { OnOk result (text.new.items ≡ text.old.items ++ spaced (map decimal numbers.now)) }
 {
     for number in numbers {
         push_number(alloc, text, *number)?;
@@ -300,7 +299,7 @@ fn push_iri(text: &mut Vec<u8>, name: &str) -> Result<(), NoMemory>
     Ok(())
 }
 
-// Appends a word behind a blank.
+// Appends a word after a blank.
 fn push_word(text: &mut Vec<u8>, word: &[u8]) -> Result<(), NoMemory>
     ensures { OnOk result (text.new.items ≡ text.old.items ++ 32 ∷ word.now) }
 {

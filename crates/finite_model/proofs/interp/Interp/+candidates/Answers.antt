@@ -7,7 +7,7 @@ use Rattle.shq_terms.specs.Node.{tree}
 use Rattle.shq_meaning.specs.Truth.{holds, hold_all}
 use Rattle.finite_model.specs.ModelLists.{meaning, begins}
 use Rattle.finite_model.specs.Next.{IsNext}
-use Rattle.finite_model.proofs.Candidates.{next_weaker, no_more_of_all, more_of_all, more_of_any}
+use Rattle.finite_model.proofs.Candidates.{next_weaker, no_more_of_all, more_of_all, more_of_parts}
 use Rattle.finite_model.proofs.Empty.{some_of_none, fails_at_least, fails_exactly}
 use Rattle.finite_model.proofs.interp.Interp.+candidates.Goals as goal
 
@@ -64,4 +64,4 @@ next_in_any-next_candidate-requires t c =
 pub next_in_any-loop-part-preserved : goal.next_in_any-loop-part-preserved
 next_in_any-loop-part-preserved t c =
     let k = c.args.self.now in
-    more_of_any (meaning k) k.size c.args.from c.args.parts.now c.loop-part.part-index c.part-item.result c.loop-part-test.true c.part-item.is c.loop-part.next c.next_candidate.result c.least-next.result c.loop-part.invariant c.next_candidate.ensures c.least-next.ensures
+    more_of_parts (meaning k) k.size c.args.from c.args.parts.now c.loop-part.part-index c.part-item.result c.loop-part-test.true c.part-item.is c.loop-part.next c.next_candidate.result c.least-next.result c.loop-part.invariant c.next_candidate.ensures c.least-next.ensures

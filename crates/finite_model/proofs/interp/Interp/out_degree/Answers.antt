@@ -4,7 +4,7 @@ use Rattle.finite_model.proofs.Skipped.{count_stepped, count_ended}
 use Rattle.finite_model.proofs.interp.Interp.out_degree.Goals as goal
 
 pub overflow_add-count : goal.overflow_add-count
-overflow_add-count c = omega (arith, c.in-Some.ensures.next.reached, c.behind-from.ensures, c.behind-from.type_inv, c.loop-y.invariant.bounded)
+overflow_add-count c = omega (arith, c.in-Some.ensures.next.reached, c.after-from.ensures, c.after-from.type_inv, c.loop-y.invariant.bounded)
 
 pub loop-y-preserved : goal.loop-y-preserved
 loop-y-preserved c =
@@ -13,9 +13,9 @@ loop-y-preserved c =
     let next = c.in-Some.ensures.next in
     let one : 1 ≡ cond (p c.in-Some.y) 1 0 = sym (ap (λ b. cond b 1 0) c.in-Some.ensures.successor) in
     record {
-      counted = count_stepped p p (λ y none. none) k.size c.loop-y.from c.in-Some.y c.behind-from.result c.loop-y.count 1 c.loop-y.invariant.counted next one c.behind-from.ensures;
-      bounded = omega (arith, next.reached, c.behind-from.ensures, c.loop-y.invariant.bounded);
-      within = omega (arith, next.below, c.behind-from.ensures);
+      counted = count_stepped p p (λ y none. none) k.size c.loop-y.from c.in-Some.y c.after-from.result c.loop-y.count 1 c.loop-y.invariant.counted next one c.after-from.ensures;
+      bounded = omega (arith, next.reached, c.after-from.ensures, c.loop-y.invariant.bounded);
+      within = omega (arith, next.below, c.after-from.ensures);
     }
 
 pub returns : goal.returns

@@ -24,8 +24,8 @@ loop-x-preserved c =
     let q : ℕ → Bool = λ x. not (refutes_at i c.args.query.now x) in
     let next = c.in-Some.ensures in
     record {
-      so_far = all_passed p q (unrefuted i c.args.query.now) c.args.self.now.size c.loop-x.from c.in-Some.x c.behind-from.result c.loop-x.invariant.so_far next (ap not (sym c.refutes_at.ensures ∙ c.if-refutes_at.false)) c.behind-from.ensures;
-      within = omega (arith, next.below, c.behind-from.ensures);
+      so_far = all_passed p q (unrefuted i c.args.query.now) c.args.self.now.size c.loop-x.from c.in-Some.x c.after-from.result c.loop-x.invariant.so_far next (ap not (sym c.refutes_at.ensures ∙ c.if-refutes_at.false)) c.after-from.ensures;
+      within = omega (arith, next.below, c.after-from.ensures);
     }
 
 pub returns : goal.returns

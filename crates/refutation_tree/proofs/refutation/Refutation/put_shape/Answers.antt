@@ -3,7 +3,7 @@ use Rattle.shape_specs.specs.Shape.{Shape}
 use Rattle.shq_nnf.specs.Kept.{form_of_kept}
 use Rattle.refutation_tree.specs.Shapes.{admits}
 use Rattle.refutation_tree.specs.RefutationLists.{RefutationLists}
-use Rattle.refutation_tree.proofs.Kept.{forms_pushed, kept_pushed}
+use Rattle.refutation_tree.proofs.ShapePushed.{forms_pushed, kept_pushed}
 use Rattle.refutation_tree.proofs.refutation.Refutation.put_shape.Goals as goal
 
 pub invariant_of-self-2 : goal.invariant_of-self-2

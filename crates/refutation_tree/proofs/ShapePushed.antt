@@ -8,14 +8,14 @@ use Rattle.refutation_specs.specs.Line.{Line}
 use Rattle.shq_nnf.specs.declared.shapes.KeptShape.{KeptShape}
 use Rattle.shq_nnf.specs.contracts.shapes.KeptShapePartialEq.TheImpl.{ghosts}
 use Rattle.shq_nnf.specs.Kept.{form_of_kept}
-use Rattle.refutation_tree.specs.Shapes.{fits, is_listed, admits, AreShapes}
+use Rattle.refutation_tree.specs.Shapes.{fits, is_among_shapes, admits, AreShapes}
 use Rattle.refutation_tree.specs.RuleLine.{names_concepts}
 use Rattle.refutation_tree.specs.RefutationLists.{IsKept}
 use Rattle.refutation_tree.proofs.Shapes.{shapes_push, kept_listed}
 
 module _ (keys after : List KeptShape) (k : KeptShape) (inserted : after ≡ (if list_any (ghosts.eq k) keys then keys else keys ++ k ∷ [])) (admitted : admits (map form_of_kept keys) (form_of_kept k) ≡ true) where
   fresh : list_any (ghosts.eq k) keys ≡ false
-  fresh = kept_listed k keys ∙ unlisted (is_listed (map form_of_kept keys) (form_of_kept k)) (and_parts (fits (map form_of_kept keys) (form_of_kept k)) (not (is_listed (map form_of_kept keys) (form_of_kept k))) admitted).1
+  fresh = kept_listed k keys ∙ unlisted (is_among_shapes (map form_of_kept keys) (form_of_kept k)) (and_parts (fits (map form_of_kept keys) (form_of_kept k)) (not (is_among_shapes (map form_of_kept keys) (form_of_kept k))) admitted).1
     where
       unlisted : (b : Bool) → not b ≡ true → b ≡ false
       unlisted true h = sym h
