@@ -1,26 +1,42 @@
 // The words of the command line.
-ghost use Rattle.std.specs.Prelude.{◌≡◌, option_map};
-ghost use Rattle.ontology_cli.specs.Words.{job_of, command_job, texts_of};
+ghost use Rattle.std.specs.Prelude.{◌≡◌, ◌×◌, List, String, drop, IfOk};
+ghost use Rattle.std.specs.Iterator.{IsFinite, Drains};
+ghost use Rattle.std.specs.declared.alloc.Global.{Global};
 
-/// What the words ask for.
-#[derive(Clone, Copy)]
-pub enum Command<'a> {
-    /// `check AXIOM`: verify the certificate for this axiom that follows the document.
-    Check(&'a str),
+use std::alloc::{AllocError, Global};
+use std::env;
+use std::io;
+
+/// The words after the program's name. Where some argument is no text there are none, and so no job.
+///
+/// # Errors
+///
+/// Out of memory.
+pub(crate) fn words_of(rt: &HostRuntime, alloc: Global) -> Result<Vec<String>, AllocError> {
+    match env::args(rt) {
+        Ok(args) => words_after_name(alloc, args),
+        Err(error) if error.kind() == io::ErrorKind::OutOfMemory => Err(AllocError),
+        Err(_) => Ok(Vec::new(alloc)),
+    }
 }
 
-/// None exactly where the words ask for no job.
-pub fn read_words(words: &[String]) -> Option<Command<'_>>
-    ensures { option_map command_job result ≡ job_of (texts_of words.now) }
+/// All arguments after the first, in order.
+pub(crate) fn words_after_name<I: Iterator<Item = String> + Drop>(
+    alloc: Global,
+    args: I,
+) -> Result<Vec<String>, AllocError>
+    requires can { I.can_next args }
+    requires ends { IsFinite (I.remaining args) }
+    ensures { IfOk result (λ words. (all : List (String Global)) × Drains I.next_gives args all × (words.items ≡ drop 1 all)) }
 {
-    match words {
-        [job, axiom] => {
-            if job.as_str() == "check" {
-                Some(Command::Check(axiom.as_str()))
-            } else {
-                None
-            }
+    let mut words = Vec::new(alloc);
+    let mut is_name = true;
+    for arg in args {
+        if is_name {
+            is_name = false;
+        } else {
+            words.push(arg)?;
         }
-        _ => None,
     }
+    Ok(words)
 }

@@ -1,5 +1,0 @@
-use Rattle.ontology_cli.proofs.Accepted.{does_not_follow}
-use Rattle.ontology_cli.proofs.laws.accepted_queries_do_not_follow.Goals as goal
-
-pub returns : goal.returns
-returns c = does_not_follow

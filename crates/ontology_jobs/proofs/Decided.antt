@@ -1,0 +1,167 @@
+-- The words and the input decide the answer.
+use Rattle.std.proofs.Common.{◌≡◌, ℕ, ◌<◌, ◌≤◌, ◌^◌, List, ◌⊎◌, inl, inr, length, drop, true, false, Bool, Option, Some, None, Result, Ok, Err, refl, ap, sym, ◌∙◌, subst, arith}
+use Rattle.std.specs.Prelude.{MatchOption, codes, not}
+use Rattle.shq_terms.specs.Listed.{Listed}
+use Rattle.shq_terms.specs.declared.axioms.Query.{Query as Asked}
+use Rattle.shq_meaning.specs.Truth.{refutes_at}
+use Rattle.shq_meaning.specs.Least.{IsFirstBelow}
+use Rattle.shq_meaning.proofs.Below.{all_below-false}
+use Rattle.finite_model.specs.ModelLists.{ModelLists as Model, meaning}
+use Rattle.refutation_specs.specs.Laws.{IsJudged}
+use Rattle.refutation_specs.proofs.Broken.{judged as judged_once}
+use Rattle.refutation_tree.specs.RefutationLists.{RefutationLists as Refutation}
+use Rattle.refutation_check.specs.Verdicts.{named_theory}
+use Rattle.ofn_expressions.specs.Counts.{Counts}
+use Rattle.ofn_reader.specs.DocumentContext.{DocumentContext}
+use Rattle.ofn_reader.specs.Documents.{IsDocument}
+use Rattle.ofn_reader.specs.Queries.{query_start}
+use Rattle.ofn_reader.proofs.OneReason.{document_refusals, query_refusals}
+use Rattle.ofn_reader.proofs.Unique.{documents, documents_not_refused, queries, queries_not_refused}
+use Rattle.ontology_jobs.specs.Words.{Job, check, job_of}
+use Rattle.ontology_jobs.specs.Certificates.{certificate}
+use Rattle.ontology_jobs.specs.Checking.{with_names, IsAsked, IsNotAsked, IsOfModel, IsOfRefutation, IsVerdictOn, line_of_place, Reply, judged, refused_document, refused_query, malformed_line, Shows, IsReply, no_document, no_query, shown}
+use Rattle.ontology_jobs.specs.Answers.{line, Answer, verdict_answer, reply_answer, AnswersJob, Answers}
+use Rattle.ontology_jobs.specs.Laws.{IsDecided}
+use Rattle.ontology_jobs.specs.declared.certificate.Certificate.{Certificate}
+use Rattle.ontology_jobs.specs.declared.certificate.Certificate.TheVariants as C
+use Rattle.ontology_jobs.specs.declared.judging.Verdict.{Verdict}
+use Rattle.ontology_jobs.specs.declared.judging.Verdict.TheVariants.{NotEntailed, Entailed, Axiom, Query, Line}
+use Rattle.ontology_jobs.specs.declared.status.Status.{Status}
+use Rattle.ontology_jobs.specs.declared.status.Status.TheVariants.{Done, Rejected, BadWords, BadText, Outside, Limit, ReadFault, WriteFault, NoMemory}
+
+some_same : {A : Type 0} (a b : A) → Some a ≡ Some b → a ≡ b
+some_same a b same = cc same
+
+-- a least element that passes, and none that passes, exclude each other
+none_and_least : (m : Model) (q : Asked) (y : ℕ) → IsFirstBelow m.size (refutes_at (meaning m) q) (Some y) → IsFirstBelow m.size (refutes_at (meaning m) q) None → ⊥
+none_and_least m q y some none =
+    let p : ℕ → Bool = refutes_at (meaning m) q in
+    let fails : not (p y) ≡ false = ap not some.passes in
+    let clash : true ≡ false = sym none ∙ all_below-false m.size (λ z. not (p z)) y some.below fails in
+    absurd (cc clash)
+
+-- one verdict on a model excludes the others
+module _ (o : Listed) (q : Asked) (m : Model) where
+  same_of_model : (v w : Verdict) → IsOfModel o q m v → IsOfModel o q m w → ◌≡◌ {A = Answer} (verdict_answer v) (verdict_answer w)
+  same_of_model NotEntailed NotEntailed a b = refl
+  same_of_model NotEntailed (Axiom k) a b = let clash : None ≡ Some k = sym a.0 ∙ b in absurd (cc clash)
+  same_of_model NotEntailed Query a b = absurd (none_and_least m q a.1.0 a.1.1 b.1)
+  same_of_model (Axiom j) NotEntailed a b = let clash : None ≡ Some j = sym b.0 ∙ a in absurd (cc clash)
+  same_of_model (Axiom j) (Axiom k) a b = let same : j ≡ k = some_same j k (sym a ∙ b) in ap (λ n. verdict_answer (Axiom n)) same
+  same_of_model (Axiom j) Query a b = let clash : None ≡ Some j = sym b.0 ∙ a in absurd (cc clash)
+  same_of_model Query NotEntailed a b = absurd (none_and_least m q b.1.0 b.1.1 a.1)
+  same_of_model Query (Axiom k) a b = let clash : None ≡ Some k = sym a.0 ∙ b in absurd (cc clash)
+  same_of_model Query Query a b = refl
+  same_of_model NotEntailed Entailed a b = absurd b
+  same_of_model NotEntailed (Line n) a b = absurd b
+  same_of_model (Axiom j) Entailed a b = absurd b
+  same_of_model (Axiom j) (Line n) a b = absurd b
+  same_of_model Query Entailed a b = absurd b
+  same_of_model Query (Line n) a b = absurd b
+  same_of_model Entailed w a b = absurd a
+  same_of_model (Line n) w a b = absurd a
+
+-- and so does one on a refutation
+module _ (o : Listed) (q : Asked) (r : Refutation) where
+  judgement : IsJudged (named_theory o.axioms r) q.sub q.sup r.shapes r.lines
+  judgement = judged_once (named_theory o.axioms r) q.sub q.sup r.shapes r.lines
+
+  same_of_refutation : (v w : Verdict) → IsOfRefutation o q r v → IsOfRefutation o q r w → ◌≡◌ {A = Answer} (verdict_answer v) (verdict_answer w)
+  same_of_refutation Entailed Entailed a b = refl
+  same_of_refutation Entailed (Line n) a b = absurd (judgement.not_both a b.0 b.1)
+  same_of_refutation (Line n) Entailed a b = absurd (judgement.not_both b a.0 a.1)
+  same_of_refutation (Line n) (Line k) a b =
+      let same : n ≡ k = a.2 ∙ ap (line_of_place r) (judgement.only_place a.0 b.0 a.1 b.1) ∙ sym b.2 in
+      ap (λ i. verdict_answer (Line i)) same
+  same_of_refutation Entailed NotEntailed a b = absurd b
+  same_of_refutation Entailed (Axiom k) a b = absurd b
+  same_of_refutation Entailed Query a b = absurd b
+  same_of_refutation (Line n) NotEntailed a b = absurd b
+  same_of_refutation (Line n) (Axiom k) a b = absurd b
+  same_of_refutation (Line n) Query a b = absurd b
+  same_of_refutation NotEntailed w a b = absurd a
+  same_of_refutation (Axiom j) w a b = absurd a
+  same_of_refutation Query w a b = absurd a
+
+same_verdict : (o : Listed) (q : Asked) (c : Certificate) (v w : Verdict) → IsVerdictOn o q c v → IsVerdictOn o q c w → ◌≡◌ {A = Answer} (verdict_answer v) (verdict_answer w)
+same_verdict o q (C.Model m) v w a b = same_of_model o q m v w a b
+same_verdict o q (C.Refutation r) v w a b = same_of_refutation o q r v w a b
+
+-- one certificate for one query has one answer
+same_shows : (o : Listed) (asked : Asked) (c : Result Certificate ℕ) (r q : Reply) → Shows o asked c r → Shows o asked c q → ◌≡◌ {A = Answer} (reply_answer r) (reply_answer q)
+same_shows o asked (Ok c) (judged v) (judged w) p q = same_verdict o asked c v w p q
+same_shows o asked (Err n) (malformed_line j) (malformed_line k) p q = ap (λ i. reply_answer (malformed_line i)) (sym p ∙ q)
+same_shows o asked (Ok c) (judged v) (refused_document e) p q = absurd q
+same_shows o asked (Ok c) (judged v) (refused_query e) p q = absurd q
+same_shows o asked (Ok c) (judged v) (malformed_line k) p q = absurd q
+same_shows o asked (Err n) (malformed_line j) (judged w) p q = absurd q
+same_shows o asked (Err n) (malformed_line j) (refused_document e) p q = absurd q
+same_shows o asked (Err n) (malformed_line j) (refused_query e) p q = absurd q
+same_shows o asked c r q p s = absurd p
+
+-- on one document a query is read or refused, and then its answer is one
+module _ (query bytes : List ℕ) (o : Listed) (kept : DocumentContext) (end : ℕ) where
+  same_asked : (a b : Counts) (x y : Asked) (r q : Reply) → IsAsked o kept query a x → IsAsked o kept query b y → Shows (with_names o a) x (certificate (with_names o a) (drop end bytes)) r
+      → Shows (with_names o b) y (certificate (with_names o b) (drop end bytes)) q → ◌≡◌ {A = Answer} (reply_answer r) (reply_answer q)
+  same_asked a b x y r q p s shows others =
+      let same = queries kept.prefixes o.axioms (query_start o kept.nodes) query a b x y p s in
+      same_shows (with_names o b) y (certificate (with_names o b) (drop end bytes)) r q
+      (subst (λ z. Shows (with_names o b) z (certificate (with_names o b) (drop end bytes)) r) same.1 (subst (λ d. Shows (with_names o d) x (certificate (with_names o d) (drop end bytes)) r) same.0 shows)) others
+
+-- what was read as one document was read as each other
+moved : (P : Listed → DocumentContext → ℕ → Type 0) (bytes : List ℕ) (o p : Listed) (j k : DocumentContext) (d e : ℕ) → IsDocument bytes o j d → IsDocument bytes p k e → P o j d → P p k e
+moved P bytes o p j k d e first second holds =
+    let same = documents bytes o p j k d e first second in
+    subst (λ i. P p k i) same.2 (subst (λ l. P p l d) same.1 (subst (λ l. P l j d) same.0 holds))
+
+same_said : (query bytes : List ℕ) (r q : Reply) → IsReply query bytes r → IsReply query bytes q → ◌≡◌ {A = Answer} (reply_answer r) (reply_answer q)
+same_said query bytes _ _ (no_document e why) (no_document f because) = ap (λ x. reply_answer (refused_document x)) (document_refusals bytes e f why because)
+same_said query bytes _ _ (no_document e why) (no_query o k d f is because) = absurd (documents_not_refused bytes o k d e is why)
+same_said query bytes _ _ (no_document e why) (shown o k d b x q is asked shows) = absurd (documents_not_refused bytes o k d e is why)
+same_said query bytes _ _ (no_query o k d f is because) (no_document e why) = absurd (documents_not_refused bytes o k d e is why)
+same_said query bytes _ _ (no_query o k d e is why) (no_query p j c f are because) =
+    ap (λ x. reply_answer (refused_query x)) (query_refusals j.prefixes p.axioms (query_start p j.nodes) query e f (moved (λ l i n. IsNotAsked l i query e) bytes o p k j d c is are why) because)
+same_said query bytes _ _ (no_query o k d e is why) (shown p j c b x q are asked shows) =
+    absurd (queries_not_refused j.prefixes p.axioms (query_start p j.nodes) query b x e asked (moved (λ l i n. IsNotAsked l i query e) bytes o p k j d c is are why))
+same_said query bytes _ _ (shown o k d b x r is asked shows) (no_document e why) = absurd (documents_not_refused bytes o k d e is why)
+same_said query bytes _ _ (shown o k d b x r is asked shows) (no_query p j c e are why) =
+    absurd (queries_not_refused k.prefixes o.axioms (query_start o k.nodes) query b x e asked (moved (λ l i n. IsNotAsked l i query e) bytes p o j k c d are is why))
+same_said query bytes _ _ (shown o k d b x r is asked shows) (shown p j c a y q are sought others) =
+    let there = moved (λ l i n. IsAsked l i query b x × Shows (with_names l b) x (certificate (with_names l b) (drop n bytes)) r) bytes o p k j d c is are (asked, shows) in
+    same_asked query bytes p j c b a x y r q there.0 sought there.1 others
+
+-- the two answers of a verification, each with what holds then
+data Outcome (query bytes : List ℕ) (a : Answer) : Type 0 where
+  too_long : 2 ^ 24 < length bytes → ◌≡◌ {A = Answer} a (Limit, line (codes "limit text")) → Outcome query bytes a
+  replied : length bytes ≤ 2 ^ 24 → (r : Reply) → IsReply query bytes r → ◌≡◌ {A = Answer} a (reply_answer r) → Outcome query bytes a
+
+same_outcome : (query bytes : List ℕ) (a b : Answer) → Outcome query bytes a → Outcome query bytes b → ◌≡◌ {A = Answer} a b
+same_outcome query bytes a b (too_long long p) (too_long more q) = p ∙ sym q
+same_outcome query bytes a b (too_long long p) (replied short r is q) = absurd (omega arith)
+same_outcome query bytes a b (replied short r is p) (too_long long q) = absurd (omega arith)
+same_outcome query bytes a b (replied short r is p) (replied less s are q) = p ∙ same_said query bytes r s is are ∙ sym q
+
+-- which of the two an answer is
+by_length : (query bytes : List ℕ) (a : Answer) → ((2 ^ 24 < length bytes) × (◌≡◌ {A = Answer} a (Limit, line (codes "limit text")))) ⊎ ((length bytes ≤ 2 ^ 24) × ((r : Reply) × IsReply query bytes r × (◌≡◌ {A = Answer} a (reply_answer r)))) → Outcome query bytes a
+by_length query bytes a (inl (long, is)) = too_long long is
+by_length query bytes a (inr (short, (r, says, is))) = replied short r says is
+
+outcome : (query bytes out : List ℕ) (s : Status) → IsDecided s → AnswersJob (check query) bytes out s → Outcome query bytes (s, out)
+outcome query bytes out Done known answer = by_length query bytes (Done, out) answer
+outcome query bytes out Rejected known answer = by_length query bytes (Rejected, out) answer
+outcome query bytes out BadWords known answer = by_length query bytes (BadWords, out) answer
+outcome query bytes out BadText known answer = by_length query bytes (BadText, out) answer
+outcome query bytes out Outside known answer = by_length query bytes (Outside, out) answer
+outcome query bytes out Limit known answer = by_length query bytes (Limit, out) answer
+outcome query bytes out ReadFault known answer = absurd known
+outcome query bytes out WriteFault known answer = absurd known
+outcome query bytes out NoMemory known answer = absurd known
+
+pub answers : (words : List (List ℕ)) (bytes out text : List ℕ) (s t : Status) → IsDecided s → IsDecided t → Answers words bytes out s → Answers words bytes text t → (s ≡ t) × (out ≡ text)
+answers words bytes out text s t known sure = by (job_of words)
+  where
+    by : (j : Option Job) → MatchOption j ((s ≡ BadWords) × (out ≡ line (codes "bad words"))) (λ job. AnswersJob job bytes out s) → MatchOption j ((t ≡ BadWords) × (text ≡ line (codes "bad words"))) (λ job. AnswersJob job bytes text t) → (s ≡ t) × (out ≡ text)
+    by None p q = (p.0 ∙ sym q.0, p.1 ∙ sym q.1)
+    by (Some (check query)) p q =
+        let same = same_outcome query bytes (s, out) (t, text) (outcome query bytes out s known p) (outcome query bytes text t sure q) in
+        ((λ i. (same i).0), (λ i. (same i).1))
