@@ -6,7 +6,7 @@ use Rattle.shape_specs.specs.Normal.{normal_form, negated_form}
 use Rattle.shape_specs.specs.Shape.{Shape}
 use Rattle.shq_nnf.specs.Numbers.{Extends}
 use Rattle.shq_nnf.proofs.Numbers.{number_stays}
-use Rattle.role_box.specs.declared.axioms.RoleAxiom.{RoleAxiom}
+use Rattle.role_box.specs.declared.role_axiom.RoleAxiom.{RoleAxiom}
 use Rattle.role_box.specs.RoleAxioms.{role_axioms}
 use Rattle.row_cache.specs.Kept.{RowFrame, IsOver}
 use Rattle.fact_specs.specs.Reading.{are_listed}

@@ -11,7 +11,7 @@ use Rattle.shq_terms.specs.declared.axioms.Query.{Query}
 use Rattle.shq_nnf.specs.Numbers.{IsNumber}
 use Rattle.shq_nnf.specs.Kept.{form_of}
 use Rattle.shq_nnf.specs.declared.shapes.Shape.{Shape as Shown}
-use Rattle.role_box.specs.declared.axioms.RoleAxiom.{RoleAxiom}
+use Rattle.role_box.specs.declared.role_axiom.RoleAxiom.{RoleAxiom}
 use Rattle.role_box.specs.RoleAxioms.{role_axioms}
 use Rattle.row_cache.specs.Kept.{RowFrame}
 use Rattle.row_cache.specs.declared.rows.Row.{Row}

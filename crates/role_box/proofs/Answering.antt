@@ -3,7 +3,7 @@ use Rattle.std.proofs.Common.{◌≡◌, ℕ, zero, suc, ◌<◌, ◌≤◌, ◌
 use Rattle.std.specs.Prelude.{◌↔◌}
 use Rattle.std.proofs.lemmas.Bool.{or_cases, or_left, or_right, and_parts, and_from, cases_eq, eqb-true, false_from_ne_true, not_from_false, not-true}
 use Rattle.shape_specs.specs.Roles.{IsBelow, IsSimple, itself, by_step}
-use Rattle.role_box.specs.declared.axioms.RoleAxiom.{RoleAxiom}
+use Rattle.role_box.specs.declared.role_axiom.RoleAxiom.{RoleAxiom}
 use Rattle.role_box.specs.Steps.{Leads, is_transitive, IsTransitive}
 use Rattle.role_box.specs.Paths.{has_path, same_or_leads, role_limit, is_below}
 use Rattle.role_box.specs.Closure.{any_below, IsClosed}

@@ -7,7 +7,7 @@ use Rattle.shq_terms.specs.declared.axioms.Axiom.{Axiom}
 use Rattle.shq_terms.specs.declared.axioms.Axiom.TheVariants.{SubClassOf, EquivalentClasses, DisjointClasses, DisjointUnion, SubRole, EquivalentRoles, Domain, Range, Functional, Transitive}
 use Rattle.shq_terms.specs.declared.axioms.Numbered.{Numbered}
 use Rattle.shq_terms.specs.Uses.{axiom_uses_listed, all_use_listed}
-use Rattle.role_box.specs.declared.axioms.RoleAxiom.{RoleAxiom}
+use Rattle.role_box.specs.declared.role_axiom.RoleAxiom.{RoleAxiom}
 use Rattle.role_box.specs.RoleAxioms.{role_part, role_part_at, role_axioms}
 use Rattle.role_box.specs.Paths.{limit_of, role_limit}
 

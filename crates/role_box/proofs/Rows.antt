@@ -6,7 +6,7 @@ use Rattle.std.proofs.Math.Seq.{get_or-append_seam, take-append_seam}
 use Rattle.std.proofs.lemmas.List.{get_or_past, get_or-set_same, get_or-set_other}
 use Rattle.role_box.specs.declared.role_set.RoleSet.{RoleSet}
 use Rattle.role_box.specs.RoleSet.{has, empty_set, linked}
-use Rattle.role_box.specs.declared.axioms.RoleAxiom.{RoleAxiom}
+use Rattle.role_box.specs.declared.role_axiom.RoleAxiom.{RoleAxiom}
 use Rattle.role_box.specs.Steps.{is_among, leads}
 use Rattle.role_box.specs.Paths.{has_path, same_or_leads}
 use Rattle.role_box.specs.Closure.{any_below}

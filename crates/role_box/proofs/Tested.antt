@@ -2,7 +2,7 @@
 use Rattle.std.proofs.Common.{◌≡◌, ℕ, Bool, true, List, ◌&&◌, refl, arith}
 use Rattle.std.specs.Prelude.{◌↔◌}
 use Rattle.shape_specs.specs.Roles.{IsSimple}
-use Rattle.role_box.specs.declared.axioms.RoleAxiom.{RoleAxiom}
+use Rattle.role_box.specs.declared.role_axiom.RoleAxiom.{RoleAxiom}
 use Rattle.role_box.specs.Steps.{Leads, is_transitive, IsTransitive}
 use Rattle.role_box.specs.Paths.{role_limit, is_below}
 use Rattle.role_box.specs.Closure.{any_below}

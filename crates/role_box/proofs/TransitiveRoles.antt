@@ -6,7 +6,7 @@ use Rattle.std.specs.List.Sorted.{IsStrictlyIncreasing}
 use Rattle.std.proofs.lemmas.Bool.{and_parts, and_from, cases_eq, cases_Bool}
 use Rattle.std.proofs.lemmas.List.Kept.{IsStrictlyIncreasing-filter}
 use Rattle.shape_specs.specs.Roles.{IsBelow}
-use Rattle.role_box.specs.declared.axioms.RoleAxiom.{RoleAxiom}
+use Rattle.role_box.specs.declared.role_axiom.RoleAxiom.{RoleAxiom}
 use Rattle.role_box.specs.Steps.{Leads, is_transitive, IsTransitive}
 use Rattle.role_box.specs.Paths.{role_limit, is_below}
 use Rattle.role_box.specs.Closure.{is_between, numbers_from, between_from}

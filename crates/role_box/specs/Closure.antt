@@ -1,6 +1,6 @@
 -- What the table of a role box keeps.
 use Rattle.std.specs.Prelude.{◌≡◌, ℕ, zero, suc, ◌+◌, ◌-◌, ◌<◌, ◌≤◌, ◌&&◌, ◌||◌, Bool, false, List, [], ◌∷◌, length, filter}
-use Rattle.role_box.specs.declared.axioms.RoleAxiom.{RoleAxiom}
+use Rattle.role_box.specs.declared.role_axiom.RoleAxiom.{RoleAxiom}
 use Rattle.role_box.specs.declared.role_set.RoleSet.{RoleSet}
 use Rattle.role_box.specs.RoleSet.{has, linked}
 use Rattle.role_box.specs.Steps.{is_transitive}

@@ -1,7 +1,7 @@
 -- A test whether one role is below another: a path leads between them, and it needs no inner role from a bound on.
 use Rattle.std.specs.Prelude.{ℕ, zero, suc, ◌==◌, ◌&&◌, ◌||◌, Bool, List, [], ◌∷◌, max}
-use Rattle.role_box.specs.declared.axioms.RoleAxiom.{RoleAxiom}
-use Rattle.role_box.specs.declared.axioms.RoleAxiom.TheVariants.{Inclusion, Equivalence, Transitivity}
+use Rattle.role_box.specs.declared.role_axiom.RoleAxiom.{RoleAxiom}
+use Rattle.role_box.specs.declared.role_axiom.RoleAxiom.TheVariants.{Inclusion, Equivalence, Transitivity}
 use Rattle.role_box.specs.Steps.{leads}
 
 -- whether steps lead from r to s over inner roles below k alone

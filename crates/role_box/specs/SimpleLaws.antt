@@ -1,7 +1,7 @@
 -- Laws of the definitions.
 use Rattle.std.specs.Prelude.{◌≡◌, ℕ, true, ◌↔◌, List}
 use Rattle.shape_specs.specs.Roles.{IsSimple}
-use Rattle.role_box.specs.declared.axioms.RoleAxiom.{RoleAxiom}
+use Rattle.role_box.specs.declared.role_axiom.RoleAxiom.{RoleAxiom}
 use Rattle.role_box.specs.Steps.{Leads, IsTransitive}
 use Rattle.role_box.specs.Simple.{is_simple}
 

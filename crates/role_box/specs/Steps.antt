@@ -1,8 +1,8 @@
 -- The single steps from a role to one that is above it, and the transitive roles, by role axioms.
 use Rattle.std.specs.Prelude.{◌≡◌, ℕ, ◌==◌, ◌&&◌, Bool, true, false, List}
 use Rattle.std.specs.List.{list_any}
-use Rattle.role_box.specs.declared.axioms.RoleAxiom.{RoleAxiom}
-use Rattle.role_box.specs.declared.axioms.RoleAxiom.TheVariants.{Inclusion, Equivalence, Transitivity}
+use Rattle.role_box.specs.declared.role_axiom.RoleAxiom.{RoleAxiom}
+use Rattle.role_box.specs.declared.role_axiom.RoleAxiom.TheVariants.{Inclusion, Equivalence, Transitivity}
 
 abbrev pub is_among : List ℕ → ℕ → Bool
 is_among rs r = list_any (λ x. x == r) rs

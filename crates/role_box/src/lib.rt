@@ -2,20 +2,20 @@
 //! simple, as the roles of number restrictions have to be (OWL 2 Structural Specification, section 11.2).
 #![tactic(auto)]
 
-mod axioms;
 mod closure;
-mod counted;
-mod ontologies;
-mod relation;
+mod counted_roles;
+mod role_axiom;
+mod role_box;
 mod role_set;
+mod simple_roles;
 
 ghost use Rattle.role_box.specs.Laws.{TestIsBelow};
 ghost use Rattle.role_box.specs.SimpleLaws.{TestIsSimple};
 
-pub use axioms::RoleAxiom;
-pub use ontologies::{class_is_simple, first_not_simple, query_is_simple};
-pub use relation::{Between, RoleBox};
+pub use role_axiom::RoleAxiom;
+pub use role_box::{Between, RoleBox};
 pub use shq_base::NoMemory;
+pub use simple_roles::{class_is_simple, first_not_simple, query_is_simple};
 
 /// The test by paths over bounded inner roles is that of chains.
 pub fn path_test_is_below()

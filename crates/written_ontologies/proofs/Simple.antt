@@ -3,7 +3,7 @@ use Rattle.std.proofs.Common.{◌≡◌, ℕ, zero, suc, ◌-◌, true, List, []
 use Rattle.std.specs.Prelude.{slice_get}
 use Rattle.std.specs.List.{list_all}
 use Rattle.shq_terms.specs.declared.axioms.Numbered.{Numbered}
-use Rattle.role_box.specs.declared.axioms.RoleAxiom.{RoleAxiom}
+use Rattle.role_box.specs.declared.role_axiom.RoleAxiom.{RoleAxiom}
 use Rattle.role_box.specs.RoleAxioms.{role_part, role_part_at, role_axioms}
 use Rattle.role_box.specs.Closure.{numbers_from}
 use Rattle.role_box.specs.Counted.{counted_by}

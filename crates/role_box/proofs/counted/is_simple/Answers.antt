@@ -1,5 +1,0 @@
-use Rattle.role_box.proofs.Tested.{test_answered}
-use Rattle.role_box.proofs.counted.is_simple.Goals as goal
-
-pub returns : goal.returns
-returns c = test_answered c.args.roles.now c.args.role c.simple.result c.simple.ensures
