@@ -1,5 +1,5 @@
 -- What the tests of a role box say, by what its table keeps.
-use Rattle.std.proofs.Common.{◌≡◌, ℕ, zero, suc, ◌<◌, ◌≤◌, ◌&&◌, not, eqb, Bool, true, List, length, get_or, refl, sym, ◌∙◌, subst, arith, inl, inr, eq-eqb}
+use Rattle.std.proofs.Common.{◌≡◌, ℕ, zero, suc, ◌<◌, ◌≤◌, ◌&&◌, not, eqb, Bool, true, List, [], length, get_or, refl, sym, ◌∙◌, subst, arith, inl, inr, eq-eqb}
 use Rattle.std.specs.Prelude.{◌↔◌}
 use Rattle.std.proofs.lemmas.Bool.{or_cases, or_left, or_right, and_parts, and_from, cases_eq, eqb-true, false_from_ne_true, not_from_false, not-true}
 use Rattle.shape_specs.specs.Roles.{IsBelow, IsSimple, itself, by_step}
@@ -7,10 +7,9 @@ use Rattle.role_box.specs.declared.role_axiom.RoleAxiom.{RoleAxiom}
 use Rattle.role_box.specs.Steps.{Leads, is_transitive, IsTransitive}
 use Rattle.role_box.specs.Paths.{has_path, same_or_leads, role_limit, is_below}
 use Rattle.role_box.specs.Closure.{any_below, IsClosed}
-use Rattle.role_box.specs.declared.role_set.RoleSet.{RoleSet}
-use Rattle.role_box.specs.RoleSet.{has, empty_set, linked}
+use Rattle.role_box.specs.Rows.{has, linked}
 use Rattle.role_box.proofs.Rows.{linked_row}
-use Rattle.role_box.proofs.Bools.{same_from_both}
+use Rattle.shq_base.proofs.Bools.{same_truth}
 use Rattle.role_box.proofs.Limits.{leads_within, transitive_within, test_is_below, is_below-bounded}
 
 -- from a role that no axiom names no chain leads to another role
@@ -23,7 +22,7 @@ outside_chain axioms r s le (by_step x y z b e) =
 
 pub below_outside : (axioms : List RoleAxiom) (r s : ℕ) → role_limit axioms ≤ r → is_below axioms r s ≡ eqb r s
 below_outside axioms r s le =
-    same_from_both (is_below axioms r s) (eqb r s)
+    same_truth (is_below axioms r s) (eqb r s)
     (λ h. eq-eqb r s (outside_chain axioms r s le ((test_is_below axioms r s).0 h)))
     (λ h. (test_is_below axioms r s).1 (subst (λ (x : ℕ). IsBelow (Leads axioms) r x) (eqb-true r s h) (itself r)))
 
@@ -62,13 +61,13 @@ simple_from_test axioms n s complex le e = (
 
 -- ---- a row of the table
 
-pub below_listed : (axioms : List RoleAxiom) (rows read : List RoleSet) (lower upper : ℕ) (row : RoleSet) (answer : Bool) → read ≡ rows → lower < length read
-    → row ≡ get_or read lower empty_set → answer ≡ has row.words upper
+pub below_listed : (axioms : List RoleAxiom) (rows read : List (List ℕ)) (lower upper : ℕ) (row : List ℕ) (answer : Bool) → read ≡ rows → lower < length read
+    → row ≡ get_or read lower [] → answer ≡ has row upper
     → ((r s : ℕ) → r < length rows → linked rows r s ≡ is_below axioms r s) → answer ≡ is_below axioms lower upper
 below_listed axioms rows read lower upper row answer same lt got e table =
-    let within : lower < length rows = subst (λ (rs : List RoleSet). lower < length rs) same lt in
-    let got' : get_or rows lower empty_set ≡ row = subst (λ (rs : List RoleSet). get_or rs lower empty_set ≡ row) same (sym got) in
-    let bit : linked rows lower upper ≡ has row.words upper = linked_row rows lower upper row got' in
+    let within : lower < length rows = subst (λ (rs : List (List ℕ)). lower < length rs) same lt in
+    let got' : get_or rows lower [] ≡ row = subst (λ (rs : List (List ℕ)). get_or rs lower [] ≡ row) same (sym got) in
+    let bit : linked rows lower upper ≡ has row upper = linked_row rows lower upper row got' in
     let closed = table lower upper within in
     cc
 
@@ -81,7 +80,7 @@ any_below-same (suc n) p q same =
     let last = same n (omega arith) in
     cc
 
-pub made_closed : (axioms : List RoleAxiom) (rows : List RoleSet) (transitive complex : List ℕ) (count : ℕ) → count ≤ 1000 → role_limit axioms ≤ count → length rows ≡ count
+pub made_closed : (axioms : List RoleAxiom) (rows : List (List ℕ)) (transitive complex : List ℕ) (count : ℕ) → count ≤ 1000 → role_limit axioms ≤ count → length rows ≡ count
     → ((r s : ℕ) → r < count → linked rows r s ≡ has_path (same_or_leads axioms) count r s)
     → ((t : ℕ) → has transitive t ≡ is_transitive axioms t)
     → ((s : ℕ) → has complex s ≡ any_below (length rows) (λ t. has transitive t && linked rows t s))

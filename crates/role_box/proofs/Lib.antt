@@ -1,7 +1,6 @@
-pub mod Bools
+pub mod Sets
 pub mod Paths
 pub mod Limits
-pub mod Words
 pub mod Rows
 pub mod Collected
 pub mod Answering

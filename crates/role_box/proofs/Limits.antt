@@ -7,7 +7,7 @@ use Rattle.role_box.specs.declared.role_axiom.RoleAxiom.TheVariants.{Inclusion, 
 use Rattle.role_box.specs.Steps.{is_among, leads_by, leads, Leads, is_transitive_by, is_transitive}
 use Rattle.role_box.specs.Paths.{has_path, same_or_leads, limit_of, axiom_limit, role_limit, is_below}
 use Rattle.role_box.specs.Laws.{TestIsBelow}
-use Rattle.role_box.proofs.Bools.{same_from_both}
+use Rattle.shq_base.proofs.Bools.{same_truth}
 use Rattle.role_box.proofs.Paths.{chain_of_path, path_of_chain}
 
 among_within : (rs : List ℕ) (r : ℕ) → is_among rs r ≡ true → r < limit_of rs
@@ -72,7 +72,7 @@ test_is_below axioms r s = (chain_of_bounded axioms (role_limit axioms) r s, bou
 -- a bound above the limit finds the same paths
 pub is_below-bounded : (axioms : List RoleAxiom) (n : ℕ) → role_limit axioms ≤ n → (r s : ℕ) → is_below axioms r s ≡ has_path (same_or_leads axioms) n r s
 is_below-bounded axioms n le r s =
-    same_from_both (is_below axioms r s) (has_path (same_or_leads axioms) n r s)
+    same_truth (is_below axioms r s) (has_path (same_or_leads axioms) n r s)
     (λ h. bounded_of_chain axioms n le r s ((test_is_below axioms r s).0 h))
     (λ h. (test_is_below axioms r s).1 (chain_of_bounded axioms n r s h))
 

@@ -1,9 +1,8 @@
 pub mod RoleAxioms
 pub mod Steps
 pub mod Paths
-pub mod RoleSet
+pub mod Rows
 pub mod Closure
-pub mod Laws
 pub mod Counted
 pub mod Simple
-pub mod SimpleLaws
+pub mod Laws

@@ -1,6 +1,6 @@
 -- Simple roles by all axioms of an ontology, and the axioms that count other roles.
 use Rattle.std.specs.Prelude.{◌≡◌, ℕ, Bool, true, false, ◌&&◌, not, List, length, Option, None, Some}
-use Rattle.std.specs.List.{list_all, find}
+use Rattle.std.specs.List.{list_all, find, range_with_len}
 use Rattle.std.specs.Option.{option_map}
 use Rattle.shq_terms.specs.declared.axioms.Axiom.{Axiom}
 use Rattle.shq_terms.specs.declared.axioms.Axiom.TheVariants.{Transitive}
@@ -9,7 +9,7 @@ use Rattle.role_box.specs.declared.role_axiom.RoleAxiom.{RoleAxiom}
 use Rattle.role_box.specs.RoleAxioms.{role_axioms}
 use Rattle.role_box.specs.Steps.{is_transitive}
 use Rattle.role_box.specs.Paths.{role_limit, is_below}
-use Rattle.role_box.specs.Closure.{any_below, numbers_from}
+use Rattle.role_box.specs.Closure.{any_below}
 use Rattle.role_box.specs.Counted.{counted_by}
 
 -- whether no role that one of the axioms makes transitive is below the role
@@ -18,7 +18,7 @@ is_simple axioms s = not (any_below (role_limit axioms) (λ t. is_transitive axi
 
 -- the role axioms of an ontology with these axioms
 abbrev pub all_role_axioms : List Numbered → List RoleAxiom
-all_role_axioms axioms = role_axioms axioms (numbers_from 1 (length axioms))
+all_role_axioms axioms = role_axioms axioms (range_with_len 1 (length axioms))
 
 -- whether each of the roles is simple
 abbrev pub are_simple : List RoleAxiom → List ℕ → Bool
@@ -32,6 +32,13 @@ counts_simple roles n = are_simple roles (counted_by n.axiom)
 abbrev pub first_not_simple : List RoleAxiom → List Numbered → Option ℕ
 first_not_simple roles axioms = option_map (λ (n : Numbered). n.line) (find (λ n. not (counts_simple roles n)) axioms)
 
+-- the same by all role axioms of an ontology with these axioms
+abbrev pub line_not_simple : List Numbered → Option ℕ
+line_not_simple axioms = first_not_simple (all_role_axioms axioms) axioms
+
+abbrev pub are_simple_by : List Numbered → List ℕ → Bool
+are_simple_by axioms rs = are_simple (all_role_axioms axioms) rs
+
 -- ---- what a function is given of the roles
 
 abbrev pub is_transitivity : Axiom → Bool
@@ -42,3 +49,12 @@ is_transitivity _ = false
 abbrev pub AreRolesOf : List Numbered → Option (List RoleAxiom) → Type 0
 AreRolesOf axioms None = (r : ℕ) → is_simple (all_role_axioms axioms) r ≡ true
 AreRolesOf axioms (Some roles) = roles ≡ all_role_axioms axioms
+
+-- whether each of the roles is simple, and the line of the first axiom that counts another one, by what is given
+abbrev pub are_simple_in : Option (List RoleAxiom) → List ℕ → Bool
+are_simple_in None rs = true
+are_simple_in (Some roles) rs = are_simple roles rs
+
+abbrev pub line_in : Option (List RoleAxiom) → List Numbered → Option ℕ
+line_in None axioms = None
+line_in (Some roles) axioms = first_not_simple roles axioms

@@ -7,6 +7,7 @@ ghost use Rattle.role_box.specs.Simple.{is_simple, are_simple};
 use crate::RoleBox;
 use shq_terms::{Axiom, Concept, Node};
 
+/// Whether the role is simple.
 fn is_simple(roles: &RoleBox, role: u32) -> bool
     ensures { result ≡ is_simple roles.now role }
 {
@@ -29,6 +30,7 @@ pub(crate) fn class_counts_simple(roles: &RoleBox, concept: &Concept) -> bool
     }
 }
 
+/// Whether each role that some of the class expressions count is simple.
 #[cycle(counted)]
 #[tactic(auto, using(crate::proofs::Lists::all_append))]
 fn all_count_simple(roles: &RoleBox, concepts: &[Concept]) -> bool
@@ -42,6 +44,7 @@ fn all_count_simple(roles: &RoleBox, concepts: &[Concept]) -> bool
     true
 }
 
+/// Whether each role that one of the class expressions counts is simple.
 #[tactic(auto, using(crate::proofs::Lists::all_append))]
 pub(crate) fn both_count_simple(roles: &RoleBox, one: &Concept, other: &Concept) -> bool
     ensures { result ≡ are_simple roles.now (counted_roles one.now ++ counted_roles other.now) }

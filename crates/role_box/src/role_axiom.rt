@@ -37,7 +37,7 @@ pub(crate) fn collect_role_axioms(
     Ok(found)
 }
 
-// Puts the axiom last where it is a role axiom.
+/// Puts the axiom last where it is a role axiom.
 fn push_role_axiom(alloc: Global, found: &mut Vec<RoleAxiom>, axiom: &Axiom) -> Result<(), NoMemory>
     ensures { OnOk result (found.new.items ≡ found.old.items ++ role_part «axiom».now) }
 {
@@ -54,6 +54,7 @@ fn push_role_axiom(alloc: Global, found: &mut Vec<RoleAxiom>, axiom: &Axiom) -> 
     }
 }
 
+/// Puts the axiom last.
 fn push_item(found: &mut Vec<RoleAxiom>, item: RoleAxiom) -> Result<(), NoMemory>
     ensures { OnOk result (found.new.items ≡ found.old.items ++ item ∷ []) }
 {
@@ -61,6 +62,7 @@ fn push_item(found: &mut Vec<RoleAxiom>, item: RoleAxiom) -> Result<(), NoMemory
     Ok(())
 }
 
+/// A list of the same numbers.
 fn copy_numbers(alloc: Global, numbers: &[u32]) -> Result<NumberList, NoMemory>
     ensures { IfOk result (λ copy. copy ≡ numbers.now) }
 {

@@ -1,23 +1,23 @@
-// The tests of roles, over the table of the roles above each role.
+// The role box: tests of roles, over the table of the roles above each role.
 ghost use Rattle.std.specs.Prelude.{◌≡◌, ℕ, ◌≤◌, ◌==◌, ◌↔◌, IsTrue, IfOk, length};
-ghost use Rattle.std.specs.List.{All, Contains};
+ghost use Rattle.std.specs.List.{All};
 ghost use Rattle.std.specs.List.Sorted.{IsStrictlyIncreasing};
 ghost use Rattle.std.specs.Iterator.{YieldsFirst, item_count};
 ghost use Rattle.shape_specs.specs.Roles.{IsBelow, IsSimple};
 ghost use Rattle.role_box.specs.RoleAxioms.{role_axioms};
 ghost use Rattle.role_box.specs.Steps.{Leads, is_transitive, IsTransitive};
 ghost use Rattle.role_box.specs.Paths.{is_below};
-ghost use Rattle.role_box.specs.Closure.{is_between};
+ghost use Rattle.role_box.specs.Closure.{is_between, AreBetween};
 
-use crate::closure::{closed_rows, joined_rows, transitive_roles};
+use crate::closure::{RoleSet, closed_rows, joined_rows, transitive_roles};
 use crate::role_axiom::collect_role_axioms;
-use crate::role_set::RoleSet;
 use crate::{NoMemory, RoleAxiom};
+use lane_sieve::has_number;
 use shq_terms::Ontology;
 use std::alloc::Global;
 use std::marker::Model;
 
-/// Tests of roles by some role axioms, as the list of which it is seen.
+/// Tests of roles by a list of role axioms, as which contracts see it.
 #[derive(Drop)]
 pub struct RoleBox {
     axioms: Vec<RoleAxiom>,
@@ -35,14 +35,16 @@ impl Model for RoleBox {
 
     ghost view = { λ b. b.axioms.items };
 
-    ghost invariant = { λ b. IsClosed b.axioms.items b.rows.items b.transitive.words b.complex.words };
+    ghost invariant = { λ b. IsClosed b.axioms.items b.rows.items b.transitive b.complex };
 }
 
 impl RoleBox {
-    /// The tests by the role axioms among the axioms of these numbers, which count from 1. Other axioms do not count.
+    /// The tests by the role axioms among the axioms of these numbers, which count from 1. Axioms of other kinds are passed
+    /// over.
     ///
     /// # Errors
-    /// Where memory is refused.
+    ///
+    /// `NoMemory` where the allocator refuses room for the axioms or their table.
     pub fn build(alloc: Global, ontology: &Ontology, only: &[u32]) -> Result<RoleBox, NoMemory>
         requires { All (λ k. (1 ≤ k) × (k ≤ length ontology.now.axioms)) only.now }
         ensures { IfOk result (λ roles. roles ≡ role_axioms ontology.now.axioms only.now) }
@@ -65,7 +67,7 @@ impl RoleBox {
         ensures test { result ≡ is_below self.now lower upper }
     {
         match self.rows.get(lower as usize) {
-            Some(row) => row.contains(upper),
+            Some(row) => has_number(row, upper),
             None => lower == upper,
         }
     }
@@ -74,7 +76,7 @@ impl RoleBox {
     pub fn simple(&self, role: u32) -> bool
         ensures { IsTrue result ↔ IsSimple (Leads self.now) (IsTransitive self.now) role }
     {
-        !self.complex.contains(role)
+        !has_number(&self.complex, role)
     }
 
     /// A bound, at most 1,000, of the roles that the tests tell apart: from it on each role is below itself alone.
@@ -89,10 +91,10 @@ impl RoleBox {
     pub fn is_transitive(&self, role: u32) -> bool
         ensures { result ≡ is_transitive self.now role }
     {
-        self.transitive.contains(role)
+        has_number(&self.transitive, role)
     }
 
-    // Whether the role is transitive, and above the one role and below the other.
+    /// Whether the role is transitive, above the one role and below the other.
     fn is_between(&self, role: u32, lower: u32, upper: u32) -> bool
         ensures { result ≡ is_between self.now lower upper role }
     {
@@ -101,7 +103,7 @@ impl RoleBox {
 
     /// The transitive roles above the one role and below the other, these two included, in ascending order.
     pub fn transitive_between(&self, lower: u32, upper: u32) -> Between<'_>
-        ensures members { (t : ℕ) → Contains result t ↔ (IsTransitive self.now t × IsBelow (Leads self.now) lower t × IsBelow (Leads self.now) t upper) }
+        ensures members { AreBetween self.now lower upper result }
         ensures ascending { IsStrictlyIncreasing result }
     {
         Between {

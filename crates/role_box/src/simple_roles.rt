@@ -1,15 +1,15 @@
-// What an ontology and queries on it count.
+// Whether an ontology and queries on it count simple roles alone.
 ghost use Rattle.std.specs.Prelude.{◌≡◌, ◌≤◌, IfOk, length};
-ghost use Rattle.std.specs.List.{list_any};
-ghost use Rattle.role_box.specs.Closure.{numbers_from};
+ghost use Rattle.std.specs.List.{list_any, range_with_len};
 ghost use Rattle.role_box.specs.Counted.{counted_roles, counted_by_query};
-ghost use Rattle.role_box.specs.Simple.{all_role_axioms, are_simple, first_not_simple, is_transitivity, AreRolesOf};
+ghost use Rattle.role_box.specs.Simple.{all_role_axioms, first_not_simple, line_not_simple, are_simple_by, is_transitivity, AreRolesOf, are_simple_in, line_in};
 
 use crate::counted_roles::{axiom_counts_simple, both_count_simple, class_counts_simple};
 use crate::{NoMemory, RoleBox};
-use shq_terms::{Axiom, Concept, Numbered, Ontology, Query};
-use std::alloc::Global;
+use shq_terms::{Axiom, Concept, MAX_AXIOMS, Numbered, Ontology, Query};
+use std::alloc::{AllocError, Global};
 
+/// Whether the axiom makes a role transitive.
 fn is_transitivity(axiom: &Axiom) -> bool
     ensures { result ≡ is_transitivity «axiom».now }
 {
@@ -19,6 +19,7 @@ fn is_transitivity(axiom: &Axiom) -> bool
     }
 }
 
+/// Whether one of the axioms makes a role transitive.
 fn has_transitivity(axioms: &[Numbered]) -> bool
     ensures { result ≡ list_any (λ n. is_transitivity n.axiom) axioms.now }
 {
@@ -27,18 +28,15 @@ fn has_transitivity(axioms: &[Numbered]) -> bool
         .any(|numbered| is_transitivity(&numbered.axiom))
 }
 
-#[tactic(auto, using(crate::proofs::Numbers::numbers_more))]
-fn numbers_to(alloc: Global, count: u32) -> Result<Vec<u32>, NoMemory>
-    requires { count ≤ 20000 }
-    ensures { IfOk result (λ numbers. numbers.items ≡ numbers_from 1 count) }
+/// The numbers from 1 to `count`.
+fn numbers_to(alloc: Global, count: u32) -> Result<Vec<u32>, AllocError>
+    requires { count ≤ MAX_AXIOMS }
+    ensures { IfOk result (λ numbers. numbers.items ≡ range_with_len 1 count) }
 {
-    let mut numbers = Vec::new(alloc);
-    for number in 0..count {
-        numbers.push(number + 1)?;
-    }
-    Ok(numbers)
+    (1..count + 1).collect(alloc)
 }
 
+/// The role box of all axioms of the ontology.
 #[tactic(auto, using(crate::proofs::Numbers::numbers_within))]
 fn all_roles(alloc: Global, ontology: &Ontology) -> Result<RoleBox, NoMemory>
     ensures { IfOk result (λ roles. roles ≡ all_role_axioms ontology.now.axioms) }
@@ -47,7 +45,7 @@ fn all_roles(alloc: Global, ontology: &Ontology) -> Result<RoleBox, NoMemory>
     RoleBox::build(alloc, ontology, &numbers)
 }
 
-// The roles of the ontology, unless it makes no role transitive.
+/// The role box of all axioms of the ontology. None where they make no role transitive, since each role is simple then.
 #[tactic(auto, using(crate::proofs::Plain::all_simple))]
 fn roles_of(alloc: Global, ontology: &Ontology) -> Result<Option<RoleBox>, NoMemory>
     ensures { IfOk result (AreRolesOf ontology.now.axioms) }
@@ -59,6 +57,7 @@ fn roles_of(alloc: Global, ontology: &Ontology) -> Result<Option<RoleBox>, NoMem
     Ok(Some(roles))
 }
 
+/// The line of the first of the axioms that counts a role which is not simple.
 fn find_not_simple(axioms: &[Numbered], roles: &RoleBox) -> Option<u32>
     ensures { result ≡ first_not_simple roles.now axioms.now }
 {
@@ -75,14 +74,22 @@ fn find_not_simple(axioms: &[Numbered], roles: &RoleBox) -> Option<u32>
 ///
 /// # Errors
 ///
-/// Want of memory.
-#[tactic(auto, using(crate::proofs::Plain::none_not_simple))]
+/// `NoMemory` where there is no room for the role box.
+#[tactic(auto, using(crate::proofs::Plain::line_is))]
 pub fn first_not_simple(alloc: Global, ontology: &Ontology) -> Result<Option<u32>, NoMemory>
-    ensures { IfOk result (λ line. line ≡ first_not_simple (all_role_axioms ontology.now.axioms) ontology.now.axioms) }
+    ensures { IfOk result (λ line. line ≡ line_not_simple ontology.now.axioms) }
 {
-    match roles_of(alloc, ontology)? {
-        Some(roles) => Ok(find_not_simple(ontology.axioms(), &roles)),
-        None => Ok(None),
+    let roles = roles_of(alloc, ontology)?;
+    Ok(line_in(&roles, ontology.axioms()))
+}
+
+/// The line of the first axiom that counts a role which is not simple by the role box; without one each role is simple.
+fn line_in(roles: &Option<RoleBox>, axioms: &[Numbered]) -> Option<u32>
+    ensures { result ≡ line_in roles.now axioms.now }
+{
+    match roles {
+        Some(roles) => find_not_simple(axioms, roles),
+        None => None,
     }
 }
 
@@ -90,14 +97,22 @@ pub fn first_not_simple(alloc: Global, ontology: &Ontology) -> Result<Option<u32
 ///
 /// # Errors
 ///
-/// Want of memory.
-#[tactic(auto, using(crate::proofs::Plain::are_all_simple))]
+/// `NoMemory` where there is no room for the role box.
+#[tactic(auto, using(crate::proofs::Plain::simple_is))]
 pub fn query_is_simple(alloc: Global, ontology: &Ontology, query: &Query) -> Result<bool, NoMemory>
-    ensures { IfOk result (λ simple. simple ≡ are_simple (all_role_axioms ontology.now.axioms) (counted_by_query query.now)) }
+    ensures { IfOk result (λ simple. simple ≡ are_simple_by ontology.now.axioms (counted_by_query query.now)) }
 {
-    match roles_of(alloc, ontology)? {
-        Some(roles) => Ok(both_count_simple(&roles, &query.sub, &query.sup)),
-        None => Ok(true),
+    let roles = roles_of(alloc, ontology)?;
+    Ok(query_simple_in(&roles, query))
+}
+
+/// Whether each role that the query counts is simple by the role box; without one each role is simple.
+fn query_simple_in(roles: &Option<RoleBox>, query: &Query) -> bool
+    ensures { result ≡ are_simple_in roles.now (counted_by_query query.now) }
+{
+    match roles {
+        Some(roles) => both_count_simple(roles, &query.sub, &query.sup),
+        None => true,
     }
 }
 
@@ -105,17 +120,25 @@ pub fn query_is_simple(alloc: Global, ontology: &Ontology, query: &Query) -> Res
 ///
 /// # Errors
 ///
-/// Want of memory.
-#[tactic(auto, using(crate::proofs::Plain::are_all_simple))]
+/// `NoMemory` where there is no room for the role box.
+#[tactic(auto, using(crate::proofs::Plain::simple_is))]
 pub fn class_is_simple(
     alloc: Global,
     ontology: &Ontology,
     class: &Concept,
 ) -> Result<bool, NoMemory>
-    ensures { IfOk result (λ simple. simple ≡ are_simple (all_role_axioms ontology.now.axioms) (counted_roles class.now)) }
+    ensures { IfOk result (λ simple. simple ≡ are_simple_by ontology.now.axioms (counted_roles class.now)) }
 {
-    match roles_of(alloc, ontology)? {
-        Some(roles) => Ok(class_counts_simple(&roles, class)),
-        None => Ok(true),
+    let roles = roles_of(alloc, ontology)?;
+    Ok(class_simple_in(&roles, class))
+}
+
+/// Whether each role that the class expression counts is simple by the role box; without one each role is simple.
+fn class_simple_in(roles: &Option<RoleBox>, class: &Concept) -> bool
+    ensures { result ≡ are_simple_in roles.now (counted_roles class.now) }
+{
+    match roles {
+        Some(roles) => class_counts_simple(roles, class),
+        None => true,
     }
 }

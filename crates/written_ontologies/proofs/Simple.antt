@@ -1,11 +1,10 @@
 -- The tests for simple roles look at no lines.
 use Rattle.std.proofs.Common.{◌≡◌, ℕ, zero, suc, ◌-◌, true, List, [], ◌∷◌, ◌++◌, length, Ok, refl, ap, ◌∙◌}
 use Rattle.std.specs.Prelude.{slice_get}
-use Rattle.std.specs.List.{list_all}
+use Rattle.std.specs.List.{list_all, range_with_len}
 use Rattle.shq_terms.specs.declared.axioms.Numbered.{Numbered}
 use Rattle.role_box.specs.declared.role_axiom.RoleAxiom.{RoleAxiom}
 use Rattle.role_box.specs.RoleAxioms.{role_part, role_part_at, role_axioms}
-use Rattle.role_box.specs.Closure.{numbers_from}
 use Rattle.role_box.specs.Counted.{counted_by}
 use Rattle.role_box.specs.Simple.{are_simple, counts_simple, all_role_axioms}
 use Rattle.ofn_expressions.specs.Counts.{Counts}
@@ -38,7 +37,7 @@ same_parts xs ys (k ∷ ks) same =
 
 -- the same axioms have the same role axioms
 pub same_roles : (xs ys : List Numbered) → axioms_of xs ≡ axioms_of ys → all_role_axioms xs ≡ all_role_axioms ys
-same_roles xs ys same = same_parts xs ys (numbers_from 1 (length xs)) same ∙ ap (λ n. role_axioms ys (numbers_from 1 n)) (same_length xs ys same)
+same_roles xs ys same = same_parts xs ys (range_with_len 1 (length xs)) same ∙ ap (λ n. role_axioms ys (range_with_len 1 n)) (same_length xs ys same)
 
 all_simple : (roles : List RoleAxiom) (xs ys : List Numbered) → axioms_of xs ≡ axioms_of ys → list_all (counts_simple roles) ys ≡ true → list_all (counts_simple roles) xs ≡ true
 all_simple roles [] [] same h = refl

@@ -1,5 +1,5 @@
 use Rattle.std.proofs.Common.{◌≡◌, ℕ, ◌||◌, drop}
-use Rattle.role_box.specs.RoleSet.{linked}
+use Rattle.role_box.specs.Rows.{linked}
 use Rattle.role_box.specs.Steps.{leads}
 use Rattle.role_box.proofs.closure.add_all_steps.Given as goal
 

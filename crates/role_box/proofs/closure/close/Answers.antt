@@ -1,5 +1,5 @@
 use Rattle.std.proofs.Common.{◌≡◌, ℕ, length, arith, subst}
-use Rattle.role_box.specs.RoleSet.{linked}
+use Rattle.role_box.specs.Rows.{linked}
 use Rattle.role_box.specs.Paths.{has_path}
 use Rattle.role_box.proofs.Rows.{path_more}
 use Rattle.role_box.proofs.closure.close.Goals as goal

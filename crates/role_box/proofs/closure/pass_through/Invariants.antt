@@ -2,4 +2,4 @@ use Rattle.role_box.proofs.Rows.{IsPassed}
 use Rattle.role_box.proofs.closure.pass_through.Given as goal
 
 abbrev pub invariant-loop-place : goal.invariant-loop-place
-invariant-loop-place l = IsPassed l.initial.rows l.rows l.through.words l.middle l.place
+invariant-loop-place l = IsPassed l.initial.rows l.rows l.through l.middle l.place

@@ -1,8 +1,0 @@
-use Rattle.std.proofs.Common.{◌≡◌, ℕ, ◌<◌, ◌≤◌, bit_or, get_or}
-use Rattle.role_box.proofs.role_set.RoleSet.join.Given as goal
-
-abbrev pub invariant-loop-place : goal.invariant-loop-place
-invariant-loop-place l = record {
-  joined : (k : ℕ) → k < l.place → get_or l.self.words k 0 ≡ bit_or (get_or l.initial.self.words k 0) (get_or l.other.words k 0);
-  kept : (k : ℕ) → l.place ≤ k → get_or l.self.words k 0 ≡ get_or l.initial.self.words k 0;
-}
