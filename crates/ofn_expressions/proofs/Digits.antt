@@ -22,7 +22,7 @@ cut_done text i number past within so_far =
     let cut : min (digits_value_after 10 number []) 101 ≡ min (digits_value_after 10 0 text) 101 = sym (ap (λ l. min (digits_value_after 10 number l) 101) (drop_all i text past)) ∙ so_far in
     omega (arith, cut)
 
--- where the first place that passes is behind the list, none passes
+-- where the first place that passes is after the list, none passes
 pub none_before_end : {A : Type 0} (p : A → Bool) (xs : List A) → position_or_len p xs ≡ length xs → list_any p xs ≡ false
 none_before_end p [] is = refl
 none_before_end p (x ∷ xs) is = by (none_before_end p xs) (p x) is

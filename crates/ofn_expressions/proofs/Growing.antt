@@ -32,6 +32,7 @@ pub grows_same : (s : State) → Grows s s
 grows_same s = record {
   axioms = refl;
   parts = refl;
+  nodes = omega arith;
   classes = take_all (length s.counts.classes) s.counts.classes (omega arith);
   roles = take_all (length s.counts.roles) s.counts.roles (omega arith);
   read = refl;
@@ -41,6 +42,7 @@ pub grows_grows : (a b c : State) → Grows a b → Grows b c → Grows a c
 grows_grows a b c f g = record {
   axioms = g.axioms ∙ f.axioms;
   parts = g.parts ∙ f.parts;
+  nodes = omega (arith, f.nodes, g.nodes);
   classes = front a.counts.classes b.counts.classes c.counts.classes f.classes g.classes;
   roles = front a.counts.roles b.counts.roles c.counts.roles f.roles g.roles;
   read = g.read ∙ f.read;

@@ -58,7 +58,7 @@ cardinality_made ps b [] x y at_x at_y ok s = let clash : false ≡ true = ok in
 cardinality_made ps b (i ∷ []) x y at_x at_y ok s = let clash : false ≡ true = ok in absurd (cc clash)
 cardinality_made ps b (i ∷ (j ∷ rest)) x y at_x at_y ok s = λ k. bounded b (cardinality_of (sym at_x k)) (role_of ps s (sym at_y k)) (first (concepts_of ps s (items_of rest)))
 
--- the expression of a number, a role and the items behind them is that of the whole group
+-- the expression of a number, a role and the items after them is that of the whole group
 pub cardinality_value : (ps : List Prefix) (k : ClassKeyword) (b : Bound) (items rest : List Item) (x y : Item) (r : Result Concept Refusal) (new : Counts) → k ≡ Cardinality b → x ≡ get_or items 0 x → y ≡ get_or items 1 y → rest ≡ drop 2 items
     → fits k (length items) ≡ true
     → IfOk r (λ c. (later : Counts) → Keeps new later → (bounded b (cardinality_of x) (role_of ps later y) (first (concepts_of ps later (items_of rest))) ≡ c) × IsListed later c)

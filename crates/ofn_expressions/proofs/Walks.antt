@@ -1,4 +1,4 @@
--- Lists of tests one behind another.
+-- Lists of tests one after another.
 use Rattle.std.proofs.Common.{◌≡◌, List, [], ◌∷◌, ◌++◌, Bool, true, false, cond, Some, Result, Ok, Err, refl, ap, sym, ◌∙◌, subst}
 use Rattle.ofn_expressions.specs.Counts.{Counts}
 use Rattle.ofn_expressions.specs.Walk.{Test, holds, refusal, counts_after, after_all, outcomes, first_failing, verdict, walked, AgreesWithTests, Judged}
@@ -12,7 +12,7 @@ walked-cons s t ts = by (holds s t)
     by true = refl
     by false = refl
 
--- the tests us behind what r gives
+-- the tests us after what r gives
 abbrev pub then : Result Counts Refusal → List Test → Result Counts Refusal
 then (Ok s) us = walked s us
 then (Err e) us = Err e

@@ -12,6 +12,8 @@ use Rattle.ofn_expressions.specs.Names.{Prefix, item_line, name_tests, iri_of}
 use Rattle.ofn_expressions.specs.Constructs.{excluded_role, excluded_role_name}
 use Rattle.ofn_expressions.specs.Keywords.{class_keyword}
 use Rattle.ofn_expressions.specs.declared.construct.Construct.{Construct}
+use Rattle.ofn_expressions.specs.declared.refusal.Refusal.{Refusal}
+use Rattle.ofn_expressions.specs.declared.refusal.Refusal.TheVariants.{Outside, BadShape}
 use Rattle.ofn_expressions.specs.declared.keywords.ClassKeyword.{ClassKeyword}
 use Rattle.ofn_expressions.specs.declared.keywords.ClassKeyword.TheVariants.{Intersection, Union, Complement, Restriction, Cardinality}
 use Rattle.ofn_expressions.specs.declared.keywords.Quantifier.{Quantifier}
@@ -71,6 +73,11 @@ role_name_tests ps i = name_tests ps i ++ listed_role (excluded_role_name (iri_o
 abbrev pub role_group_tests : Option Construct → ℕ → List Test
 role_group_tests (Some c) line = outside line c ∷ []
 role_group_tests None line = shape line false ∷ []
+
+-- the refusal of such a group
+abbrev pub role_group_refusal : Option Construct → ℕ → Refusal
+role_group_refusal (Some c) line = Outside line c
+role_group_refusal None line = BadShape line
 
 -- a role: its name, or a group, which is left out or no role
 abbrev pub role_tests : List Prefix → Item → List Test

@@ -34,7 +34,7 @@ is_colon b = nat_eq b 58
 abbrev pub has_colon : List ℕ → Bool
 has_colon w = list_any is_colon w
 
--- what stands before the first colon of a name, and what behind it
+-- what stands before the first colon of a name, and what after it
 abbrev pub prefix_part : List ℕ → List ℕ
 prefix_part w = before_first is_colon w
 

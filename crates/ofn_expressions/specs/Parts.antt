@@ -1,4 +1,4 @@
--- Parts behind a list of expressions.
+-- Parts after a list of expressions.
 use Rattle.std.specs.Prelude.{List, [], ◌∷◌}
 use Rattle.shq_base.specs.Concept.{Concept, Parts, part}
 

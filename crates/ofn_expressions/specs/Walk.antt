@@ -1,10 +1,13 @@
 -- The tests of a document or a query, and what a list of them says. A test is judged by what those before it counted.
 use Rattle.std.specs.Prelude.{◌≡◌, ◌≢◌, ℕ, ◌+◌, Bool, false, cond, List, [], ◌∷◌, length, Option, Some, None, Result, Ok, Err, nat_le}
 use Rattle.shq_terms.specs.Names.{with_name}
+use Rattle.shq_terms.specs.declared.faults.AddFault.{AddFault}
+use Rattle.shq_terms.specs.declared.faults.AddFault.TheVariants as fault
 use Rattle.ofn_expressions.specs.Counts.{Counts}
 use Rattle.ofn_expressions.specs.declared.construct.Construct.{Construct}
 use Rattle.ofn_expressions.specs.declared.refusal.Refusal.{Refusal}
 use Rattle.ofn_expressions.specs.declared.refusal.Refusal.TheVariants.{BadShape, UnknownPrefix, PrefixClash, Outside, NotSimple, Limit, NoMemory}
+use Rattle.ofn_expressions.specs.declared.refusal.Which.{Which}
 use Rattle.ofn_expressions.specs.declared.refusal.Which.TheVariants.{Axioms, Classes, Roles, Nodes, Number, Parts}
 
 -- Each has its line: that an item has the shape which is asked; that a prefix name is declared; that it is not declared with
@@ -52,7 +55,7 @@ refusal (role line name) = Limit Roles line
 refusal (number line n) = Limit Number line
 refusal (simple line fits) = NotSimple line
 
--- what is counted and listed behind a test
+-- what is counted and listed after a test
 abbrev pub counts_after : Counts → Test → Counts
 counts_after s (shape line fits) = s
 counts_after s (prefix line declared) = s
@@ -65,6 +68,11 @@ counts_after s (class line name) = record s { classes = with_name s.classes name
 counts_after s (role line name) = record s { roles = with_name s.roles name }
 counts_after s (number line n) = s
 counts_after s (simple line fits) = s
+
+-- the refusal where a list of names is full, or memory was refused
+abbrev pub add_refusal : Which → ℕ → AddFault → Refusal
+add_refusal which line fault.Full = Limit which line
+add_refusal which line fault.NoMemory = NoMemory
 
 abbrev pub after_all : Counts → List Test → Counts
 after_all s [] = s
@@ -87,7 +95,7 @@ abbrev pub verdict : Option Refusal → Counts → Result Counts Refusal
 verdict None s = Ok s
 verdict (Some e) s = Err e
 
--- the counts behind all tests where all hold, or else the refusal of the first that fails
+-- the counts after all tests where all hold, or else the refusal of the first that fails
 abbrev pub walked : Counts → List Test → Result Counts Refusal
 walked s ts = verdict (first_failing (outcomes s ts)) (after_all s ts)
 

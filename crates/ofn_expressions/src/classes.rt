@@ -1,5 +1,5 @@
 // Class expressions.
-ghost use Rattle.std.specs.Prelude.{◌≡◌, ◌<◌, ◌≤◌, ◌∷◌, ◌++◌, [], IfOk, OnOk, OnErr, length, true};
+ghost use Rattle.std.specs.Prelude.{◌≡◌, ◌≢◌, IfErr, ◌<◌, ◌≤◌, ◌∷◌, ◌++◌, [], IfOk, OnOk, OnErr, length, true};
 ghost use Rattle.shq_base.specs.Concept.{parts_of};
 ghost use Rattle.ofn_tree.specs.Items.{items_of};
 ghost use Rattle.ofn_expressions.specs.Counts.{Counts, Grows};
@@ -22,7 +22,8 @@ use std::alloc::Global;
 ///
 /// # Errors
 ///
-/// What is wrong first, in the order of the tests, and `NoMemory`.
+/// What is wrong first, in the order of the tests, and `NoMemory`. What was counted and listed before stays in `state`: the
+/// names that were met first, and the nodes. No axiom is added.
 #[cycle(classes)]
 #[tactic(auto, using(crate::proofs::Growing::grows_grows, crate::proofs::Growing::grows_same))]
 pub fn read_class(
@@ -51,7 +52,8 @@ pub fn read_class(
 ///
 /// # Errors
 ///
-/// What is wrong first, in the order of the tests, and `NoMemory`.
+/// What is wrong first, in the order of the tests, and `NoMemory`. What was counted and listed before stays in `state`: the
+/// names that were met first, and the nodes. No axiom is added.
 #[tactic(auto, using(crate::proofs::Walks::walked_append, crate::proofs::Growing::grows_grows, crate::proofs::Growing::grows_same))]
 pub fn read_class_name(
     alloc: Global,
@@ -91,7 +93,8 @@ fn list_class(iri: &str, line: u32, state: &mut Reading) -> Result<Concept, Refu
 ///
 /// # Errors
 ///
-/// What is wrong first, in the order of the tests, and `NoMemory`.
+/// What is wrong first, in the order of the tests, and `NoMemory`. What was counted and listed before stays in `state`: the
+/// names that were met first, and the nodes. No axiom is added.
 #[tactic(auto, using(crate::proofs::Walks::walked_append, crate::proofs::Growing::grows_grows, crate::proofs::Growing::grows_same))]
 pub fn declare_class(
     alloc: Global,
@@ -139,6 +142,7 @@ fn read_head(
     ensures tests { Judged result state.old.counts (head_tests (class_keyword text.now) line count) state.new.counts }
     ensures grown { Grows state.old state.new }
     ensures keyword { IfOk result (λ k. (class_keyword text.now ≡ Class k) × (fits k count ≡ true)) }
+    ensures takes_no_memory { IfErr result (λ e. e ≢ Refusal.NoMemory) }
 {
     let keyword = match class_keyword(text) {
         Keyword::Class(keyword) => keyword,
@@ -273,7 +277,7 @@ fn cardinality(bound: Bound, number: u32, role: u32, filler: Box<Concept>) -> Co
     Concept { node }
 }
 
-// The class expression behind a number and a role, or else `owl:Thing`.
+// The class expression after a number and a role, or else `owl:Thing`.
 #[cycle(classes)]
 #[tactic(auto, using(crate::proofs::Growing::grows_grows, crate::proofs::Growing::grows_same))]
 fn read_filler(
@@ -339,7 +343,8 @@ fn push_concept(concepts: &mut Vec<Concept>, concept: Concept) -> Result<(), NoM
 ///
 /// # Errors
 ///
-/// What is wrong first, in the order of the tests, and `NoMemory`.
+/// What is wrong first, in the order of the tests, and `NoMemory`. What was counted and listed before stays in `state`: the
+/// names that were met first, and the nodes. No axiom is added.
 #[tactic(auto, using(crate::proofs::Growing::grows_grows, crate::proofs::Growing::grows_same))]
 pub fn read_classes(
     alloc: Global,

@@ -1,5 +1,5 @@
 // Names as they stand in a text.
-ghost use Rattle.std.specs.Prelude.{◌≡◌, ◌++◌, IfOk, string_bytes};
+ghost use Rattle.std.specs.Prelude.{◌≡◌, ◌≢◌, IfErr, ◌++◌, IfOk, string_bytes};
 ghost use Rattle.ofn_tree.specs.Items.{name_item};
 ghost use Rattle.ofn_expressions.specs.Counts.{Counts};
 ghost use Rattle.ofn_expressions.specs.Walk.{Judged};
@@ -45,24 +45,38 @@ pub(crate) fn read_iri(
     }
 }
 
+// The IRI of the prefix of a name, and the rest of the name.
+fn iri_and_rest<'a>(
+    name: &'a str,
+    line: u32,
+    prefixes: &'a Prefixes,
+) -> Result<(&'a str, &'a str), Refusal>
+    ensures tests { (s : Counts) → Judged result s (name_tests prefixes.now (name_item name.now line)) s }
+    ensures takes_no_memory { IfErr result (λ e. e ≢ Refusal.NoMemory) }
+    ensures value { IfOk result (λ r. r.0.now ++ r.1.now ≡ iri_of prefixes.now (name_item name.now line)) }
+{
+    let Some((prefix, rest)) = name.split_once(':') else {
+        return Err(Refusal::BadShape(line));
+    };
+    match prefixes.iri(prefix) {
+        Some(iri) => Ok((iri, rest)),
+        None => Err(Refusal::UnknownPrefix(line)),
+    }
+}
+
 // The IRI of a name with a prefix.
 fn expanded(alloc: Global, name: &str, line: u32, prefixes: &Prefixes) -> Result<String, Refusal>
     ensures tests { (s : Counts) → Judged result s (name_tests prefixes.now (name_item name.now line)) s }
     ensures value { IfOk result (λ iri. string_bytes iri ≡ iri_of prefixes.now (name_item name.now line)) }
 {
-    let Some((prefix, local)) = name.split_once(':') else {
-        return Err(Refusal::BadShape(line));
-    };
-    let Some(iri) = prefixes.iri(prefix) else {
-        return Err(Refusal::UnknownPrefix(line));
-    };
-    Ok(joined(alloc, iri, local)?)
+    let (iri, rest) = iri_and_rest(name, line, prefixes)?;
+    Ok(joined(alloc, iri, rest)?)
 }
 
-fn joined(alloc: Global, front: &str, behind: &str) -> Result<String, NoMemory>
-    ensures { IfOk result (λ text. string_bytes text ≡ front.now ++ behind.now) }
+fn joined(alloc: Global, front: &str, rest: &str) -> Result<String, NoMemory>
+    ensures { IfOk result (λ text. string_bytes text ≡ front.now ++ rest.now) }
 {
     let mut text = String::from_str(alloc, front)?;
-    text.push_str(behind)?;
+    text.push_str(rest)?;
     Ok(text)
 }

@@ -1,5 +1,5 @@
 // Cardinalities.
-ghost use Rattle.std.specs.Prelude.{◌≡◌, ◌≤◌, ◌+◌, ◌*◌, ◌-◌, true, IfOk, option_map, min};
+ghost use Rattle.std.specs.Prelude.{◌≡◌, ◌≢◌, IfErr, ◌≤◌, ◌+◌, ◌*◌, ◌-◌, true, IfOk, option_map, min};
 ghost use Rattle.std.specs.List.{list_all};
 ghost use Rattle.std.specs.Char.{digit_value};
 ghost use Rattle.std.specs.Str.Parse.{digits_value};
@@ -20,6 +20,7 @@ const MAX_NUMBER: u32 = 100;
 /// `BadShape` where it is no name of ASCII digits, and the limit `Number` where it is above 100.
 pub(crate) fn read_number(tree: &Tree<'_>) -> Result<u32, Refusal>
     ensures tests { (s : Counts) → Judged result s (number_tests tree.now) s }
+    ensures takes_no_memory { IfErr result (λ e. e ≢ Refusal.NoMemory) }
     ensures value { IfOk result (λ n. cardinality_of tree.now ≡ n) }
 {
     match &tree.form {
@@ -31,6 +32,7 @@ pub(crate) fn read_number(tree: &Tree<'_>) -> Result<u32, Refusal>
 
 fn read_digits(text: &[u8], line: u32) -> Result<u32, Refusal>
     ensures tests { (s : Counts) → Judged result s (number_tests_of line (cardinality_in text.now)) s }
+    ensures takes_no_memory { IfErr result (λ e. e ≢ Refusal.NoMemory) }
     ensures value { IfOk result (λ n. or_zero (cardinality_in text.now) ≡ n) }
 {
     let Some(number) = capped_number(text) else {
@@ -75,7 +77,7 @@ fn capped_value(text: &[u8]) -> u32
     number
 }
 
-// One digit more behind a number.
+// One digit more after a number.
 fn next_number(number: u32, digit: u8) -> u32
     requires within { number ≤ 101 }
     requires digit { is_digit digit ≡ true }

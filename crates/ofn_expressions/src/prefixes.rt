@@ -30,7 +30,7 @@ impl Prefixes {
     ///
     /// # Errors
     ///
-    /// Want of memory.
+    /// Out of memory.
     #[tactic(auto, unfolding(crate::specs::Names::predeclared))]
     pub fn predeclared(alloc: Global) -> Result<Prefixes, NoMemory>
         ensures { IfOk result (λ prefixes. prefixes ≡ predeclared) }
@@ -60,7 +60,7 @@ impl Prefixes {
     ///
     /// # Errors
     ///
-    /// Want of memory. The prefixes are then as before.
+    /// Out of memory. The prefixes are then as before.
     pub fn declare(&mut self, name: &str, iri: &str) -> Result<(), NoMemory>
         requires { prefix_iri self.old name.now ≡ None }
         ensures declared { OnOk result (self.new ≡ self.old ++ record { name = name.now; iri = iri.now } ∷ []) }

@@ -1,12 +1,12 @@
 // What a reader has counted and listed so far.
-ghost use Rattle.std.specs.Prelude.{◌≡◌, ◌≤◌, ◌<◌, ◌+◌, ◌∷◌, ◌++◌, [], length, take, true, IfOk, IfErr, OnOk, OnErr, Some, position};
+ghost use Rattle.std.specs.Prelude.{◌≡◌, ◌≢◌, ◌↔◌, Err, None, ◌≤◌, ◌<◌, ◌+◌, ◌∷◌, ◌++◌, [], length, take, true, IfOk, IfErr, OnOk, OnErr, Some, position};
 ghost use Rattle.std.specs.Str.{bytes_eq};
 ghost use Rattle.shq_terms.specs.Uses.{axiom_uses_listed};
 ghost use Rattle.ofn_expressions.specs.Counts.{Grows};
-ghost use Rattle.ofn_expressions.specs.Walk.{Judged, numbered, parts, nodes, class, role};
+ghost use Rattle.ofn_expressions.specs.Walk.{Judged, add_refusal, numbered, parts, nodes, class, role};
 
 use crate::{Refusal, Which};
-use shq_terms::{AddFault, Axiom, Ontology};
+use shq_terms::{AddFault, Axiom, MAX_AXIOMS, MAX_CLASSES, MAX_ROLES, Ontology};
 use std::marker::Model;
 
 /// The ontology so far, with the axioms that were begun, their parts, and the nodes of class expressions that were met.
@@ -36,10 +36,17 @@ impl Model for Reading {
 /// The most nodes of class expressions.
 pub const MAX_NODES: u32 = 262_144;
 
-/// The most numbered axioms.
-pub const MAX_AXIOMS: u32 = 20_000;
-
 const MAX_PARTS: u32 = 500_000;
+
+// The refusal where a list of names is full, or memory was refused.
+fn add_refusal(which: Which, line: u32, fault: AddFault) -> Refusal
+    ensures { result ≡ add_refusal which line fault }
+{
+    match fault {
+        AddFault::Full => Refusal::Limit(which, line),
+        AddFault::NoMemory => Refusal::NoMemory,
+    }
+}
 
 impl Reading {
     ghost use Rattle.ofn_expressions.specs.Counts.{State};
@@ -66,7 +73,8 @@ impl Reading {
     pub fn count_axiom(&mut self, line: u32) -> Result<(), Refusal>
         ensures tests { Judged result self.old.counts (numbered line ∷ []) self.new.counts }
         ensures counted { OnOk result (self.new ≡ record self.old { counts = record self.old.counts { axioms = self.old.counts.axioms + 1 } }) }
-        ensures within { OnOk result (self.old.counts.axioms < 20000) }
+        ensures within { OnOk result (self.old.counts.axioms < MAX_AXIOMS) }
+        ensures takes_no_memory { IfErr result (λ e. e ≢ Refusal.NoMemory) }
         ensures unchanged { OnErr result (self.new ≡ self.old) }
     {
         if self.axioms >= MAX_AXIOMS {
@@ -84,6 +92,7 @@ impl Reading {
     pub fn count_parts(&mut self, line: u32, count: u64) -> Result<(), Refusal>
         ensures tests { Judged result self.old.counts (parts line count ∷ []) self.new.counts }
         ensures counted { OnOk result (self.new ≡ record self.old { counts = record self.old.counts { parts = self.old.counts.parts + count } }) }
+        ensures takes_no_memory { IfErr result (λ e. e ≢ Refusal.NoMemory) }
         ensures unchanged { OnErr result (self.new ≡ self.old) }
     {
         if count > u64::from(MAX_PARTS - self.parts) {
@@ -93,11 +102,12 @@ impl Reading {
         Ok(())
     }
 
-    /// Counts so many more nodes of a class expression.
+    /// Counts so many more nodes of a class expression. At the limit nothing is counted.
     #[tactic(auto, using(crate::proofs::Growing::grows_same))]
     pub(crate) fn count_nodes(&mut self, line: u32, count: u32) -> Result<(), Refusal>
         ensures tests { Judged result self.old.counts (nodes line count ∷ []) self.new.counts }
         ensures grown { Grows self.old self.new }
+        ensures takes_no_memory { IfErr result (λ e. e ≢ Refusal.NoMemory) }
     {
         if count > MAX_NODES - self.nodes {
             return Err(Refusal::Limit(Which::Nodes, line));
@@ -106,41 +116,41 @@ impl Reading {
         Ok(())
     }
 
-    /// The number of a class, which is listed here.
+    /// The number of a class, which is listed here. At the limit of names nothing is listed.
     #[tactic(auto, using(crate::proofs::Kept::place_listed, crate::proofs::Growing::grows_name, crate::proofs::Growing::grows_same))]
     pub(crate) fn add_class(&mut self, line: u32, name: &str) -> Result<u32, Refusal>
         ensures tests { Judged result self.old.counts (class line name.now ∷ []) self.new.counts }
         ensures grown { Grows self.old self.new }
         ensures number { IfOk result (λ k. position (bytes_eq name.now) self.new.counts.classes ≡ Some k) }
+        ensures full { (result ≡ Err (Refusal.Limit Which.Classes line)) ↔ ((MAX_CLASSES ≤ length self.old.counts.classes) × (position (bytes_eq name.now) self.old.counts.classes ≡ None)) }
     {
         match self.ontology.add_class(name) {
             Ok(number) => Ok(number),
-            Err(AddFault::Full) => Err(Refusal::Limit(Which::Classes, line)),
-            Err(AddFault::NoMemory) => Err(Refusal::NoMemory),
+            Err(fault) => Err(add_refusal(Which::Classes, line, fault)),
         }
     }
 
-    /// The number of a role, which is listed here.
+    /// The number of a role, which is listed here. At the limit of names nothing is listed.
     #[tactic(auto, using(crate::proofs::Kept::place_listed, crate::proofs::Growing::grows_name, crate::proofs::Growing::grows_same))]
     pub(crate) fn add_role(&mut self, line: u32, name: &str) -> Result<u32, Refusal>
         ensures tests { Judged result self.old.counts (role line name.now ∷ []) self.new.counts }
         ensures grown { Grows self.old self.new }
         ensures number { IfOk result (λ k. position (bytes_eq name.now) self.new.counts.roles ≡ Some k) }
+        ensures full { (result ≡ Err (Refusal.Limit Which.Roles line)) ↔ ((MAX_ROLES ≤ length self.old.counts.roles) × (position (bytes_eq name.now) self.old.counts.roles ≡ None)) }
     {
         match self.ontology.add_role(name) {
             Ok(number) => Ok(number),
-            Err(AddFault::Full) => Err(Refusal::Limit(Which::Roles, line)),
-            Err(AddFault::NoMemory) => Err(Refusal::NoMemory),
+            Err(fault) => Err(add_refusal(Which::Roles, line, fault)),
         }
     }
 
-    /// Puts an axiom last whose names are listed, where fewer than 20,000 are there.
+    /// Puts an axiom last whose names are listed, where fewer than `MAX_AXIOMS` are there.
     ///
     /// # Errors
     ///
-    /// Want of memory. All is then as before.
+    /// `NoMemory`. All is then as before.
     pub fn add_axiom(&mut self, axiom: Axiom, line: u32) -> Result<(), Refusal>
-        requires room { length self.old.read < 20000 }
+        requires room { length self.old.read < MAX_AXIOMS }
         requires listed { axiom_uses_listed (length self.old.counts.classes) (length self.old.counts.roles) «axiom» ≡ true }
         ensures added { OnOk result (self.new ≡ record self.old { read = self.old.read ++ record { «axiom» = «axiom»; line = line } ∷ [] }) }
         ensures memory { IfErr result (λ e. e ≡ Refusal.NoMemory) }

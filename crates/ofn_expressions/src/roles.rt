@@ -5,11 +5,11 @@ ghost use Rattle.ofn_expressions.specs.Counts.{Counts, Grows};
 ghost use Rattle.ofn_expressions.specs.Walk.{Judged};
 ghost use Rattle.ofn_expressions.specs.Names.{iri_of};
 ghost use Rattle.ofn_expressions.specs.Constructs.{excluded_role_name};
-ghost use Rattle.ofn_expressions.specs.Classes.{role_tests, role_name_tests, roles_tests, declared_role_tests, listed_role, unless_excluded, role_named, Keeps, IsListedRole, MeansRole, MeanRoles};
+ghost use Rattle.ofn_expressions.specs.Classes.{role_tests, role_name_tests, roles_tests, role_group_refusal, declared_role_tests, listed_role, unless_excluded, role_named, Keeps, IsListedRole, MeansRole, MeanRoles};
 
 use crate::construct::{excluded_role, excluded_role_name};
 use crate::names::{item_line, read_iri};
-use crate::{Prefixes, Reading, Refusal};
+use crate::{Construct, Prefixes, Reading, Refusal};
 use ofn_tree::{Form, Tree};
 use shq_terms::NumberList;
 use std::alloc::Global;
@@ -18,8 +18,9 @@ use std::alloc::Global;
 ///
 /// # Errors
 ///
-/// What is wrong first, in the order of the tests, and `NoMemory`.
-#[tactic(auto, using(crate::proofs::Growing::grows_grows, crate::proofs::Growing::grows_same))]
+/// What is wrong first, in the order of the tests, and `NoMemory`. The roles that were met before stay listed in `state`. No
+/// axiom is added.
+#[tactic(auto, using(crate::proofs::Groups::role_group_refused, crate::proofs::Growing::grows_grows, crate::proofs::Growing::grows_same))]
 pub fn read_role(
     alloc: Global,
     tree: &Tree<'_>,
@@ -31,14 +32,21 @@ pub fn read_role(
     ensures value { IfOk result (MeansRole prefixes.now state.new.counts tree.now) }
 {
     match &tree.form {
-        Form::Group(Some(text), _, line) => match excluded_role(text) {
-            Some(construct) => Err(Refusal::Outside(*line, construct)),
-            None => Err(Refusal::BadShape(*line)),
-        },
+        Form::Group(Some(text), _, line) => Err(group_refusal(excluded_role(text), *line)),
         Form::Group(None, _, line) => Err(Refusal::BadShape(*line)),
         Form::Name(_, _) | Form::Iri(_, _) | Form::Literal(_) | Form::Sign(_, _) => {
             read_role_name(alloc, tree, prefixes, state)
         }
+    }
+}
+
+// The refusal of a group where a role must stand.
+fn group_refusal(excluded: Option<Construct>, line: u32) -> Refusal
+    ensures { result ≡ role_group_refusal excluded line }
+{
+    match excluded {
+        Some(construct) => Refusal::Outside(line, construct),
+        None => Refusal::BadShape(line),
     }
 }
 
@@ -73,7 +81,8 @@ fn list_role(iri: &str, line: u32, state: &mut Reading) -> Result<u32, Refusal>
 ///
 /// # Errors
 ///
-/// What is wrong first, in the order of the tests, and `NoMemory`.
+/// What is wrong first, in the order of the tests, and `NoMemory`. The roles that were met before stay listed in `state`. No
+/// axiom is added.
 #[tactic(auto, using(crate::proofs::Walks::walked_append, crate::proofs::Growing::grows_grows, crate::proofs::Growing::grows_same))]
 pub fn declare_role(
     alloc: Global,
@@ -106,7 +115,8 @@ fn list_declared(iri: &str, line: u32, state: &mut Reading) -> Result<(), Refusa
 ///
 /// # Errors
 ///
-/// What is wrong first, in the order of the tests, and `NoMemory`.
+/// What is wrong first, in the order of the tests, and `NoMemory`. The roles that were met before stay listed in `state`. No
+/// axiom is added.
 #[tactic(auto, using(crate::proofs::Growing::grows_grows, crate::proofs::Growing::grows_same))]
 pub fn read_roles(
     alloc: Global,

@@ -38,17 +38,17 @@ pair_count n = n * (n - 1) / 2
 -- How many parts an axiom with n items has, each of which says that one class is in another, or where the role of an edge
 -- leads. Equivalent classes are each in the next, and the last in the first; disjoint classes are each in the complement of
 -- each later one; and a disjoint union has besides one part for each side of the equation, one for each of its classes.
-abbrev pub part_count : AxiomKind → ℕ → ℕ
-part_count K.SubClassOf n = 1
-part_count K.EquivalentClasses n = n
-part_count K.DisjointClasses n = pair_count n
-part_count K.DisjointUnion n = n + pair_count (n - 1)
-part_count K.SubRole n = 0
-part_count K.EquivalentRoles n = 0
-part_count K.Domain n = 1
-part_count K.Range n = 1
-part_count K.Functional n = 1
-part_count K.Transitive n = 0
+abbrev pub parts_by_item_count : AxiomKind → ℕ → ℕ
+parts_by_item_count K.SubClassOf n = 1
+parts_by_item_count K.EquivalentClasses n = n
+parts_by_item_count K.DisjointClasses n = pair_count n
+parts_by_item_count K.DisjointUnion n = n + pair_count (n - 1)
+parts_by_item_count K.SubRole n = 0
+parts_by_item_count K.EquivalentRoles n = 0
+parts_by_item_count K.Domain n = 1
+parts_by_item_count K.Range n = 1
+parts_by_item_count K.Functional n = 1
+parts_by_item_count K.Transitive n = 0
 
 -- a role, and then class expressions
 abbrev pub role_and_class_tests : List Prefix → Items → List Test
@@ -75,7 +75,7 @@ operand_tests ps K.Transitive is = roles_tests ps is
 
 -- what is tested of a numbered axiom before its items: the count of axioms, the number of its items, the count of parts
 abbrev pub head_tests : AxiomKind → ℕ → ℕ → List Test
-head_tests k line n = numbered line ∷ shape line (axiom_fits k n) ∷ parts line (part_count k n) ∷ []
+head_tests k line n = numbered line ∷ shape line (axiom_fits k n) ∷ parts line (parts_by_item_count k n) ∷ []
 
 abbrev pub numbered_tests : List Prefix → AxiomKind → ℕ → Items → List Test
 numbered_tests ps k line is = head_tests k line (item_count is) ++ operand_tests ps k is

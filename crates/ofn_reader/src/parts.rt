@@ -1,7 +1,7 @@
 // How many items and how many parts a numbered axiom has.
 ghost use Rattle.std.specs.Prelude.{◌≡◌, ◌<◌, ◌≤◌, ◌+◌, ◌∷◌, [], OnOk, length, true, min};
 ghost use Rattle.ofn_expressions.specs.Walk.{Judged, parts};
-ghost use Rattle.ofn_reader.specs.Axioms.{axiom_fits, pair_count, part_count, head_tests};
+ghost use Rattle.ofn_reader.specs.Axioms.{axiom_fits, pair_count, parts_by_item_count, head_tests};
 
 use crate::keywords::AxiomKind;
 use ofn_expressions::{Reading, Refusal};
@@ -35,9 +35,9 @@ fn pair_count(count: u64) -> u64
     count * (count - 1) / 2
 }
 
-fn part_count(kind: AxiomKind, count: u64) -> u64
+fn parts_by_item_count(kind: AxiomKind, count: u64) -> u64
     requires { count ≤ 1000000 }
-    ensures { result ≡ part_count kind count }
+    ensures { result ≡ parts_by_item_count kind count }
 {
     match kind {
         AxiomKind::SubClassOf | AxiomKind::Domain | AxiomKind::Range | AxiomKind::Functional => 1,
@@ -50,11 +50,11 @@ fn part_count(kind: AxiomKind, count: u64) -> u64
 
 // Counts the parts of an axiom. More than a million items give too many parts, or as many as a million.
 fn count_parts(kind: AxiomKind, count: usize, line: u32, state: &mut Reading) -> Result<(), Refusal>
-    ensures tests { Judged result state.old.counts (parts line (part_count kind count) ∷ []) state.new.counts }
+    ensures tests { Judged result state.old.counts (parts line (parts_by_item_count kind count) ∷ []) state.new.counts }
     ensures axioms { OnOk result (state.new.counts.axioms ≡ state.old.counts.axioms) }
     ensures read { state.new.read ≡ state.old.read }
 {
-    state.count_parts(line, part_count(kind, count.min(MANY) as u64))
+    state.count_parts(line, parts_by_item_count(kind, count.min(MANY) as u64))
 }
 
 /// Counts a numbered axiom with so many items, and its parts.

@@ -10,7 +10,7 @@ use Rattle.ofn_expressions.specs.Counts.{Counts}
 use Rattle.ofn_expressions.specs.Names.{Prefix, iri_of}
 use Rattle.ofn_expressions.specs.Classes.{item_count, class_named, concepts_of}
 use Rattle.ofn_reader.specs.declared.keywords.AxiomKind.TheVariants as K
-use Rattle.ofn_reader.specs.Axioms.{pair_count, part_count}
+use Rattle.ofn_reader.specs.Axioms.{pair_count, parts_by_item_count}
 use Rattle.part_counts.specs.Laws.{PartsAreCounted}
 
 none_made : (a : Axiom) → [] ≡ a ∷ [] → ⊥
@@ -30,7 +30,7 @@ pairs_counted cs n same =
     let total : 2 * length (disjoint_parts cs) ≡ n * (n - 1) = pair_total cs ∙ ap (λ k. k * (k - 1)) same in
     omega (arith, total)
 
-union_counted : (c : Concept) (cs : List Concept) (n : ℕ) → length cs ≡ n → part_count K.DisjointUnion (n + 1) ≡ length (union_parts c cs)
+union_counted : (c : Concept) (cs : List Concept) (n : ℕ) → length cs ≡ n → parts_by_item_count K.DisjointUnion (n + 1) ≡ length (union_parts c cs)
 union_counted c cs n same =
     let less : n + 1 - 1 ≡ n = omega arith in
     let pairs = ap pair_count less ∙ pairs_counted cs n same in
@@ -44,7 +44,7 @@ parts_counted ps s K.EquivalentClasses is a made = along (A.EquivalentClasses (p
 parts_counted ps s K.DisjointClasses is a made = along (A.DisjointClasses (part_list (concepts_of ps s is))) a (pair_count (item_count is)) (pairs_counted (part_list (concepts_of ps s is)) (item_count is) (as_many ps s is)) made
 parts_counted ps s K.DisjointUnion no_items a is = absurd (none_made a is)
 parts_counted ps s K.DisjointUnion (item c is) a made =
-    along (A.DisjointUnion (class_named s (iri_of ps c)) (part_list (concepts_of ps s is))) a (part_count K.DisjointUnion (item_count is + 1)) (union_counted (class_named s (iri_of ps c)) (part_list (concepts_of ps s is)) (item_count is) (as_many ps s is)) made
+    along (A.DisjointUnion (class_named s (iri_of ps c)) (part_list (concepts_of ps s is))) a (parts_by_item_count K.DisjointUnion (item_count is + 1)) (union_counted (class_named s (iri_of ps c)) (part_list (concepts_of ps s is)) (item_count is) (as_many ps s is)) made
 parts_counted ps s K.SubRole no_items a is = absurd (none_made a is)
 parts_counted ps s K.SubRole (item r no_items) a is = absurd (none_made a is)
 parts_counted ps s K.SubRole (item r (item q more)) a is = along _ a 0 refl is

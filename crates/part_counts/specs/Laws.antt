@@ -7,10 +7,10 @@ use Rattle.ofn_expressions.specs.Counts.{Counts}
 use Rattle.ofn_expressions.specs.Names.{Prefix}
 use Rattle.ofn_expressions.specs.Classes.{item_count}
 use Rattle.ofn_reader.specs.declared.keywords.AxiomKind.{AxiomKind}
-use Rattle.ofn_reader.specs.Axioms.{part_count, axiom_made}
+use Rattle.ofn_reader.specs.Axioms.{parts_by_item_count, axiom_made}
 
 -- an axiom that items say has as many parts as are counted for them
 abbrev pub PartsAreCounted : Type 0
 PartsAreCounted =
     (ps : List Prefix) (s : Counts) (k : AxiomKind) (is : Items) (a : Axiom) → axiom_made ps s k is ≡ a ∷ []
-    → part_count k (item_count is) ≡ length (axiom_parts a)
+    → parts_by_item_count k (item_count is) ≡ length (axiom_parts a)

@@ -16,7 +16,7 @@ use Rattle.ofn_expressions.specs.Names.{Prefix, iri_of}
 use Rattle.ofn_expressions.specs.Classes.{item_count, class_name_tests, role_tests, joined, each_class, class_named, role_of, roles_of, concept_of, concepts_of}
 use Rattle.ofn_reader.specs.Keywords.{axiom_keyword}
 use Rattle.ofn_reader.specs.Groups.{without_annotations}
-use Rattle.ofn_reader.specs.Axioms.{axiom_fits, part_count, operand_tests, head_tests, numbered_tests, axiom_tests, axioms_tests, axiom_made, numbered_at, axiom_in, axioms_in}
+use Rattle.ofn_reader.specs.Axioms.{axiom_fits, parts_by_item_count, operand_tests, head_tests, numbered_tests, axiom_tests, axioms_tests, axiom_made, numbered_at, axiom_in, axioms_in}
 use Rattle.ofn_reader.specs.declared.keywords.AxiomKind.{AxiomKind}
 use Rattle.ofn_reader.specs.declared.keywords.AxiomKind.TheVariants as K
 use Rattle.part_counts.proofs.Counted.{parts_counted}
@@ -44,7 +44,7 @@ module _ (ps : List Prefix) (f : Counts) where
   -- ---- by the kind of an axiom
 
   abbrev FewParts : AxiomKind → Items → Type 0
-  FewParts k is = part_count k (item_count is) ≤ 500000
+  FewParts k is = parts_by_item_count k (item_count is) ≤ 500000
 
   one : (k : AxiomKind) (line : ℕ) (is : Items) (a : Axiom) → axiom_made ps f k is ≡ a ∷ [] → FewParts k is → axiom_has_counts_within 100 a ≡ true → AreInLimit (numbered_at line (a ∷ []))
   one k line is a made few counts = All-cons IsInLimit (record { «axiom» = a; line = line }) [] (counts, subst (λ n. n ≤ 500000) (parts_counted ps f k is a made) few) none_in_limit
@@ -92,13 +92,13 @@ module _ (ps : List Prefix) (f : Counts) where
 
   -- ---- by its tests
 
-  few_parts : (k : AxiomKind) (line n : ℕ) (s new : Counts) → walked s (head_tests k line n) ≡ Ok new → part_count k n ≤ 500000
+  few_parts : (k : AxiomKind) (line n : ℕ) (s new : Counts) → walked s (head_tests k line n) ≡ Ok new → parts_by_item_count k n ≤ 500000
   few_parts k line n s new h =
-      let last : List Test = parts line (part_count k n) ∷ [] in
+      let last : List Test = parts line (parts_by_item_count k n) ∷ [] in
       let first = held s (numbered line) (shape line (axiom_fits k n) ∷ last) new h in
       let second = held (counts_after s (numbered line)) (shape line (axiom_fits k n)) last new first.later in
-      let third = held (counts_after s (numbered line)) (parts line (part_count k n)) [] new second.later in
-      omega (arith, true_le (s.parts + part_count k n) 500000 third.now)
+      let third = held (counts_after s (numbered line)) (parts line (parts_by_item_count k n)) [] new second.later in
+      omega (arith, true_le (s.parts + parts_by_item_count k n) 500000 third.now)
 
   numbered_in_limit : (k : AxiomKind) (line : ℕ) (is : Items) (s new : Counts) → walked s (numbered_tests ps k line is) ≡ Ok new → AreInLimit (numbered_at line (axiom_made ps f k is))
   numbered_in_limit k line is s new h =
