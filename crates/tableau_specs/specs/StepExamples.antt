@@ -160,15 +160,12 @@ no_run : (b has_filler rest apart : Bool) → ((((b && false) && has_filler) && 
 no_run true has_filler rest apart = refl
 no_run false has_filler rest apart = refl
 
-no_run_at_first : (y : ℕ) → is_run context (facts_of (start 7 7)) 0 7 1 2 y ≡ false
-no_run_at_first y =
-    let fs = facts_of (start 7 7) in
-    no_run (nat_lt y 1) (has fs y 1) (list_all (is_filled_successor (below_of context) fs 0 7 1) (range_with_len (y + 1) 1)) (all_apart fs (range_with_len y 2))
-
 pub generates_two : IsLegal context (start 7 7) (start 7 7 ++ says (fresh_facts 0 7 1 1 2))
 generates_two =
     generate (fresh_facts 0 7 1 1 2) (no_plain (start 7 7) refl refl)
-    (by_least 0 7 2 7 1 (record { is_node = lit< tt; is_rep = refl; is_clear = refl }) refl refl no_run_at_first)
+    (by_least 0 7 2 7 1 (record { is_node = lit< tt; is_rep = refl; is_clear = refl }) refl refl (λ y.
+        let fs = facts_of (start 7 7) in
+        no_run (nat_lt y 1) (has fs y 1) (list_all (is_filled_successor (below_of context) fs 0 7 1) (range_with_len (y + 1) 1)) (all_apart fs (range_with_len y 2))))
 
 -- node 1 is 'some of role 7 in 1' of node 0, nodes 2 and 3 are 'at least 2', and node 2 has been joined to node 1
 abbrev joined : List (Fact ℕ)
@@ -182,20 +179,20 @@ pub still_runs : is_run context joined 0 7 1 2 2 ≡ true
 still_runs = refl
 
 -- so none are made again
-abbrev IsLeast : Shape → ℕ → ℕ → ℕ → Type 0
-IsLeast (at_least m r d) n s e = (m ≡ 2) × (r ≡ 7) × (d ≡ 1)
-IsLeast _ n s e = Unit {0}
+abbrev IsLeast : Shape → Type 0
+IsLeast (at_least n s e) = (n ≡ 2) × (s ≡ 7) × (e ≡ 1)
+IsLeast _ = Unit {0}
 
-only_least : (c n s e : ℕ) → IsLeast (shape_of table c) n s e
-only_least zero n s e = tt
-only_least (suc zero) n s e = tt
-only_least (suc (suc zero)) n s e = tt
-only_least (suc (suc (suc zero))) n s e = tt
-only_least (suc (suc (suc (suc zero)))) n s e = tt
-only_least (suc (suc (suc (suc (suc zero))))) n s e = tt
-only_least (suc (suc (suc (suc (suc (suc zero)))))) n s e = tt
-only_least (suc (suc (suc (suc (suc (suc (suc zero))))))) n s e = (refl, refl, refl)
-only_least (suc (suc (suc (suc (suc (suc (suc (suc c)))))))) n s e = tt
+only_least : (c : ℕ) → IsLeast (shape_of table c)
+only_least zero = tt
+only_least (suc zero) = tt
+only_least (suc (suc zero)) = tt
+only_least (suc (suc (suc zero))) = tt
+only_least (suc (suc (suc (suc zero)))) = tt
+only_least (suc (suc (suc (suc (suc zero))))) = tt
+only_least (suc (suc (suc (suc (suc (suc zero)))))) = tt
+only_least (suc (suc (suc (suc (suc (suc (suc zero))))))) = (refl, refl, refl)
+only_least (suc (suc (suc (suc (suc (suc (suc (suc c)))))))) = tt
 
 begins_at_zero : (x s e n : ℕ) → n ≡ 2 → fresh_facts x s e 4 n ≡ fresh_facts 0 7 1 4 2 → x ≡ 0
 begins_at_zero x s e n two eq =
@@ -203,15 +200,12 @@ begins_at_zero x s e n two eq =
     let g : ◌≡◌ {A = Fact ℕ} (Edge s x 4) (Edge 7 0 4) = cc in
     cc
 
-made_again : (new : List (Fact ℕ)) → Generates context joined new → ¬ (new ≡ fresh_facts 0 7 1 4 2)
-made_again new (by_some x c s e at h sh none) eq = cc
-made_again new (by_least x c n s e at h sh none) eq =
-    let shape = subst (λ (s' : Shape). IsLeast s' n s e) sh (only_least c n s e) in
+pub makes_none_again : (new : List (Fact ℕ)) → Generates context joined new → ¬ (new ≡ fresh_facts 0 7 1 4 2)
+makes_none_again new (by_some x c s e at h sh none) eq = cc
+makes_none_again new (by_least x c n s e at h sh none) eq =
+    let shape = subst IsLeast sh (only_least c) in
     let begins : x ≡ 0 = begins_at_zero x s e n shape.0 eq in
     let f : is_run context joined 0 7 1 2 2 ≡ false =
     ap (λ (v : ℕ). is_run context joined v 7 1 2 2) (sym begins) ∙ ap (λ (r : ℕ). is_run context joined x r 1 2 2) (sym shape.1)
     ∙ ap (λ (d : ℕ). is_run context joined x s d 2 2) (sym shape.2) ∙ ap (λ (m : ℕ). is_run context joined x s e m 2) (sym shape.0) ∙ none 2 in
     cc
-
-pub makes_none_again : ¬ Generates context joined (fresh_facts 0 7 1 4 2)
-makes_none_again h = made_again (fresh_facts 0 7 1 4 2) h refl
