@@ -1,5 +1,5 @@
 // The words of the command line.
-ghost use Rattle.std.specs.Prelude.{◌≡◌, ◌×◌, List, String, drop, IfOk};
+ghost use Rattle.std.specs.Prelude.{◌≡◌, List, String, drop, IfOk};
 ghost use Rattle.std.specs.Iterator.{IsFinite, Drains};
 ghost use Rattle.std.specs.declared.alloc.Global.{Global};
 
@@ -29,14 +29,9 @@ pub(crate) fn words_after_name<I: Iterator<Item = String> + Drop>(
     requires ends { IsFinite (I.remaining args) }
     ensures { IfOk result (λ words. (all : List (String Global)) × Drains I.next_gives args all × (words.items ≡ drop 1 all)) }
 {
-    let mut words = Vec::new(alloc);
-    let mut is_name = true;
-    for arg in args {
-        if is_name {
-            is_name = false;
-        } else {
-            words.push(arg)?;
-        }
+    let mut words: Vec<String> = args.collect(alloc)?;
+    if !words.is_empty() {
+        words.remove(0);
     }
     Ok(words)
 }

@@ -50,22 +50,26 @@ module _ {K : Type 0} (reading : List (List ℕ) → Option K) (made : K → Cer
     stops = λ less found. let there = read_there (take (suc k) ls ++ found.0) found.1 found.2 in first.stops less (found.0, there.0, there.1);
   }
 
+  -- what is read of lines after a verdict
+  abbrev given : Option ℕ → Option K → Result Certificate ℕ
+  given malformed read = elim read [ None ↦ Err (or_no_line (option_map clamped_line malformed)) | Some k ↦ Ok (made k) ]
+
   -- the number that goes with lines after a verdict that are no text, where there are few of them
   after_verdict : (o : Listed) (first_malformed : List (List ℕ) → Option ℕ) → ((ls : List (List ℕ)) (m : ℕ) → first_malformed ls ≡ Some m → IsFirstMalformed reading ls m) → ((ls : List (List ℕ)) → first_malformed ls ≡ None → (k : K) × (reading ls ≡ Some k))
       → (l : List ℕ) (ls : List (List ℕ)) (n : ℕ) → length ls ≤ 4294967293 → ((rest : List (List ℕ)) → certificate_read o (l ∷ rest) ≡ option_map made (reading rest))
-      → elim (reading ls) [ None ↦ Err (or_no_line (option_map clamped_line (first_malformed ls))) | Some k ↦ Ok (made k) ] ≡ Err n → IsFirstMalformed (certificate_read o) (l ∷ ls) (n + 1)
+      → given (first_malformed ls) (reading ls) ≡ Err n → IsFirstMalformed (certificate_read o) (l ∷ ls) (n + 1)
   after_verdict o first_malformed is_first unless l ls n few reads is = by (first_malformed ls) refl
     where
       by : (m : Option ℕ) → first_malformed ls ≡ m → IsFirstMalformed (certificate_read o) (l ∷ ls) (n + 1)
       by None none =
           let text = unless ls none in
-          let found : ◌≡◌ {A = Result Certificate ℕ} (Ok (made text.0)) (Err n) = rw text.1 is in
+          let found : ◌≡◌ {A = Result Certificate ℕ} (Ok (made text.0)) (Err n) = sym (ap (given (first_malformed ls)) text.1) ∙ is in
           absurd (cc found)
       by (Some m) some =
           let first = is_first ls m some in
           let here = counted_from_two reading ls m first in
           let same : min m (2 ^ 32 - 1) ≡ m = min-eq_left (omega (arith, first.within, few)) in
-          let number : ◌≡◌ {A = Result Certificate ℕ} (Err (min m (2 ^ 32 - 1))) (Err n) = rw (first.no_text, some) is in
+          let number : ◌≡◌ {A = Result Certificate ℕ} (Err (min m (2 ^ 32 - 1))) (Err n) = sym (ap (given (first_malformed ls)) first.no_text ∙ ap (λ (m : Option ℕ). given m None) some) ∙ is in
           let counted : min m (2 ^ 32 - 1) ≡ n = cc number in
           first_in_text (certificate_read o) (l ∷ ls) (suc here.0) (n + 1) (omega (arith, counted, same, here.1)) (first_behind (certificate_read o) (λ rest. option_map made (reading rest)) l ls here.0 reads (first_made ls here.0 here.2))
 
@@ -83,7 +87,7 @@ opened_other o l ls r no_model is =
     ap (λ (b : Bool). if b then model_after o ls else if is_refutation_verdict l then refutation_after o ls else Err 1) no_model
     ∙ ap (λ (b : Bool). if b then refutation_after o ls else Err 1) is
 
-read_made : {K : Type 0} (made : K → Certificate) (n : ℕ) (r : Option K) → result_ok (elim r [ None ↦ Err n | Some k ↦ Ok (made k) ]) ≡ option_map made r
+read_made : {K : Type 0} (made : K → Certificate) (n : ℕ) (r : Option K) → result_ok {T = Certificate} {E = ℕ} (elim r [ None ↦ Err n | Some k ↦ Ok (made k) ]) ≡ option_map made r
 read_made made n None = refl
 read_made made n (Some k) = refl
 

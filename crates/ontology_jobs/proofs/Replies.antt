@@ -4,13 +4,15 @@ use Rattle.std.specs.Prelude.{IfSome, IfOk, IfErr, nat_lt}
 use Rattle.std.specs.Io.KnownBytes.{Consumes, IsAtEnd}
 use Rattle.std.proofs.lemmas.Bool.Decides.{nat_tests}
 use Rattle.shq_io.specs.Causes.{TakesOut}
+use Rattle.shq_io.specs.declared.whole.ReadEnd.{ReadEnd}
+use Rattle.shq_io.specs.declared.whole.ReadEnd.TheVariants as E
 use Rattle.ofn_tree.specs.declared.fault.TextFault.TheVariants as F
 use Rattle.ofn_expressions.specs.declared.refusal.Refusal.{Refusal}
 use Rattle.ofn_expressions.specs.declared.refusal.Refusal.TheVariants as R
 use Rattle.ontology_jobs.specs.Words.{check}
 use Rattle.ontology_jobs.specs.Checking.{IsUnread, Reply, judged, refused_document, refused_query, malformed_line, IsReply}
 use Rattle.ontology_jobs.specs.Complaints.{complaint}
-use Rattle.ontology_jobs.specs.Answers.{Answer, complaint_answer, reply_answer, check_answer, no_memory, Gives, Checked, AnswersJob, left_by, LeavesFor}
+use Rattle.ontology_jobs.specs.Answers.{Answer, complaint_answer, reply_answer, check_answer, end_answer, no_memory, IsAnswer, Gives, Checked, AnswersJob, left_by, LeavesFor}
 use Rattle.ontology_jobs.specs.declared.judging.Verdict.{Verdict}
 use Rattle.ontology_jobs.specs.declared.judging.Verdict.TheVariants.{NotEntailed, Entailed, Axiom, Query, Line}
 use Rattle.ontology_jobs.specs.declared.complaint.Place.{Place}
@@ -157,3 +159,12 @@ too_long_leaves (Some bytes) (Some rest) query out longer =
     let left : left_by (Some (check query)) bytes ≡ drop (2 ^ 24 + 1) bytes = rw long in
     let gone : drop (2 ^ 24 + 1) bytes ≡ rest = ap (drop (2 ^ 24 + 1)) out.taken ∙ drop_taken (2 ^ 24 + 1) out.bytes rest out.count in
     ap Some (sym (left ∙ gone))
+
+-- what is left where the input was not read to its end
+pub end_leaves : (before now : Option (List ℕ)) (query out : List ℕ) (s : Status) (end : ReadEnd) → IsAnswer (end_answer end) out s → (end ≡ E.TooLong → LeavesFor (Some (check query)) before now Limit) → LeavesFor (Some (check query)) before now s
+end_leaves before now query out s end is long = subst (LeavesFor (Some (check query)) before now) (sym (ap (λ (a : Answer). a.0) is)) (by end long)
+  where
+    by : (end : ReadEnd) → (end ≡ E.TooLong → LeavesFor (Some (check query)) before now Limit) → LeavesFor (Some (check query)) before now (end_answer end).0
+    by E.TooLong long = long refl
+    by E.Fault long = tt
+    by E.NoMemory long = tt

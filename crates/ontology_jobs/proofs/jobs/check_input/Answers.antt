@@ -1,6 +1,6 @@
 use Rattle.std.proofs.Common.{Err, ap}
 use Rattle.ontology_jobs.specs.Answers.{text_bytes}
-use Rattle.ontology_jobs.proofs.Replies.{read_answers, whole_leaves, too_long_leaves}
+use Rattle.ontology_jobs.proofs.Replies.{read_answers, whole_leaves, too_long_leaves, end_leaves}
 use Rattle.ontology_jobs.proofs.jobs.check_input.Goals as goal
 
 pub returns-in-Ok-clause-answers : goal.returns-in-Ok-clause-answers
@@ -12,6 +12,9 @@ pub returns-in-Ok-clause-leaves : goal.returns-in-Ok-clause-leaves
 returns-in-Ok-clause-leaves g c =
     whole_leaves (g.S.Source.left c.args.source.now) (g.S.Source.left c.read_all.new.source) c.args.query.now c.in-Ok.input.items c.verify.result.0 c.in-Ok.ensures.whole c.in-Ok.ensures.ended c.in-Ok.ensures.bounded
 
-pub returns-in-Err-TooLong-clause-leaves : goal.returns-in-Err-TooLong-clause-leaves
-returns-in-Err-TooLong-clause-leaves g c =
-    too_long_leaves (g.S.Source.left c.args.source.now) (g.S.Source.left c.read_all.new.source) c.args.query.now (c.in-Err-TooLong.ensures.too_long (ap (λ e. Err e) c.in-Err-TooLong.field-0-is)) (c.in-Err-TooLong.ensures.longer (ap (λ e. Err e) c.in-Err-TooLong.field-0-is))
+pub returns-in-Err-clause-leaves : goal.returns-in-Err-clause-leaves
+returns-in-Err-clause-leaves g c =
+    let before = g.S.Source.left c.args.source.now in
+    let now = g.S.Source.left c.read_all.new.source in
+    end_leaves before now c.args.query.now (text_bytes c.end_reply.result.1) c.end_reply.result.0 c.in-Err.end c.end_reply.ensures
+    (λ long. too_long_leaves before now c.args.query.now (c.in-Err.ensures.too_long (ap (λ e. Err e) long)) (c.in-Err.ensures.longer (ap (λ e. Err e) long)))
