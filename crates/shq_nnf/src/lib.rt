@@ -12,6 +12,6 @@ mod table;
 
 pub use laws::{axioms_are_their_parts, normal_forms_keep_truth, numbers_are_normal};
 pub use parts::{Part, part_count};
-pub use shapes::{KeptShape, Shape};
+pub use shapes::{OwnedShape, Shape};
 pub use shq_base::NoMemory;
 pub use table::Concepts;

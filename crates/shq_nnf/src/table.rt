@@ -2,11 +2,11 @@
 ghost use Rattle.std.specs.Prelude.{◌≡◌, ◌+◌, ◌<◌, ◌≤◌, [], ◌∷◌, ◌++◌, IsTrue, IfOk, OnOk, OnErr, length, take};
 ghost use Rattle.shape_specs.specs.Shape.{shape_of, has_parts_below, is_normal, IsTable};
 ghost use Rattle.shape_specs.specs.Shape.Shape.{top as plain_top};
-ghost use Rattle.shq_nnf.specs.Kept.{form_of, form_of_kept};
+ghost use Rattle.shq_nnf.specs.Shapes.{form_of, form_of_owned};
 ghost use Rattle.shq_nnf.specs.Numbers.{IsPut};
 
 use crate::NoMemory;
-use crate::shapes::{KeptShape, Shape, owned};
+use crate::shapes::{OwnedShape, Shape, owned};
 use indexmap::IndexSet;
 use std::alloc::Global;
 use std::marker::Model;
@@ -16,19 +16,19 @@ use std::marker::Model;
 #[derive(Drop)]
 pub struct Concepts {
     pub(crate) alloc: Global,
-    kept: IndexSet<KeptShape>,
+    kept: IndexSet<OwnedShape>,
 }
 
 impl Model for Concepts {
     ghost use Rattle.std.specs.Prelude.{List, map, length, ◌<◌, ◌^◌};
     ghost use Rattle.shape_specs.specs.Shape.{Shape as Form, IsTable};
-    ghost use Rattle.shq_nnf.specs.Kept.{form_of_kept};
+    ghost use Rattle.shq_nnf.specs.Shapes.{form_of_owned};
 
     ghost Value = { List Form };
 
-    ghost view = { λ c. map form_of_kept c.kept.keys };
+    ghost view = { λ c. map form_of_owned c.kept.keys };
 
-    ghost invariant = { λ c. (length c.kept.keys < 2 ^ 32) × IsTable (map form_of_kept c.kept.keys) };
+    ghost invariant = { λ c. (length c.kept.keys < 2 ^ 32) × IsTable (map form_of_owned c.kept.keys) };
 }
 
 impl Concepts {
@@ -41,7 +41,7 @@ impl Concepts {
         ensures { IfOk result (λ table. table ≡ plain_top ∷ []) }
     {
         let mut kept = IndexSet::new(alloc);
-        kept.insert_full(KeptShape::Top)?;
+        kept.insert_full(OwnedShape::Top)?;
         Ok(Concepts { alloc, kept })
     }
 
@@ -81,10 +81,10 @@ impl Concepts {
         self.keep(kept)
     }
 
-    fn keep(&mut self, shape: KeptShape) -> Result<u32, NoMemory>
-        requires parts { IsTrue (has_parts_below (length self.old) (form_of_kept shape)) }
-        requires normal { IsTrue (is_normal self.old (form_of_kept shape)) }
-        ensures number { IfOk result (λ n. IsPut self.old (form_of_kept shape) self.new n) }
+    fn keep(&mut self, shape: OwnedShape) -> Result<u32, NoMemory>
+        requires parts { IsTrue (has_parts_below (length self.old) (form_of_owned shape)) }
+        requires normal { IsTrue (is_normal self.old (form_of_owned shape)) }
+        ensures number { IfOk result (λ n. IsPut self.old (form_of_owned shape) self.new n) }
         ensures table { IsTable self.new }
         ensures unchanged { OnErr result (self.new ≡ self.old) }
     {

@@ -1,7 +1,7 @@
 -- The shapes that the code shows and keeps, as plain shapes.
 use Rattle.shape_specs.specs.Shape.{Shape, top, bottom, name, not_name, intersection, union, some_of, all_of, at_least, at_most}
-use Rattle.shq_nnf.specs.declared.shapes.KeptShape.{KeptShape}
-use Rattle.shq_nnf.specs.declared.shapes.KeptShape.TheVariants as K
+use Rattle.shq_nnf.specs.declared.shapes.OwnedShape.{OwnedShape}
+use Rattle.shq_nnf.specs.declared.shapes.OwnedShape.TheVariants as K
 use Rattle.shq_nnf.specs.declared.shapes.Shape.{Shape as Shown}
 use Rattle.shq_nnf.specs.declared.shapes.Shape.TheVariants as S
 
@@ -17,14 +17,14 @@ form_of (S.AllOf r c) = all_of r c
 form_of (S.Min n r c) = at_least n r c
 form_of (S.Max n r c) = at_most n r c
 
-abbrev pub form_of_kept : KeptShape → Shape
-form_of_kept K.Top = top
-form_of_kept K.Bottom = bottom
-form_of_kept (K.Name a) = name a
-form_of_kept (K.NotName a) = not_name a
-form_of_kept (K.And cs) = intersection cs.items
-form_of_kept (K.Or cs) = union cs.items
-form_of_kept (K.SomeOf r c) = some_of r c
-form_of_kept (K.AllOf r c) = all_of r c
-form_of_kept (K.Min n r c) = at_least n r c
-form_of_kept (K.Max n r c) = at_most n r c
+abbrev pub form_of_owned : OwnedShape → Shape
+form_of_owned K.Top = top
+form_of_owned K.Bottom = bottom
+form_of_owned (K.Name a) = name a
+form_of_owned (K.NotName a) = not_name a
+form_of_owned (K.And cs) = intersection cs.items
+form_of_owned (K.Or cs) = union cs.items
+form_of_owned (K.SomeOf r c) = some_of r c
+form_of_owned (K.AllOf r c) = all_of r c
+form_of_owned (K.Min n r c) = at_least n r c
+form_of_owned (K.Max n r c) = at_most n r c
