@@ -8,7 +8,7 @@ use Rattle.shape_specs.specs.Shape.{Shape}
 use Rattle.shape_specs.specs.Shape.Shape.{intersection, union, name as name_shape, all_of as all_shape}
 use Rattle.shape_specs.specs.Tree.{tree_of}
 use Rattle.shq_nnf.specs.Numbers.{Extends, IsNumber}
-use Rattle.shq_nnf.specs.Kept.{form_of}
+use Rattle.shq_nnf.specs.Shapes.{form_of}
 use Rattle.shq_nnf.specs.declared.shapes.Shape.{Shape as Shown}
 use Rattle.shq_nnf.specs.declared.shapes.Shape.TheVariants as S
 use Rattle.shq_nnf.proofs.Numbers.{tree_stays, length_extends}

@@ -7,7 +7,7 @@ use Rattle.shq_base.specs.Concept.{Concept}
 use Rattle.shape_specs.specs.Shape.{Shape}
 use Rattle.shape_specs.specs.Shape.Shape.{some_of as some_shape, at_least as least_shape}
 use Rattle.shape_specs.specs.Tree.{tree_of}
-use Rattle.shq_nnf.specs.Kept.{form_of}
+use Rattle.shq_nnf.specs.Shapes.{form_of}
 use Rattle.shq_nnf.specs.declared.shapes.Shape.{Shape as Shown}
 use Rattle.shq_nnf.specs.declared.shapes.Shape.TheVariants as S
 use Rattle.fact_specs.specs.declared.Fact.{Fact}

@@ -2,7 +2,7 @@
 use Rattle.std.proofs.Common.{◌≡◌, ℕ, ◌+◌, ◌&&◌, eqb, Bool, List, [], length, Some, None, refl, ap, ◌∙◌}
 use Rattle.shape_specs.specs.Shape.Shape.{at_most as most_shape}
 use Rattle.shape_specs.specs.Tree.{tree_of}
-use Rattle.shq_nnf.specs.Kept.{form_of}
+use Rattle.shq_nnf.specs.Shapes.{form_of}
 use Rattle.shq_nnf.specs.declared.shapes.Shape.{Shape as Shown}
 use Rattle.shq_nnf.specs.declared.shapes.Shape.TheVariants as S
 use Rattle.fact_specs.specs.State.{all_apart}

@@ -9,7 +9,7 @@ use Rattle.shape_specs.specs.Tree.{tree_over, trees_of, tree_of}
 use Rattle.shape_specs.specs.Rows.{Theory}
 use Rattle.shq_terms.specs.declared.axioms.Query.{Query}
 use Rattle.shq_nnf.specs.Numbers.{IsNumber}
-use Rattle.shq_nnf.specs.Kept.{form_of}
+use Rattle.shq_nnf.specs.Shapes.{form_of}
 use Rattle.shq_nnf.specs.declared.shapes.Shape.{Shape as Shown}
 use Rattle.role_box.specs.declared.role_axiom.RoleAxiom.{RoleAxiom}
 use Rattle.role_box.specs.RoleAxioms.{role_axioms}

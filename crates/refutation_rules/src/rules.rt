@@ -6,7 +6,7 @@ ghost use Rattle.shape_specs.specs.Rows.{part_at};
 ghost use Rattle.shape_specs.specs.Shape.{IsTable, has_parts_below, is_normal};
 ghost use Rattle.shape_specs.specs.Tree.{tree_over, trees_of, tree_of};
 ghost use Rattle.shq_nnf.specs.Counts.{has_counts_within};
-ghost use Rattle.shq_nnf.specs.Kept.{form_of};
+ghost use Rattle.shq_nnf.specs.Shapes.{form_of};
 ghost use Rattle.shq_nnf.specs.Numbers.{Extends, IsNumber};
 ghost use Rattle.axiom_sets.specs.Sets.{member_list};
 ghost use Rattle.row_cache.specs.Rows.{AreInLimit, row_for, IsRow, range_for, IsRange};

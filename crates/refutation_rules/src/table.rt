@@ -2,7 +2,7 @@
 ghost use Rattle.std.specs.Prelude.{◌≡◌, true, IsTrue, IfOk, length};
 ghost use Rattle.shape_specs.specs.Shape.{IsTable, has_parts_below, is_normal};
 ghost use Rattle.shape_specs.specs.Tree.{tree_over, trees_of};
-ghost use Rattle.shq_nnf.specs.Kept.{form_of};
+ghost use Rattle.shq_nnf.specs.Shapes.{form_of};
 ghost use Rattle.shq_nnf.specs.Numbers.{Extends, IsNumber};
 
 use crate::NoMemory;

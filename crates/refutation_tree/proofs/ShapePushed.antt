@@ -5,28 +5,28 @@ use Rattle.std.specs.List.{list_any, list_all}
 use Rattle.std.proofs.lemmas.Bool.{and_parts}
 use Rattle.std.proofs.lemmas.List.{map-append}
 use Rattle.refutation_specs.specs.Line.{Line}
-use Rattle.shq_nnf.specs.declared.shapes.KeptShape.{KeptShape}
-use Rattle.shq_nnf.specs.contracts.shapes.KeptShapePartialEq.TheImpl.{ghosts}
-use Rattle.shq_nnf.specs.Kept.{form_of_kept}
+use Rattle.shq_nnf.specs.declared.shapes.OwnedShape.{OwnedShape}
+use Rattle.shq_nnf.specs.contracts.shapes.OwnedShapePartialEq.TheImpl.{ghosts}
+use Rattle.shq_nnf.specs.Shapes.{form_of_owned}
 use Rattle.refutation_tree.specs.Shapes.{fits, is_among_shapes, admits, AreShapes}
 use Rattle.refutation_tree.specs.RuleLine.{names_concepts}
 use Rattle.refutation_tree.specs.RefutationLists.{IsKept}
 use Rattle.refutation_tree.proofs.Shapes.{shapes_push, kept_listed}
 
-module _ (keys after : List KeptShape) (k : KeptShape) (inserted : after ≡ (if list_any (ghosts.eq k) keys then keys else keys ++ k ∷ [])) (admitted : admits (map form_of_kept keys) (form_of_kept k) ≡ true) where
+module _ (keys after : List OwnedShape) (k : OwnedShape) (inserted : after ≡ (if list_any (ghosts.eq k) keys then keys else keys ++ k ∷ [])) (admitted : admits (map form_of_owned keys) (form_of_owned k) ≡ true) where
   fresh : list_any (ghosts.eq k) keys ≡ false
-  fresh = kept_listed k keys ∙ unlisted (is_among_shapes (map form_of_kept keys) (form_of_kept k)) (and_parts (fits (map form_of_kept keys) (form_of_kept k)) (not (is_among_shapes (map form_of_kept keys) (form_of_kept k))) admitted).1
+  fresh = kept_listed k keys ∙ unlisted (is_among_shapes (map form_of_owned keys) (form_of_owned k)) (and_parts (fits (map form_of_owned keys) (form_of_owned k)) (not (is_among_shapes (map form_of_owned keys) (form_of_owned k))) admitted).1
     where
       unlisted : (b : Bool) → not b ≡ true → b ≡ false
       unlisted true h = sym h
       unlisted false h = refl
 
-  pub forms_pushed : map form_of_kept after ≡ map form_of_kept keys ++ form_of_kept k ∷ []
-  forms_pushed = ap (map form_of_kept) (inserted ∙ ap (λ (b : Bool). if b then keys else keys ++ k ∷ []) fresh) ∙ map-append form_of_kept keys (k ∷ [])
+  pub forms_pushed : map form_of_owned after ≡ map form_of_owned keys ++ form_of_owned k ∷ []
+  forms_pushed = ap (map form_of_owned) (inserted ∙ ap (λ (b : Bool). if b then keys else keys ++ k ∷ []) fresh) ∙ map-append form_of_owned keys (k ∷ [])
 
-  pub kept_pushed : (lines : List Line) → lines ≡ [] → length (map form_of_kept keys) + 1 < 2 ^ 32 → AreShapes (map form_of_kept keys) → IsKept (map form_of_kept after) lines
+  pub kept_pushed : (lines : List Line) → lines ≡ [] → length (map form_of_owned keys) + 1 < 2 ^ 32 → AreShapes (map form_of_owned keys) → IsKept (map form_of_owned after) lines
   kept_pushed lines none room good = record {
-    few = omega (arith, room, ap length forms_pushed, length-append (map form_of_kept keys) (form_of_kept k ∷ []));
-    are_shapes = subst AreShapes (sym forms_pushed) (shapes_push (map form_of_kept keys) (form_of_kept k) good admitted);
-    are_known = ap (list_all (names_concepts (map form_of_kept after))) none;
+    few = omega (arith, room, ap length forms_pushed, length-append (map form_of_owned keys) (form_of_owned k ∷ []));
+    are_shapes = subst AreShapes (sym forms_pushed) (shapes_push (map form_of_owned keys) (form_of_owned k) good admitted);
+    are_known = ap (list_all (names_concepts (map form_of_owned after))) none;
   }

@@ -7,10 +7,10 @@ use Rattle.std.proofs.lemmas.List.{get_or_append_left, get_or_push, take-append-
 use Rattle.std.proofs.lemmas.Slice.Eq.{bytes_eq-Decides}
 use Rattle.shape_specs.specs.Shape.{Shape}
 use Rattle.shape_specs.specs.Shape.Shape.{top, bottom, name, not_name, intersection, union, some_of, all_of, at_least, at_most}
-use Rattle.shq_nnf.specs.declared.shapes.KeptShape.{KeptShape}
-use Rattle.shq_nnf.specs.declared.shapes.KeptShape.TheVariants.{Top, Bottom, Name, NotName, And, Or, SomeOf, AllOf, Min, Max}
-use Rattle.shq_nnf.specs.contracts.shapes.KeptShapePartialEq.TheImpl.{ghosts}
-use Rattle.shq_nnf.specs.Kept.{form_of_kept}
+use Rattle.shq_nnf.specs.declared.shapes.OwnedShape.{OwnedShape}
+use Rattle.shq_nnf.specs.declared.shapes.OwnedShape.TheVariants.{Top, Bottom, Name, NotName, And, Or, SomeOf, AllOf, Min, Max}
+use Rattle.shq_nnf.specs.contracts.shapes.OwnedShapePartialEq.TheImpl.{ghosts}
+use Rattle.shq_nnf.specs.Shapes.{form_of_owned}
 use Rattle.refutation_tree.specs.Shapes.{shape_at, fits, same_shape, is_among_shapes, admits, AreShapes}
 
 -- ---- the test of equal shapes
@@ -105,7 +105,7 @@ module _ (t : List Shape) (s : Shape) (good : AreShapes t) (admitted : admits t 
 
 -- ---- kept shapes
 
-kept_same : (a b : KeptShape) → ghosts.eq a b ≡ same_shape (form_of_kept a) (form_of_kept b)
+kept_same : (a b : OwnedShape) → ghosts.eq a b ≡ same_shape (form_of_owned a) (form_of_owned b)
 kept_same Top Top = refl
 kept_same Bottom Bottom = refl
 kept_same (Name x) (Name y) = refl
@@ -118,16 +118,16 @@ kept_same (Min n r c) (Min m s d) = refl
 kept_same (Max n r c) (Max m s d) = refl
 kept_same a b = refl
 
-pub kept_listed : (k : KeptShape) (keys : List KeptShape) → list_any (ghosts.eq k) keys ≡ is_among_shapes (map form_of_kept keys) (form_of_kept k)
+pub kept_listed : (k : OwnedShape) (keys : List OwnedShape) → list_any (ghosts.eq k) keys ≡ is_among_shapes (map form_of_owned keys) (form_of_owned k)
 kept_listed k [] = refl
-kept_listed k (x ∷ xs) = ap (λ b. b || list_any (ghosts.eq k) xs) (kept_same k x) ∙ ap (λ b. same_shape (form_of_kept k) (form_of_kept x) || b) (kept_listed k xs)
+kept_listed k (x ∷ xs) = ap (λ b. b || list_any (ghosts.eq k) xs) (kept_same k x) ∙ ap (λ b. same_shape (form_of_owned k) (form_of_owned x) || b) (kept_listed k xs)
 
-pub shape_there : (keys : List KeptShape) (n : ℕ) (k : KeptShape) → Some k ≡ slice_get keys n → form_of_kept k ≡ shape_at (map form_of_kept keys) (suc n)
+pub shape_there : (keys : List OwnedShape) (n : ℕ) (k : OwnedShape) → Some k ≡ slice_get keys n → form_of_owned k ≡ shape_at (map form_of_owned keys) (suc n)
 shape_there [] n k at = cc
-shape_there (x ∷ xs) zero k at = let e : k ≡ x = cc in ap form_of_kept e
+shape_there (x ∷ xs) zero k at = let e : k ≡ x = cc in ap form_of_owned e
 shape_there (x ∷ xs) (suc n) k at = shape_there xs n k at
 
-pub shape_missing : (keys : List KeptShape) (n : ℕ) → None ≡ slice_get keys n → shape_at (map form_of_kept keys) (suc n) ≡ top
+pub shape_missing : (keys : List OwnedShape) (n : ℕ) → None ≡ slice_get keys n → shape_at (map form_of_owned keys) (suc n) ≡ top
 shape_missing [] n at = refl
 shape_missing (x ∷ xs) zero at = cc
 shape_missing (x ∷ xs) (suc n) at = shape_missing xs n at

@@ -4,8 +4,8 @@ use Rattle.std.specs.List.{list_all}
 use Rattle.axiom_sets.specs.Sets.{Limited}
 use Rattle.shape_specs.specs.Shape.{Shape}
 use Rattle.shape_specs.specs.Shape.Shape.{top}
-use Rattle.shq_nnf.specs.declared.shapes.KeptShape.{KeptShape}
-use Rattle.shq_nnf.specs.Kept.{form_of_kept}
+use Rattle.shq_nnf.specs.declared.shapes.OwnedShape.{OwnedShape}
+use Rattle.shq_nnf.specs.Shapes.{form_of_owned}
 use Rattle.refutation_specs.specs.Line.{Line}
 use denote.Ref.{Bor}
 use Rattle.refutation_tree.specs.Shapes.{shape_at, AreShapes}
@@ -25,5 +25,5 @@ pub record IsKept (shapes : List Shape) (lines : List Line) : Type 0 where
   pub are_known : list_all (names_concepts shapes) lines ≡ true
 
 -- the kept shape of a number, where there is one
-abbrev pub IsKeptAt : List Shape → ℕ → Option (Bor KeptShape) → Type 0
-IsKeptAt shapes c kept = MatchOption kept (shape_at shapes c ≡ top) (λ k. form_of_kept k.now ≡ shape_at shapes c)
+abbrev pub IsKeptAt : List Shape → ℕ → Option (Bor OwnedShape) → Type 0
+IsKeptAt shapes c kept = MatchOption kept (shape_at shapes c ≡ top) (λ k. form_of_owned k.now ≡ shape_at shapes c)

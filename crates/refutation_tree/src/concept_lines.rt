@@ -1,7 +1,7 @@
 // Concept lines are read.
 ghost use Rattle.std.specs.Prelude.{◌≡◌, IsTrue, ◌+◌, ◌<◌, ◌^◌, map, Some, IfOk, IfErr, length, option_map};
 ghost use Rattle.shape_specs.specs.Shape.Shape.{top, bottom};
-ghost use Rattle.shq_nnf.specs.Kept.{form_of_kept};
+ghost use Rattle.shq_nnf.specs.Shapes.{form_of_owned};
 ghost use Rattle.certificate_lines.specs.Lines.{bytes_of, number_in};
 ghost use Rattle.refutation_tree.specs.RefutationText.{is_number, when_none, short_shape, shape_in, next_concept_in};
 ghost use Rattle.certificate_lines.specs.Malformed.{IsFaultAt};
@@ -10,7 +10,7 @@ use crate::CertFault;
 use crate::fields::{class_in, counted_in, read_numbers, restriction_in};
 use crate::keywords::{ShapeKind, shape_kind};
 use certificate_lines::number;
-use shq_nnf::KeptShape;
+use shq_nnf::OwnedShape;
 use shq_terms::Ontology;
 use std::alloc::Global;
 
@@ -22,8 +22,8 @@ pub(crate) fn read_concept_line(
     line: u32,
     ontology: &Ontology,
     count: u32,
-) -> Result<KeptShape, CertFault>
-    ensures value { IfOk result (λ s. next_concept_in ontology.now count (bytes_of words.now) ≡ Some (form_of_kept s)) }
+) -> Result<OwnedShape, CertFault>
+    ensures value { IfOk result (λ s. next_concept_in ontology.now count (bytes_of words.now) ≡ Some (form_of_owned s)) }
     ensures room { IfOk result (λ s. count + 1 < 2 ^ 32) }
     ensures fault { IfErr result (IsFaultAt line (next_concept_in ontology.now count (bytes_of words.now))) }
 {
@@ -53,13 +53,13 @@ fn read_shape(
     fields: &[&[u8]],
     line: u32,
     ontology: &Ontology,
-) -> Result<KeptShape, CertFault>
-    ensures value { IfOk result (λ s. shape_in ontology.now kind (bytes_of fields.now) ≡ Some (form_of_kept s)) }
+) -> Result<OwnedShape, CertFault>
+    ensures value { IfOk result (λ s. shape_in ontology.now kind (bytes_of fields.now) ≡ Some (form_of_owned s)) }
     ensures fault { IfErr result (IsFaultAt line (shape_in ontology.now kind (bytes_of fields.now))) }
 {
     match kind {
-        ShapeKind::And => Ok(KeptShape::And(read_numbers(alloc, fields, line)?)),
-        ShapeKind::Or => Ok(KeptShape::Or(read_numbers(alloc, fields, line)?)),
+        ShapeKind::And => Ok(OwnedShape::And(read_numbers(alloc, fields, line)?)),
+        ShapeKind::Or => Ok(OwnedShape::Or(read_numbers(alloc, fields, line)?)),
         _ => match short_shape(kind, fields, ontology) {
             Some(shape) => Ok(shape),
             None => Err(CertFault::Malformed(line)),
@@ -68,26 +68,26 @@ fn read_shape(
 }
 
 // The shape of a kind with as many fields as each of its kind has.
-fn short_shape(kind: ShapeKind, fields: &[&[u8]], ontology: &Ontology) -> Option<KeptShape>
-    ensures { option_map form_of_kept result ≡ short_shape ontology.now kind (bytes_of fields.now) }
+fn short_shape(kind: ShapeKind, fields: &[&[u8]], ontology: &Ontology) -> Option<OwnedShape>
+    ensures { option_map form_of_owned result ≡ short_shape ontology.now kind (bytes_of fields.now) }
 {
     match kind {
         ShapeKind::Top => top_in(fields),
         ShapeKind::Bottom => bottom_in(fields),
-        ShapeKind::Name => class_in(fields, ontology).map(|a| KeptShape::Name(a)),
-        ShapeKind::NotName => class_in(fields, ontology).map(|a| KeptShape::NotName(a)),
+        ShapeKind::Name => class_in(fields, ontology).map(|a| OwnedShape::Name(a)),
+        ShapeKind::NotName => class_in(fields, ontology).map(|a| OwnedShape::NotName(a)),
         ShapeKind::SomeOf => {
-            restriction_in(fields, ontology).map(|q| KeptShape::SomeOf(q.role, q.filler))
+            restriction_in(fields, ontology).map(|q| OwnedShape::SomeOf(q.role, q.filler))
         }
         ShapeKind::AllOf => {
-            restriction_in(fields, ontology).map(|q| KeptShape::AllOf(q.role, q.filler))
+            restriction_in(fields, ontology).map(|q| OwnedShape::AllOf(q.role, q.filler))
         }
-        ShapeKind::Least => counted_in(fields, ontology).map(|q| KeptShape::Min(
+        ShapeKind::Least => counted_in(fields, ontology).map(|q| OwnedShape::Min(
             q.count,
             q.rest.role,
             q.rest.filler,
         )),
-        ShapeKind::Most => counted_in(fields, ontology).map(|q| KeptShape::Max(
+        ShapeKind::Most => counted_in(fields, ontology).map(|q| OwnedShape::Max(
             q.count,
             q.rest.role,
             q.rest.filler,
@@ -96,20 +96,20 @@ fn short_shape(kind: ShapeKind, fields: &[&[u8]], ontology: &Ontology) -> Option
     }
 }
 
-fn top_in(fields: &[&[u8]]) -> Option<KeptShape>
-    ensures { option_map form_of_kept result ≡ when_none (bytes_of fields.now) top }
+fn top_in(fields: &[&[u8]]) -> Option<OwnedShape>
+    ensures { option_map form_of_owned result ≡ when_none (bytes_of fields.now) top }
 {
     match fields {
-        [] => Some(KeptShape::Top),
+        [] => Some(OwnedShape::Top),
         _ => None,
     }
 }
 
-fn bottom_in(fields: &[&[u8]]) -> Option<KeptShape>
-    ensures { option_map form_of_kept result ≡ when_none (bytes_of fields.now) bottom }
+fn bottom_in(fields: &[&[u8]]) -> Option<OwnedShape>
+    ensures { option_map form_of_owned result ≡ when_none (bytes_of fields.now) bottom }
 {
     match fields {
-        [] => Some(KeptShape::Bottom),
+        [] => Some(OwnedShape::Bottom),
         _ => None,
     }
 }

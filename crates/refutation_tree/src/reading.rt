@@ -4,7 +4,7 @@ ghost use Rattle.std.specs.List.{list_all};
 ghost use Rattle.certificate_lines.specs.Lines.{bytes_of, words};
 ghost use Rattle.certificate_lines.specs.Malformed.{IsFaultOf, IsFaultAt, IsFaultOfLine};
 ghost use Rattle.shape_specs.specs.Rows.{is_ascending};
-ghost use Rattle.shq_nnf.specs.Kept.{form_of_kept};
+ghost use Rattle.shq_nnf.specs.Shapes.{form_of_owned};
 ghost use Rattle.refutation_tree.specs.RuleLine.{line_of};
 ghost use Rattle.refutation_tree.specs.RefutationText.{are_axiom_numbers, axiom_set, axioms_numbered, axioms_line, with_shape, with_line, concept_added, rule_added, is_concept_line, refutation_line_read, refutation_body, refutation_of};
 ghost use Rattle.refutation_tree.specs.ReadBack.{IsWritable};
@@ -16,7 +16,7 @@ use crate::rule_lines::read_rule_line;
 use crate::{CertFault, Line, NoMemory, Refutation};
 use axiom_sets::AxiomSet;
 use certificate_lines::{first_unblank, clamped_line, words};
-use shq_nnf::KeptShape;
+use shq_nnf::OwnedShape;
 use shq_terms::Ontology;
 use std::alloc::Global;
 
@@ -128,11 +128,11 @@ fn add_concept(
     add_shape(refutation, number, shape)
 }
 
-fn add_shape(refutation: &mut Refutation, number: u32, shape: KeptShape) -> Result<(), CertFault>
+fn add_shape(refutation: &mut Refutation, number: u32, shape: OwnedShape) -> Result<(), CertFault>
     requires room { length refutation.old.shapes + 1 < 2 ^ 32 }
     requires lines { refutation.old.lines ≡ [] }
-    ensures read { OnOk result (with_shape refutation.old (form_of_kept shape) ≡ Some refutation.new) }
-    ensures fault { IfErr result (IsFaultAt number (with_shape refutation.old (form_of_kept shape))) }
+    ensures read { OnOk result (with_shape refutation.old (form_of_owned shape) ≡ Some refutation.new) }
+    ensures fault { IfErr result (IsFaultAt number (with_shape refutation.old (form_of_owned shape))) }
 {
     if !refutation.admits(&shape) {
         drop(shape);

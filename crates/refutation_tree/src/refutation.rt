@@ -3,7 +3,7 @@ ghost use Rattle.std.specs.Prelude.{◌≡◌, ◌+◌, ◌^◌, ◌<◌, ◌≤
 ghost use Rattle.std.specs.List.{list_all};
 ghost use Rattle.shape_specs.specs.Shape.{is_conjunct, is_disjunct, is_normal};
 ghost use Rattle.shape_specs.specs.Shape.Shape.{top as plain_top};
-ghost use Rattle.shq_nnf.specs.Kept.{form_of, form_of_kept};
+ghost use Rattle.shq_nnf.specs.Shapes.{form_of, form_of_owned};
 ghost use Rattle.refutation_tree.specs.Shapes.{shape_at, is_concept, part_numbers, fits, admits};
 ghost use Rattle.refutation_tree.specs.RuleLine.{line_of, names_concepts};
 ghost use Rattle.refutation_tree.specs.RefutationLists.{IsKept, IsKeptAt};
@@ -12,7 +12,7 @@ ghost use Rattle.refutation_tree.specs.RefutationText.{begun};
 use crate::{Line, NoMemory};
 use axiom_sets::AxiomSet;
 use indexmap::IndexSet;
-use shq_nnf::{KeptShape, Shape};
+use shq_nnf::{OwnedShape, Shape};
 use std::alloc::Global;
 use std::marker::Model;
 
@@ -23,7 +23,7 @@ use std::marker::Model;
 #[derive(Drop)]
 pub struct Refutation {
     pub(crate) axioms: AxiomSet,
-    pub(crate) shapes: IndexSet<KeptShape>,
+    pub(crate) shapes: IndexSet<OwnedShape>,
     pub(crate) lines: Vec<Line>,
 }
 
@@ -31,7 +31,7 @@ impl Model for Refutation {
     ghost use Rattle.std.specs.Prelude.{map};
     ghost use Rattle.std.specs.Coded.{codes};
     ghost use Rattle.axiom_sets.specs.Sets.{limited_code};
-    ghost use Rattle.shq_nnf.specs.Kept.{form_of_kept};
+    ghost use Rattle.shq_nnf.specs.Shapes.{form_of_owned};
     ghost use Rattle.refutation_tree.specs.RuleLine.{line_of};
     ghost use Rattle.refutation_tree.specs.RefutationLists.{RefutationLists, IsKept};
 
@@ -39,9 +39,9 @@ impl Model for Refutation {
 
     ghost coded = { Prim.hlevel (codes, limited_code) };
 
-    ghost view = { λ r. record { axioms = r.axioms; shapes = map form_of_kept r.shapes.keys; lines = map line_of r.lines.items } };
+    ghost view = { λ r. record { axioms = r.axioms; shapes = map form_of_owned r.shapes.keys; lines = map line_of r.lines.items } };
 
-    ghost invariant = { λ r. IsKept (map form_of_kept r.shapes.keys) (map line_of r.lines.items) };
+    ghost invariant = { λ r. IsKept (map form_of_owned r.shapes.keys) (map line_of r.lines.items) };
 }
 
 impl Refutation {
@@ -93,14 +93,14 @@ impl Refutation {
     }
 
     /// Whether the shape may have the next number.
-    pub(crate) fn admits(&self, shape: &KeptShape) -> bool
-        ensures { result ≡ admits self.now.shapes (form_of_kept shape.now) }
+    pub(crate) fn admits(&self, shape: &OwnedShape) -> bool
+        ensures { result ≡ admits self.now.shapes (form_of_owned shape.now) }
     {
         self.fits(shape) && !self.shapes.contains(shape)
     }
 
-    fn fits(&self, shape: &KeptShape) -> bool
-        ensures { result ≡ fits self.now.shapes (form_of_kept shape.now) }
+    fn fits(&self, shape: &OwnedShape) -> bool
+        ensures { result ≡ fits self.now.shapes (form_of_owned shape.now) }
     {
         self.has_parts(shape) && self.is_normal(shape)
     }
@@ -112,29 +112,29 @@ impl Refutation {
         0 < concept && concept as usize <= self.shapes.len()
     }
 
-    fn has_parts(&self, shape: &KeptShape) -> bool
-        ensures { result ≡ list_all (is_concept self.now.shapes) (part_numbers (form_of_kept shape.now)) }
+    fn has_parts(&self, shape: &OwnedShape) -> bool
+        ensures { result ≡ list_all (is_concept self.now.shapes) (part_numbers (form_of_owned shape.now)) }
     {
         match shape {
-            KeptShape::And(parts) | KeptShape::Or(parts) => {
+            OwnedShape::And(parts) | OwnedShape::Or(parts) => {
                 parts.iter().all(|part| self.has_concept(*part))
             }
-            KeptShape::SomeOf(_, filler) | KeptShape::AllOf(_, filler) => self.has_concept(*filler),
-            KeptShape::Min(_, _, filler) | KeptShape::Max(_, _, filler) => {
+            OwnedShape::SomeOf(_, filler) | OwnedShape::AllOf(_, filler) => self.has_concept(*filler),
+            OwnedShape::Min(_, _, filler) | OwnedShape::Max(_, _, filler) => {
                 self.has_concept(*filler)
             }
             _ => true,
         }
     }
 
-    fn is_normal(&self, shape: &KeptShape) -> bool
-        ensures { result ≡ is_normal (plain_top ∷ self.now.shapes) (form_of_kept shape.now) }
+    fn is_normal(&self, shape: &OwnedShape) -> bool
+        ensures { result ≡ is_normal (plain_top ∷ self.now.shapes) (form_of_owned shape.now) }
     {
         match shape {
-            KeptShape::And(parts) => { 2 <= parts.len() && self.are_conjuncts(parts) }
-            KeptShape::Or(parts) => { 2 <= parts.len() && self.are_disjuncts(parts) }
-            KeptShape::Min(count, _, _) => 2 <= *count && *count <= 101,
-            KeptShape::Max(count, _, _) => 1 <= *count && *count <= 100,
+            OwnedShape::And(parts) => { 2 <= parts.len() && self.are_conjuncts(parts) }
+            OwnedShape::Or(parts) => { 2 <= parts.len() && self.are_disjuncts(parts) }
+            OwnedShape::Min(count, _, _) => 2 <= *count && *count <= 101,
+            OwnedShape::Max(count, _, _) => 1 <= *count && *count <= 100,
             _ => true,
         }
     }
@@ -157,7 +157,7 @@ impl Refutation {
     {
         match self.kept(concept) {
             None => false,
-            Some(KeptShape::Top) | Some(KeptShape::Bottom) | Some(KeptShape::And(_)) => false,
+            Some(OwnedShape::Top) | Some(OwnedShape::Bottom) | Some(OwnedShape::And(_)) => false,
             Some(_) => true,
         }
     }
@@ -168,13 +168,13 @@ impl Refutation {
     {
         match self.kept(concept) {
             None => false,
-            Some(KeptShape::Top) | Some(KeptShape::Bottom) | Some(KeptShape::Or(_)) => false,
+            Some(OwnedShape::Top) | Some(OwnedShape::Bottom) | Some(OwnedShape::Or(_)) => false,
             Some(_) => true,
         }
     }
 
     // The shape of the number, if there is one.
-    fn kept(&self, concept: u32) -> Option<&KeptShape>
+    fn kept(&self, concept: u32) -> Option<&OwnedShape>
         ensures { IsKeptAt self.now.shapes concept result }
     {
         if concept == 0 {
@@ -194,11 +194,11 @@ impl Refutation {
     }
 
     /// Gives the shape the next number, or changes nothing.
-    pub(crate) fn put_shape(&mut self, shape: KeptShape) -> Result<(), NoMemory>
+    pub(crate) fn put_shape(&mut self, shape: OwnedShape) -> Result<(), NoMemory>
         requires room { length self.old.shapes + 1 < 2 ^ 32 }
-        requires admitted { IsTrue (admits self.old.shapes (form_of_kept shape)) }
+        requires admitted { IsTrue (admits self.old.shapes (form_of_owned shape)) }
         requires lines { self.old.lines ≡ [] }
-        ensures put { OnOk result (self.new ≡ record self.old { shapes = self.old.shapes ++ form_of_kept shape ∷ [] }) }
+        ensures put { OnOk result (self.new ≡ record self.old { shapes = self.old.shapes ++ form_of_owned shape ∷ [] }) }
         ensures unchanged { OnErr result (self.new ≡ self.old) }
     {
         self.shapes.insert(shape)?;

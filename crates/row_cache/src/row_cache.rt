@@ -3,7 +3,7 @@ ghost use Rattle.std.specs.Prelude.{◌≡◌, ◌<◌, [], IsTrue, IfOk, OnOk, 
 ghost use Rattle.shape_specs.specs.Normal.{negated_form};
 ghost use Rattle.shape_specs.specs.Shape.{IsTable, has_parts_below, is_normal};
 ghost use Rattle.shape_specs.specs.Tree.{tree_over, trees_of, tree_of};
-ghost use Rattle.shq_nnf.specs.Kept.{form_of};
+ghost use Rattle.shq_nnf.specs.Shapes.{form_of};
 ghost use Rattle.shq_nnf.specs.Numbers.{Extends, IsNumber};
 ghost use Rattle.axiom_sets.specs.Sets.{member_list};
 ghost use Rattle.row_cache.specs.Rows.{AreInLimit, row_for, IsRow, range_for, IsRange};

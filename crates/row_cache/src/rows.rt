@@ -7,7 +7,7 @@ ghost use Rattle.shape_specs.specs.Rows.Part.{inclusion};
 ghost use Rattle.shape_specs.specs.Shape.{IsTable};
 ghost use Rattle.shape_specs.specs.Tree.{tree_of};
 ghost use Rattle.std.specs.Prelude.{Some as PlainSome};
-ghost use Rattle.shq_nnf.specs.Kept.{form_of};
+ghost use Rattle.shq_nnf.specs.Shapes.{form_of};
 ghost use Rattle.shq_nnf.specs.Numbers.{Extends, IsNumber, AreNumbers};
 ghost use Rattle.axiom_sets.specs.Sets.{member_list};
 ghost use Rattle.refutation_truth.specs.Theory.{theory_of, parts_at};

@@ -3,12 +3,12 @@ use Rattle.std.proofs.Common.{◌≡◌, ◌&&◌, true, eqb, eq-eqb, refl, ap}
 use Rattle.std.proofs.lemmas.Bool.{eqb-true, and_parts, and_from}
 use Rattle.std.proofs.lemmas.Slice.Eq.{bytes_eq-Decides}
 use Rattle.shape_specs.specs.Shape.Shape.{name, not_name, intersection, union}
-use Rattle.shq_nnf.specs.declared.shapes.KeptShape.{KeptShape}
-use Rattle.shq_nnf.specs.declared.shapes.KeptShape.TheVariants.{Top, Bottom, Name, NotName, And, Or, SomeOf, AllOf, Min, Max}
-use Rattle.shq_nnf.specs.contracts.shapes.KeptShapePartialEq.TheImpl.{ghosts}
-use Rattle.shq_nnf.specs.Kept.{form_of_kept}
+use Rattle.shq_nnf.specs.declared.shapes.OwnedShape.{OwnedShape}
+use Rattle.shq_nnf.specs.declared.shapes.OwnedShape.TheVariants.{Top, Bottom, Name, NotName, And, Or, SomeOf, AllOf, Min, Max}
+use Rattle.shq_nnf.specs.contracts.shapes.OwnedShapePartialEq.TheImpl.{ghosts}
+use Rattle.shq_nnf.specs.Shapes.{form_of_owned}
 
-pub same_form : (a b : KeptShape) → ghosts.eq a b ≡ true → form_of_kept a ≡ form_of_kept b
+pub same_form : (a b : OwnedShape) → ghosts.eq a b ≡ true → form_of_owned a ≡ form_of_owned b
 same_form Top Top h = refl
 same_form Bottom Bottom h = refl
 same_form (Name x) (Name y) h = ap name (eqb-true x y h)
@@ -29,7 +29,7 @@ same_form (Max n r c) (Max m s d) h =
     let o = eqb-true n m t.0 in let p = eqb-true r s u.0 in let q = eqb-true c d u.1 in cc
 same_form a b h = cc
 
-pub form_same : (a b : KeptShape) → form_of_kept a ≡ form_of_kept b → ghosts.eq a b ≡ true
+pub form_same : (a b : OwnedShape) → form_of_owned a ≡ form_of_owned b → ghosts.eq a b ≡ true
 form_same Top Top e = refl
 form_same Bottom Bottom e = refl
 form_same (Name x) (Name y) e = eq-eqb x y cc

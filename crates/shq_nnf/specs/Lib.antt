@@ -1,4 +1,4 @@
-pub mod Kept
+pub mod Shapes
 pub mod Numbers
 pub mod Counts
 pub mod Opened

@@ -5,10 +5,10 @@ ghost use Rattle.shape_specs.specs.Normal.{negated_form};
 ghost use Rattle.shape_specs.specs.Shape.{shape_of, IsTable};
 ghost use Rattle.shape_specs.specs.Tree.{tree_of};
 ghost use Rattle.shq_nnf.specs.Bounds.{joined_form, quantified_form};
-ghost use Rattle.shq_nnf.specs.Kept.{form_of_kept};
+ghost use Rattle.shq_nnf.specs.Shapes.{form_of_owned};
 ghost use Rattle.shq_nnf.specs.Numbers.{Extends, IsNumber, AreNumbers};
 
-use crate::shapes::{KeptShape, owned};
+use crate::shapes::{OwnedShape, owned};
 use crate::{Concepts, NoMemory};
 
 impl Concepts {
@@ -21,22 +21,22 @@ impl Concepts {
     {
         let shape = self.copied(concept)?;
         match &shape {
-            KeptShape::Top => self.constant(true),
-            KeptShape::Bottom => self.constant(false),
-            KeptShape::Name(class) => self.literal(*class, true),
-            KeptShape::NotName(class) => self.literal(*class, false),
-            KeptShape::And(parts) => self.joined_complement(true, parts, concept),
-            KeptShape::Or(parts) => self.joined_complement(false, parts, concept),
-            KeptShape::SomeOf(role, filler) => self.quantified_complement(true, *role, *filler),
-            KeptShape::AllOf(role, filler) => self.quantified_complement(false, *role, *filler),
-            KeptShape::Min(count, role, filler) => self.at_most(*count - 1, *role, *filler),
-            KeptShape::Max(count, role, filler) => self.at_least(*count + 1, *role, *filler),
+            OwnedShape::Top => self.constant(true),
+            OwnedShape::Bottom => self.constant(false),
+            OwnedShape::Name(class) => self.literal(*class, true),
+            OwnedShape::NotName(class) => self.literal(*class, false),
+            OwnedShape::And(parts) => self.joined_complement(true, parts, concept),
+            OwnedShape::Or(parts) => self.joined_complement(false, parts, concept),
+            OwnedShape::SomeOf(role, filler) => self.quantified_complement(true, *role, *filler),
+            OwnedShape::AllOf(role, filler) => self.quantified_complement(false, *role, *filler),
+            OwnedShape::Min(count, role, filler) => self.at_most(*count - 1, *role, *filler),
+            OwnedShape::Max(count, role, filler) => self.at_least(*count + 1, *role, *filler),
         }
     }
 
-    fn copied(&self, concept: u32) -> Result<KeptShape, NoMemory>
+    fn copied(&self, concept: u32) -> Result<OwnedShape, NoMemory>
         requires { concept < length self.now }
-        ensures shape { IfOk result (λ kept. form_of_kept kept ≡ shape_of self.now concept) }
+        ensures shape { IfOk result (λ kept. form_of_owned kept ≡ shape_of self.now concept) }
         ensures table { IsTable self.now }
     {
         owned(self.alloc, self.shape(concept))

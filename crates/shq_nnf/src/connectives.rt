@@ -4,7 +4,7 @@ ghost use Rattle.std.specs.List.{list_all, list_any};
 ghost use Rattle.shape_specs.specs.Shape.{shape_of, has_parts_below, is_normal};
 ghost use Rattle.shape_specs.specs.Normal.{and_of, or_of};
 ghost use Rattle.shape_specs.specs.Tree.{tree_over, trees_of, tree_of};
-ghost use Rattle.shq_nnf.specs.Kept.{form_of};
+ghost use Rattle.shq_nnf.specs.Shapes.{form_of};
 ghost use Rattle.shq_nnf.specs.Numbers.{Extends, IsNumber};
 ghost use Rattle.shq_nnf.specs.Bounds.{joined_form};
 ghost use Rattle.shq_nnf.specs.Opened.{is_top_shape, is_bottom_shape, conjunct_numbers_of, disjunct_numbers_of, conjunct_numbers, disjunct_numbers, is_open_conjunct, is_open_disjunct, open_intersection, open_union};

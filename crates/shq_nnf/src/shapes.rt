@@ -1,6 +1,6 @@
 // The shapes by which a table shows and keeps its concepts.
 ghost use Rattle.std.specs.Prelude.{◌≡◌, IfOk};
-ghost use Rattle.shq_nnf.specs.Kept.{form_of, form_of_kept};
+ghost use Rattle.shq_nnf.specs.Shapes.{form_of, form_of_owned};
 
 use crate::NoMemory;
 use std::alloc::Global;
@@ -25,7 +25,7 @@ pub enum Shape<'a> {
 
 /// A shape that owns the numbers of its parts.
 #[derive(Debug, PartialEq, Eq, Hash, Drop)]
-pub enum KeptShape {
+pub enum OwnedShape {
     Top,
     Bottom,
     Name(u32),
@@ -38,41 +38,41 @@ pub enum KeptShape {
     Max(u32, u32, u32),
 }
 
-impl KeptShape {
+impl OwnedShape {
     /// The shape that is kept.
     pub fn shape(&self) -> Shape<'_>
-        ensures { form_of result ≡ form_of_kept self.now }
+        ensures { form_of result ≡ form_of_owned self.now }
     {
         match self {
-            KeptShape::Top => Shape::Top,
-            KeptShape::Bottom => Shape::Bottom,
-            KeptShape::Name(class) => Shape::Name(*class),
-            KeptShape::NotName(class) => Shape::NotName(*class),
-            KeptShape::And(parts) => Shape::And(parts),
-            KeptShape::Or(parts) => Shape::Or(parts),
-            KeptShape::SomeOf(role, filler) => Shape::SomeOf(*role, *filler),
-            KeptShape::AllOf(role, filler) => Shape::AllOf(*role, *filler),
-            KeptShape::Min(count, role, filler) => Shape::Min(*count, *role, *filler),
-            KeptShape::Max(count, role, filler) => Shape::Max(*count, *role, *filler),
+            OwnedShape::Top => Shape::Top,
+            OwnedShape::Bottom => Shape::Bottom,
+            OwnedShape::Name(class) => Shape::Name(*class),
+            OwnedShape::NotName(class) => Shape::NotName(*class),
+            OwnedShape::And(parts) => Shape::And(parts),
+            OwnedShape::Or(parts) => Shape::Or(parts),
+            OwnedShape::SomeOf(role, filler) => Shape::SomeOf(*role, *filler),
+            OwnedShape::AllOf(role, filler) => Shape::AllOf(*role, *filler),
+            OwnedShape::Min(count, role, filler) => Shape::Min(*count, *role, *filler),
+            OwnedShape::Max(count, role, filler) => Shape::Max(*count, *role, *filler),
         }
     }
 }
 
 /// The shape with parts of its own.
-pub(crate) fn owned(alloc: Global, shape: Shape<'_>) -> Result<KeptShape, NoMemory>
-    ensures { IfOk result (λ kept. form_of_kept kept ≡ form_of shape.entry) }
+pub(crate) fn owned(alloc: Global, shape: Shape<'_>) -> Result<OwnedShape, NoMemory>
+    ensures { IfOk result (λ kept. form_of_owned kept ≡ form_of shape.entry) }
 {
     Ok(match shape {
-        Shape::Top => KeptShape::Top,
-        Shape::Bottom => KeptShape::Bottom,
-        Shape::Name(class) => KeptShape::Name(class),
-        Shape::NotName(class) => KeptShape::NotName(class),
-        Shape::And(parts) => KeptShape::And(copied(alloc, parts)?),
-        Shape::Or(parts) => KeptShape::Or(copied(alloc, parts)?),
-        Shape::SomeOf(role, filler) => KeptShape::SomeOf(role, filler),
-        Shape::AllOf(role, filler) => KeptShape::AllOf(role, filler),
-        Shape::Min(count, role, filler) => KeptShape::Min(count, role, filler),
-        Shape::Max(count, role, filler) => KeptShape::Max(count, role, filler),
+        Shape::Top => OwnedShape::Top,
+        Shape::Bottom => OwnedShape::Bottom,
+        Shape::Name(class) => OwnedShape::Name(class),
+        Shape::NotName(class) => OwnedShape::NotName(class),
+        Shape::And(parts) => OwnedShape::And(copied(alloc, parts)?),
+        Shape::Or(parts) => OwnedShape::Or(copied(alloc, parts)?),
+        Shape::SomeOf(role, filler) => OwnedShape::SomeOf(role, filler),
+        Shape::AllOf(role, filler) => OwnedShape::AllOf(role, filler),
+        Shape::Min(count, role, filler) => OwnedShape::Min(count, role, filler),
+        Shape::Max(count, role, filler) => OwnedShape::Max(count, role, filler),
     })
 }
 

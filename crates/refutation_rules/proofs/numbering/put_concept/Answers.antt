@@ -1,6 +1,6 @@
 use Rattle.std.proofs.Common.{◌∙◌}
 use Rattle.std.proofs.lemmas.Result.{IfOk-weaker}
-use Rattle.shq_nnf.specs.Kept.{form_of}
+use Rattle.shq_nnf.specs.Shapes.{form_of}
 use Rattle.refutation_rules.proofs.Renumbered.{next_parts, next_normal, next_tree}
 use Rattle.refutation_rules.proofs.numbering.put_concept.Goals as goal
 

@@ -1,4 +1,4 @@
-use Rattle.shq_nnf.specs.Kept.{form_of}
+use Rattle.shq_nnf.specs.Shapes.{form_of}
 use Rattle.shq_nnf.proofs.Numbers.{put_number, extends_put}
 use Rattle.refutation_rules.proofs.table.put_shape.Goals as goal
 

@@ -1,4 +1,4 @@
-use Rattle.shq_nnf.specs.Kept.{form_of}
+use Rattle.shq_nnf.specs.Shapes.{form_of}
 use Rattle.shq_nnf.proofs.Numbers.{put_number, extends_put}
 use Rattle.row_cache.proofs.Kept.{table_stays}
 use Rattle.row_cache.proofs.row_cache.RowCache.put.Goals as goal

@@ -1,8 +1,0 @@
-use Rattle.std.proofs.Common.{◌≡◌, take}
-use Rattle.std.specs.List.{list_any}
-use Rattle.shape_specs.specs.Shape.{shape_of}
-use Rattle.shq_nnf.specs.Opened.{is_top_shape}
-use Rattle.shq_nnf.proofs.table.Concepts.any_top.Given as goal
-
-abbrev pub invariant-loop-member : goal.invariant-loop-member
-invariant-loop-member l = l.found ≡ list_any (λ c. is_top_shape (shape_of l.self c)) (take l.member-index l.members)
