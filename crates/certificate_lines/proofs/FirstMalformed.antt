@@ -1,5 +1,5 @@
 -- The first malformed line: of blank lines, of a body, and of a text with a first line of its own.
-use Rattle.std.proofs.Common.{◌≡◌, ℕ, suc, ◌+◌, ◌<◌, ◌≤◌, Bool, true, false, ◌&&◌, List, [], ◌∷◌, ◌++◌, length, take, Option, Some, None, option_map, refl, ap, sym, ◌∙◌, arith}
+use Rattle.std.proofs.Common.{◌≡◌, ℕ, suc, ◌+◌, Bool, true, false, ◌&&◌, List, [], ◌∷◌, ◌++◌, take, Option, Some, None, option_map, refl, ap, sym, ◌∙◌, arith}
 use Rattle.std.specs.Prelude.{option_and_then, if◌then◌else◌}
 use Rattle.std.specs.List.{list_all}
 use Rattle.certificate_lines.specs.Lines.{is_blank}
@@ -15,15 +15,15 @@ told_none n m is = let same : n ≡ m = cc is in omega (arith, same)
 
 module _ {K : Type 0} (reading : List (List ℕ) → Option K) (some : BeginsText reading []) where
   -- a line is wanted
-  stops_at_end : reading [] ≡ None → StopsAfter reading [] 0
+  pub stops_at_end : reading [] ≡ None → StopsAfter reading [] 0
   stops_at_end none = record { no_text = none; within = omega arith; begins = some; stops = λ less found. absurd (omega arith) }
 
   -- no text begins with the line
-  stops_here : (l : List ℕ) (ls : List (List ℕ)) → ((rest : List (List ℕ)) → reading (l ∷ rest) ≡ None) → StopsAfter reading (l ∷ ls) 0
+  pub stops_here : (l : List ℕ) (ls : List (List ℕ)) → ((rest : List (List ℕ)) → reading (l ∷ rest) ≡ None) → StopsAfter reading (l ∷ ls) 0
   stops_here l ls bad = record { no_text = bad ls; within = omega arith; begins = some; stops = λ less found. no_text_found _ found.1 (bad found.0) found.2 }
 
 -- after the line another reading goes on
-stops_later : {K : Type 0} (reading later : List (List ℕ) → Option K) (l : List ℕ) (ls : List (List ℕ)) (k : ℕ) → ((rest : List (List ℕ)) → reading (l ∷ rest) ≡ later rest) → StopsAfter later ls k → StopsAfter reading (l ∷ ls) (suc k)
+pub stops_later : {K : Type 0} (reading later : List (List ℕ) → Option K) (l : List ℕ) (ls : List (List ℕ)) (k : ℕ) → ((rest : List (List ℕ)) → reading (l ∷ rest) ≡ later rest) → StopsAfter later ls k → StopsAfter reading (l ∷ ls) (suc k)
 stops_later reading later l ls k good first = record {
   no_text = good ls ∙ first.no_text;
   within = omega (arith, first.within);
@@ -152,7 +152,7 @@ module _ {J K : Type 0} (make : J → K) where
     begins_unmade : (front : List (List ℕ)) → BeginsText (λ ls. option_map make (reading ls)) front → BeginsText reading front
     begins_unmade front some = let j = unmade (reading (front ++ some.0)) some.1 some.2 in (some.0, j.0, j.1)
 
-    made_stops : (ls : List (List ℕ)) (k : ℕ) → StopsAfter reading ls k → StopsAfter (λ l. option_map make (reading l)) ls k
+    pub made_stops : (ls : List (List ℕ)) (k : ℕ) → StopsAfter reading ls k → StopsAfter (λ l. option_map make (reading l)) ls k
     made_stops ls k first = record {
       no_text = made_none (reading ls) first.no_text;
       within = first.within;

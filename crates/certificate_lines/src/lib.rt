@@ -17,7 +17,7 @@ ghost use Rattle.certificate_lines.specs.Lines.{lines, is_space, is_blank, words
 mod fault;
 mod laws;
 
-pub use fault::{LineFault, first_unblank, clamped_line};
+pub use fault::{LineFault, clamped_line, first_unblank};
 pub use laws::{
     iris_are_read_back, lines_are_read_back, numbers_are_read_back, words_are_read_back,
 };

@@ -1,5 +1,5 @@
 -- What is put into an interpretation leaves its elements in the domain.
-use Rattle.std.proofs.Common.{◌≡◌, ℕ, ◌<◌, Bool, true, ◌&&◌, List, [], ◌∷◌, ◌^◌, refl, ap, arith}
+use Rattle.std.proofs.Common.{◌≡◌, ℕ, ◌<◌, Bool, true, ◌&&◌, List, [], ◌∷◌, ◌^◌, refl, arith}
 use Rattle.std.specs.Prelude.{nat_lt, IsTrue}
 use Rattle.std.specs.List.{list_all}
 use Rattle.std.specs.List.Sorted.{IsStrictlySortedBy}
@@ -12,7 +12,7 @@ use Rattle.std.proofs.lemmas.Bool.Decides.{nat_tests}
 use Rattle.shq_terms.specs.Listed.{Listed}
 use Rattle.finite_model.specs.Written.{uses_listed_names}
 use Rattle.finite_model.specs.ReadBack.{IsKept}
-use Rattle.finite_model.specs.ModelLists.{ModelLists, IsDomain, member_cmp, link_cmp, tuple_cmp, members_below, links_below}
+use Rattle.finite_model.specs.ModelLists.{ModelLists, IsDomain, member_cmp, link_cmp, tuple_cmp}
 
 module _ {T : Type 0} (cmp : T → T → Ordering) (p : T → Bool) where
   all_inserted : (ts : List T) (u : T) → list_all p ts ≡ true → p u ≡ true → list_all p (insert_key cmp ts u) ≡ true

@@ -7,7 +7,7 @@ ghost use Rattle.finite_model.specs.Malformed.{malformed_model_line, malformed_i
 ghost use Rattle.finite_model.specs.BodyRead.{body_of, class_of, role_of};
 
 use crate::{Interp, ModelFault};
-use certificate_lines::{first_unblank, iri, number, clamped_line, words};
+use certificate_lines::{clamped_line, first_unblank, iri, number, words};
 use shq_terms::Ontology;
 use std::alloc::Global;
 use std::collections::BTreeSet;
@@ -81,7 +81,13 @@ fn read_body(
                 Some(number) => Err(ModelFault::Malformed(clamped_line(number))),
             };
         }
-        read_line(alloc, lines[index], clamped_line(index + 3), ontology, &mut body)?;
+        read_line(
+            alloc,
+            lines[index],
+            clamped_line(index + 3),
+            ontology,
+            &mut body,
+        )?;
     }
     Err(ModelFault::Malformed(clamped_line(lines.len() + 3)))
 }

@@ -1,5 +1,5 @@
 -- Words that are no keyword, and lists too short for what is read of them.
-use Rattle.std.proofs.Common.{◌≡◌, ℕ, zero, suc, ◌<◌, ◌≤◌, ltb, true, false, List, [], ◌∷◌, length, None, refl, sym, subst, arith, inl, inr, lit<}
+use Rattle.std.proofs.Common.{◌≡◌, ℕ, zero, suc, ◌<◌, ltb, true, false, List, [], ◌∷◌, length, None, refl, sym, subst, arith, inl, inr, lit<}
 use Rattle.std.specs.Prelude.{codes}
 use Rattle.std.specs.List.{list_all}
 use Rattle.std.specs.Str.{IsUtf8, IsAscii, bytes_eq}
@@ -7,7 +7,6 @@ use Rattle.std.proofs.lemmas.Bool.{cases_Bool, ltb-true, and_parts}
 use Rattle.std.proofs.lemmas.Str.{IsUtf8-from_ascii}
 use Rattle.std.proofs.lemmas.Slice.Eq.{bytes_eq-Decides}
 use Rattle.shq_terms.specs.Listed.{Listed}
-use Rattle.shape_specs.specs.Rows.{is_ascending}
 use Rattle.refutation_tree.specs.Keywords.{shape_kind, line_kind}
 use Rattle.refutation_tree.specs.RefutationText.{carry_in}
 
@@ -30,12 +29,6 @@ module _ (w : List ℕ) (no_text : ¬ IsUtf8 w) where
   pub no_line_kind : line_kind w ≡ None
   unfolding line_kind
   no_line_kind = rw (other (codes "start") refl, other (codes "and") refl, other (codes "or") refl, other (codes "all") refl, other (codes "carry") refl, other (codes "row") refl, other (codes "range") refl, other (codes "some") refl, other (codes "least") refl, other (codes "choose") refl, other (codes "pair") refl, other (codes "bottom") refl, other (codes "clash") refl, other (codes "most") refl) refl
-
--- one number alone ascends
-pub short_ascends : (ns : List ℕ) → length ns ≤ 1 → is_ascending ns ≡ true
-short_ascends [] short = refl
-short_ascends (n ∷ []) short = refl
-short_ascends (n ∷ m ∷ ms) short = absurd (omega arith)
 
 pub short_carry : (o : Listed) (ws : List (List ℕ)) → length ws < 2 → carry_in o ws ≡ None
 short_carry o [] short = refl
