@@ -1,4 +1,4 @@
--- An item with nothing behind it.
+-- An item with nothing after it.
 use Rattle.std.proofs.Common.{List, [], ◌∷◌, ◌++◌, Result, Ok, Err, sym, subst, append-nil}
 use Rattle.ofn_tree.specs.Items.{Item}
 use Rattle.ofn_expressions.specs.Counts.{Counts}

@@ -1,4 +1,4 @@
--- The tests for simple roles, behind those of the form.
+-- The tests for simple roles, after those of the form.
 use Rattle.std.proofs.Common.{◌≡◌, ◌≢◌, ℕ, Bool, true, false, not, cond, List, [], ◌∷◌, ◌++◌, Option, Some, None, Result, Ok, Err, refl, ap, sym, ◌∙◌, subst}
 use Rattle.std.specs.Prelude.{IfOk, IfErr, OnOk}
 use Rattle.std.specs.Result.{is_err}
@@ -136,3 +136,11 @@ module _ {X : Type 0} (count : List X → List ℕ) (form : List Test) (firsts :
           let names : left ≡ record { axioms = o.axioms; classes = new.counts.classes; roles = new.counts.roles } = stays ∙ made ∙ (λ i. record { axioms = same_axioms i; classes = new.counts.classes; roles = new.counts.roles }) in
           (new.counts, walk, same_ok (λ y. firsts new.counts ≡ y ∷ []) read (Ok x) is first, same_ok (Q new.counts) read (Ok x) is listed, names)
       by (Err e) walk is stays = tt
+
+-- the least line on which a role is counted that is not simple is refused, if there is one
+pub line_judged : {X : Type 0} (axioms : List Numbered) (s : Counts) (line : Option ℕ) (r : Result X Refusal) → line ≡ first_not_simple (all_role_axioms axioms) axioms → OnOk r (line ≡ None) → IfErr r (λ e. option_map NotSimple line ≡ Some e) → Judged r s (all_simple_tests axioms) s
+line_judged axioms s line (Ok x) same passed refused = simple_judged (all_role_axioms axioms) axioms s line same ∙ ap (line_verdict s) passed
+line_judged axioms s None (Err e) same passed refused = let clash : ◌≡◌ {A = Option Refusal} None (Some e) = refused in absurd (cc clash)
+line_judged axioms s (Some n) (Err e) same passed refused = λ known.
+    let is : NotSimple n ≡ e = cc refused in
+    simple_judged (all_role_axioms axioms) axioms s (Some n) same ∙ ap Err is

@@ -35,9 +35,11 @@ axiom_fits K.Transitive n = nat_eq n 1
 abbrev pub pair_count : ℕ → ℕ
 pair_count n = n * (n - 1) / 2
 
--- How many parts an axiom with n items has, each of which says that one class is in another, or where the role of an edge
--- leads. Equivalent classes are each in the next, and the last in the first; disjoint classes are each in the complement of
--- each later one; and a disjoint union has besides one part for each side of the equation, one for each of its classes.
+-- How many parts an axiom will have, told by its kind and the number of its items, before they are read. The parts of an
+-- axiom are the inclusions and ranges of which a search makes rows; a law of a crate above says that an axiom that is made
+-- of so many items has exactly so many. Equivalent classes are each in the next, and the last in the first; disjoint classes
+-- are each in the complement of each later one; of a disjoint union, its first class is in the union of the others, each of
+-- them is in the first, and they are disjoint.
 abbrev pub parts_by_item_count : AxiomKind → ℕ → ℕ
 parts_by_item_count K.SubClassOf n = 1
 parts_by_item_count K.EquivalentClasses n = n
@@ -80,7 +82,7 @@ head_tests k line n = numbered line ∷ shape line (axiom_fits k n) ∷ parts li
 abbrev pub numbered_tests : List Prefix → AxiomKind → ℕ → Items → List Test
 numbered_tests ps k line is = head_tests k line (item_count is) ++ operand_tests ps k is
 
--- a group by its keyword, with its items behind the annotations in front of them
+-- a group by its keyword, with its items after the annotations in front of them
 abbrev pub axiom_group_tests : List Prefix → AxiomKeyword → ℕ → Items → List Test
 axiom_group_tests ps (W.Numbered k) line is = numbered_tests ps k line is
 axiom_group_tests ps W.Declaration line is = declaration_tests ps line is

@@ -35,7 +35,7 @@ behind_prefixes is = drop (prefix_len is_prefix_group is) is
 abbrev pub document_prefixes : List Prefix → List Item → List Prefix
 document_prefixes ps is = prefixes_behind ps (prefix_groups is)
 
--- behind them stands one group `Ontology`; nothing is read behind it
+-- after them stands one group `Ontology`; nothing is read after it
 abbrev pub ontology_tests : List Prefix → ℕ → List Item → List Test
 ontology_tests ps end [] = shape end false ∷ []
 ontology_tests ps end (i ∷ is) = shape (item_line i) (is_group (codes "Ontology") i) ∷ axioms_tests ps (axiom_items (inner_items i))
@@ -61,9 +61,17 @@ simple_tests roles (n ∷ ns) = simple n.line (counts_simple roles n) ∷ simple
 abbrev pub all_simple_tests : List Numbered → List Test
 all_simple_tests axioms = simple_tests (all_role_axioms axioms) axioms
 
--- the tests of a document: those in the order of its text, and behind them those for simple roles
+-- the tests of a document: those in the order of its text, and after them those for simple roles
 abbrev pub document_tests : List Prefix → ℕ → List Item → List Test
 document_tests ps end is = form_tests ps end is ++ all_simple_tests (document_axioms ps (after_all start (form_tests ps end is)) is)
+
+-- these tests of the items hold, and the items say an ontology and what a query takes over
+abbrev pub DocumentIsRead : List Test → List Item → Listed → DocumentContext → Type 0
+DocumentIsRead tests is o kept =
+    (behind : Counts)
+    × (walked start tests ≡ Ok behind)
+    × (o ≡ record { axioms = document_axioms predeclared behind is; classes = behind.classes; roles = behind.roles })
+    × (kept ≡ record { prefixes = document_prefixes predeclared is; nodes = behind.nodes })
 
 -- The text up to the end is a document, no test of which fails. It lists the axioms and names of o. A query on it takes over
 -- its prefixes, and the count of the nodes of its expressions.

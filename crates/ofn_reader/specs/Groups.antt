@@ -26,7 +26,7 @@ inner_items (sign_item k line) = no_items
 abbrev pub is_annotation : Item → Bool
 is_annotation i = is_group (codes "Annotation") i
 
--- the items behind the annotations in front of them
+-- the items after the annotations in front of them
 abbrev pub without_annotations : Items → Items
 without_annotations no_items = no_items
 without_annotations (item i is) = cond (is_annotation i) (without_annotations is) (item i is)
@@ -38,11 +38,11 @@ is_iri_or_name (literal_item line) = false
 is_iri_or_name (sign_item k line) = false
 is_iri_or_name (group_item h is line) = false
 
--- the items behind an IRI or a name, if one stands in front
+-- the items after an IRI or a name, if one stands in front
 abbrev pub behind_name : Items → Items
 behind_name no_items = no_items
 behind_name (item i is) = cond (is_iri_or_name i) is (item i is)
 
--- The axioms of an ontology: the items of its group behind its IRI and its version, which are not looked at.
+-- The axioms of an ontology: the items of its group after its IRI and its version, which are not looked at.
 abbrev pub axiom_items : Items → Items
 axiom_items is = behind_name (behind_name is)

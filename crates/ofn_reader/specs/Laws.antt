@@ -19,14 +19,14 @@ DocumentsAreUnique =
 abbrev pub DocumentsAreNotRefused : Type 0
 DocumentsAreNotRefused = (text : List ℕ) (o : Listed) (k : DocumentContext) (d : ℕ) (e : Refusal) → IsDocument text o k d → IsNoDocument text e → ⊥
 
--- the counts behind a query, and its two expressions
+-- the counts after a query, and its two expressions
 abbrev pub QueriesAreUnique : Type 0
 QueriesAreUnique = (ps : List Prefix) (axioms : List Numbered) (s : Counts) (text : List ℕ) (a b : Counts) (p q : Query) → IsQuery ps axioms s text a p → IsQuery ps axioms s text b q → (a ≡ b) × (p ≡ q)
 
 abbrev pub QueriesAreNotRefused : Type 0
 QueriesAreNotRefused = (ps : List Prefix) (axioms : List Numbered) (s : Counts) (text : List ℕ) (a : Counts) (q : Query) (e : Refusal) → IsQuery ps axioms s text a q → IsNoQuery ps axioms s text e → ⊥
 
--- the counts behind a class expression, and the expression
+-- the counts after a class expression, and the expression
 abbrev pub ClassesAreUnique : Type 0
 ClassesAreUnique = (ps : List Prefix) (axioms : List Numbered) (s : Counts) (text : List ℕ) (a b : Counts) (c d : Concept) → IsClass ps axioms s text a c → IsClass ps axioms s text b d → (a ≡ b) × (c ≡ d)
 

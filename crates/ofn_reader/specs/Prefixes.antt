@@ -76,7 +76,7 @@ abbrev pub with_prefix_items : List Prefix → Items → List Prefix
 with_prefix_items ps (item n (item e (item i is))) = with_entry ps n i
 with_prefix_items ps _ = ps
 
--- the prefixes behind a declaration
+-- the prefixes after a declaration
 abbrev pub with_prefix : List Prefix → Item → List Prefix
 with_prefix ps i = with_prefix_items ps (inner_items i)
 

@@ -16,6 +16,7 @@ use Rattle.ofn_expressions.specs.declared.refusal.Refusal.{Refusal}
 use Rattle.ofn_expressions.specs.declared.refusal.Refusal.TheVariants.{BadShape, NotSimple, Limit, NoMemory}
 use Rattle.ofn_expressions.specs.declared.refusal.Which.TheVariants as which
 use Rattle.ofn_reader.specs.Keywords.{axiom_keyword}
+use Rattle.ofn_reader.specs.DocumentContext.{DocumentContext}
 use Rattle.ofn_reader.specs.Groups.{without_annotations}
 use Rattle.ofn_reader.specs.Texts.{HasItems, IsRefusedBy}
 use Rattle.ofn_reader.specs.declared.keywords.AxiomKind.TheVariants as K
@@ -92,7 +93,7 @@ counted_in_first (c ∷ cs) = counted_roles c
 abbrev pub roles_test : List Numbered → ℕ → List ℕ → List Test
 roles_test axioms line rs = simple line (are_simple (all_role_axioms axioms) rs) ∷ []
 
--- the tests of a query on a document with these prefixes, axioms and counts: those in the order of its text, and behind
+-- the tests of a query on a document with these prefixes, axioms and counts: those in the order of its text, and after
 -- them that the roles which it counts are simple
 abbrev pub query_tests : List Prefix → List Numbered → Counts → ℕ → List Item → List Test
 query_tests ps axioms s end is =
@@ -107,7 +108,7 @@ class_query_tests ps axioms s end is =
 abbrev pub query_start : Listed → ℕ → Counts
 query_start o nodes = record { axioms = length o.axioms; parts = 0; nodes = nodes; classes = o.classes; roles = o.roles }
 
--- the text is a query on a document with these prefixes, axioms and counts, no test of which fails; behind it are those
+-- the text is a query on a document with these prefixes, axioms and counts, no test of which fails; after it are those
 pub record IsQuery (ps : List Prefix) (axioms : List Numbered) (s : Counts) (text : List ℕ) (behind : Counts) (q : Query) : Type 0 where
   pub short : length text ≤ 2 ^ 24
   pub items : List Item
@@ -137,7 +138,7 @@ IsNoQuery ps axioms s text e = IsRefused (query_tests ps axioms s (end_line text
 abbrev pub IsNoClass : List Prefix → List Numbered → Counts → List ℕ → Refusal → Type 0
 IsNoClass ps axioms s text e = IsRefused (class_query_tests ps axioms s (end_line text)) s text e
 
--- what was read, unless something stands behind it
+-- what was read, unless something stands after it
 abbrev pub read_alone : {X : Type 0} → List Item → Result X Refusal → Result X Refusal
 read_alone [] r = r
 read_alone (i ∷ is) (Ok x) = Err (BadShape (item_line i))
@@ -159,3 +160,36 @@ MeansQuery ps s i q = (later : Counts) → Keeps s later → (query_in ps later 
 -- the names of both expressions are listed
 abbrev pub AreBothListed : Counts → Query → Type 0
 AreBothListed s q = IsListed s q.sub × IsListed s q.sup
+
+-- what the tests of a query on a document with these names and axioms say, whose expressions have so many nodes
+abbrev pub query_walk : List Prefix → ℕ → Listed → ℕ → List Item → Result Counts Refusal
+query_walk ps nodes o end is = walked (query_start o nodes) (query_tests ps o.axioms (query_start o nodes) end is)
+
+abbrev pub class_walk : List Prefix → ℕ → Listed → ℕ → List Item → Result Counts Refusal
+class_walk ps nodes o end is = walked (query_start o nodes) (class_query_tests ps o.axioms (query_start o nodes) end is)
+
+-- the items are a query, whose names are listed last
+abbrev pub QueryIsRead : List Prefix → ℕ → Listed → ℕ → List Item → Listed → Query → Type 0
+QueryIsRead ps nodes old end is new q =
+    (behind : Counts) × (query_walk ps nodes old end is ≡ Ok behind) × (first_query ps behind is ≡ q ∷ []) × AreBothListed behind q × (new ≡ record old { classes = behind.classes; roles = behind.roles })
+
+abbrev pub ClassIsRead : List Prefix → ℕ → Listed → ℕ → List Item → Listed → Concept → Type 0
+ClassIsRead ps nodes old end is new c =
+    (behind : Counts) × (class_walk ps nodes old end is ≡ Ok behind) × (first_class ps behind is ≡ c ∷ []) × IsListed behind c × (new ≡ record old { classes = behind.classes; roles = behind.roles })
+
+-- The text is a query on a document, with the names and axioms of the old ontology. Its names are listed in the new one,
+-- which else is the old one.
+abbrev pub IsQueryOn : DocumentContext → Listed → List ℕ → Listed → Query → Type 0
+IsQueryOn kept old text new q =
+    (behind : Counts) × IsQuery kept.prefixes old.axioms (query_start old kept.nodes) text behind q × AreBothListed behind q × (new ≡ record old { classes = behind.classes; roles = behind.roles })
+
+abbrev pub IsNoQueryOn : DocumentContext → Listed → List ℕ → Refusal → Type 0
+IsNoQueryOn kept old text e = IsNoQuery kept.prefixes old.axioms (query_start old kept.nodes) text e
+
+-- the same for a class expression
+abbrev pub IsClassOn : DocumentContext → Listed → List ℕ → Listed → Concept → Type 0
+IsClassOn kept old text new c =
+    (behind : Counts) × IsClass kept.prefixes old.axioms (query_start old kept.nodes) text behind c × IsListed behind c × (new ≡ record old { classes = behind.classes; roles = behind.roles })
+
+abbrev pub IsNoClassOn : DocumentContext → Listed → List ℕ → Refusal → Type 0
+IsNoClassOn kept old text e = IsNoClass kept.prefixes old.axioms (query_start old kept.nodes) text e

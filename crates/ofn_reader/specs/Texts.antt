@@ -22,7 +22,7 @@ fault_or_else None other = other
 abbrev pub text_fault : List ℕ → Option TextFault
 text_fault text = fault_or_else (token_fault text) (tree_fault (end_line text) (reading text))
 
--- the items of a text without a fault, and the place behind the last byte that was read
+-- the items of a text without a fault, and the place after the last byte that was read
 pub record HasItems (text : List ℕ) (items : List Item) (end : ℕ) : Type 0 where
   pub tokens : DocumentTokens
   pub cut : reading text ≡ Some tokens

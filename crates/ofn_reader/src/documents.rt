@@ -1,10 +1,10 @@
 // Documents.
-ghost use Rattle.std.specs.Prelude.{◌≡◌, ◌≢◌, ◌≤◌, ◌++◌, IfOk, IfErr, OnOk, length, Ok, Err};
+ghost use Rattle.std.specs.Prelude.{◌≡◌, ◌≢◌, ◌≤◌, ◌++◌, IfOk, IfErr, OnOk, length, Ok, Err, Some, None, option_map};
 ghost use Rattle.std.specs.List.{prefix_len};
 ghost use Rattle.ofn_expressions.specs.Counts.{Counts};
 ghost use Rattle.ofn_expressions.specs.Walk.{Judged, walked};
 ghost use Rattle.ofn_expressions.specs.Names.{predeclared};
-ghost use Rattle.ofn_reader.specs.Documents.{start, is_prefix_group, ontology_tests, ontology_axioms, form_tests, all_simple_tests, document_tests, document_axioms, document_prefixes, IsDocument, IsNoDocument};
+ghost use Rattle.ofn_reader.specs.Documents.{start, is_prefix_group, ontology_tests, ontology_axioms, form_tests, all_simple_tests, document_tests, document_axioms, document_prefixes, DocumentIsRead, IsDocument, IsNoDocument};
 ghost use Rattle.ofn_expressions.specs.declared.refusal.Refusal.TheVariants.{NoMemory};
 
 use crate::axioms::read_axioms;
@@ -12,9 +12,9 @@ use crate::groups::{axiom_items, inner_items, is_group};
 use crate::prefix_groups::read_prefixes;
 use crate::texts::read_items;
 use ofn_expressions::{MAX_NODES, Prefixes, Reading, Refusal, item_line};
-use ofn_tree::{Tree, end_line};
-use shq_terms::Ontology;
+use ofn_tree::{MAX_BYTES, Tree, end_line};
 use role_box::first_not_simple;
+use shq_terms::Ontology;
 use std::alloc::Global;
 use std::marker::Model;
 
@@ -91,7 +91,7 @@ fn read_ontology_group(
     read_axioms(alloc, axiom_items(inner_items(group)), prefixes, state)
 }
 
-// Reads declarations of prefixes, and behind them the ontology.
+// Reads declarations of prefixes, and after them the ontology.
 fn read_document(
     alloc: Global,
     items: &[Tree<'_>],
@@ -115,7 +115,7 @@ fn read_form(
     items: &[Tree<'_>],
     end_line: u32,
 ) -> Result<(Ontology, Context), Refusal>
-    ensures document { IfOk result (λ r. (behind : Counts) × (walked start (form_tests predeclared end_line items.now) ≡ Ok behind) × (r.0 ≡ record { axioms = document_axioms predeclared behind items.now; classes = behind.classes; roles = behind.roles }) × (r.1 ≡ record { prefixes = document_prefixes predeclared items.now; nodes = behind.nodes })) }
+    ensures document { IfOk result (λ r. DocumentIsRead (form_tests predeclared end_line items.now) items.now r.0 r.1) }
     ensures refused { IfErr result (λ e. e ≢ NoMemory → walked start (form_tests predeclared end_line items.now) ≡ Err e) }
 {
     let mut prefixes = Prefixes::predeclared(alloc)?;
@@ -125,14 +125,23 @@ fn read_form(
     Ok((ontology, Context { prefixes, nodes }))
 }
 
+// Refuses the line on which a role is counted that is not simple, if there is one.
+fn refuse_line(line: Option<u32>) -> Result<(), Refusal>
+    ensures passed { OnOk result (line ≡ None) }
+    ensures refused { IfErr result (λ e. option_map (λ n. Refusal.NotSimple n) line ≡ Some e) }
+{
+    match line {
+        Some(line) => Err(Refusal::NotSimple(line)),
+        None => Ok(()),
+    }
+}
+
 // Tests that the roles which axioms count are simple.
 fn test_roles(alloc: Global, ontology: &Ontology) -> Result<(), Refusal>
     ensures { (s : Counts) → Judged result s (all_simple_tests ontology.now.axioms) s }
 {
-    match first_not_simple(alloc, ontology)? {
-        Some(line) => Err(Refusal::NotSimple(line)),
-        None => Ok(()),
-    }
+    let line = first_not_simple(alloc, ontology)?;
+    refuse_line(line)
 }
 
 #[tactic(auto, using(crate::proofs::Simple::document_refused, crate::proofs::Simple::document_walk))]
@@ -141,7 +150,7 @@ fn read_from_items(
     items: &[Tree<'_>],
     end_line: u32,
 ) -> Result<(Ontology, Context), Refusal>
-    ensures document { IfOk result (λ r. (behind : Counts) × (walked start (document_tests predeclared end_line items.now) ≡ Ok behind) × (r.0 ≡ record { axioms = document_axioms predeclared behind items.now; classes = behind.classes; roles = behind.roles }) × (r.1 ≡ record { prefixes = document_prefixes predeclared items.now; nodes = behind.nodes })) }
+    ensures document { IfOk result (λ r. DocumentIsRead (document_tests predeclared end_line items.now) items.now r.0 r.1) }
     ensures refused { IfErr result (λ e. e ≢ NoMemory → walked start (document_tests predeclared end_line items.now) ≡ Err e) }
 {
     let (ontology, context) = read_form(alloc, items, end_line)?;
@@ -151,16 +160,16 @@ fn read_from_items(
 
 /// Reads the document that the text begins with: declarations of prefixes, and one group `Ontology` of axioms (OWL 2
 /// Structural Specification, sections 3 and 9, in the profile of the description logic SHQ). Gives its ontology, what
-/// queries on it need besides, and the place behind it; the rest of the text is not looked at.
+/// queries on it need besides, and the place after it; the rest of the text is not looked at.
 ///
 /// Each occurrence of a numbered axiom is an axiom of its own. Annotations and declarations have no number.
 ///
 /// # Errors
 ///
-/// The first fault of the text, else what is wrong first in the order of the text, else the least numbered axiom with a
-/// number restriction over a role that is not simple, or with such a functional role; and `NoMemory`.
+/// The first fault of the text, else what is wrong first in the order of the text, else `NotSimple` at the line of the least
+/// numbered axiom with a number restriction over a role that is not simple, or with such a functional role; and `NoMemory`.
 pub fn read_ontology(alloc: Global, text: &[u8]) -> Result<(Ontology, Context, usize), Refusal>
-    requires { length text.now ≤ 4294967293 }
+    requires { length text.now ≤ MAX_BYTES }
     ensures document { IfOk result (λ r. IsDocument text.now r.0 r.1 r.2) }
     ensures within { IfOk result (λ r. r.2 ≤ length text.now) }
     ensures refused { IfErr result (λ e. e ≢ NoMemory → IsNoDocument text.now e) }

@@ -43,7 +43,7 @@ fn annotation_count(items: &[Tree<'_>]) -> usize
     items.iter().take_while(|item| is_annotation(item)).count()
 }
 
-/// The items behind the annotations in front of them.
+/// The items after the annotations in front of them.
 #[tactic(auto, using(crate::proofs::Fronts::without_annotations_is))]
 pub(crate) fn without_annotations<'a, 'b>(items: &'a [Tree<'b>]) -> &'a [Tree<'b>]
     ensures { items_of result.now ≡ without_annotations (items_of items.now) }
@@ -60,7 +60,7 @@ fn is_iri_or_name(tree: &Tree<'_>) -> bool
     }
 }
 
-// The items behind an IRI or a name, if one stands in front.
+// The items after an IRI or a name, if one stands in front.
 fn behind_name<'a, 'b>(items: &'a [Tree<'b>]) -> &'a [Tree<'b>]
     ensures { items_of result.now ≡ behind_name (items_of items.now) }
 {
@@ -70,7 +70,7 @@ fn behind_name<'a, 'b>(items: &'a [Tree<'b>]) -> &'a [Tree<'b>]
     items.split_at(1).1
 }
 
-/// The axioms of an ontology: the items of its group behind its IRI and its version.
+/// The axioms of an ontology: the items of its group after its IRI and its version.
 pub(crate) fn axiom_items<'a, 'b>(items: &'a [Tree<'b>]) -> &'a [Tree<'b>]
     ensures { items_of result.now ≡ axiom_items (items_of items.now) }
 {

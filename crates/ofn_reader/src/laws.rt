@@ -11,7 +11,7 @@ pub fn documents_are_not_refused()
     ensures { DocumentsAreNotRefused }
 {}
 
-/// A text is one query at most, with one list of names behind it.
+/// A text is one query at most, with one list of names after it.
 pub fn queries_are_unique()
     ensures { QueriesAreUnique }
 {}
@@ -21,7 +21,7 @@ pub fn queries_are_not_refused()
     ensures { QueriesAreNotRefused }
 {}
 
-/// A text is one class expression at most, with one list of names behind it.
+/// A text is one class expression at most, with one list of names after it.
 pub fn classes_are_unique()
     ensures { ClassesAreUnique }
 {}

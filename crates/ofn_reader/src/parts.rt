@@ -1,10 +1,11 @@
 // How many items and how many parts a numbered axiom has.
-ghost use Rattle.std.specs.Prelude.{◌≡◌, ◌<◌, ◌≤◌, ◌+◌, ◌∷◌, [], OnOk, length, true, min};
+ghost use Rattle.std.specs.Prelude.{◌≡◌, ◌≢◌, IfErr, ◌<◌, ◌≤◌, ◌+◌, ◌∷◌, [], OnOk, length, true, min};
 ghost use Rattle.ofn_expressions.specs.Walk.{Judged, parts};
 ghost use Rattle.ofn_reader.specs.Axioms.{axiom_fits, pair_count, parts_by_item_count, head_tests};
 
 use crate::keywords::AxiomKind;
 use ofn_expressions::{Reading, Refusal};
+use shq_terms::MAX_AXIOMS;
 
 // More items than may have one part each.
 const MANY: usize = 1_000_000;
@@ -52,6 +53,7 @@ fn parts_by_item_count(kind: AxiomKind, count: u64) -> u64
 fn count_parts(kind: AxiomKind, count: usize, line: u32, state: &mut Reading) -> Result<(), Refusal>
     ensures tests { Judged result state.old.counts (parts line (parts_by_item_count kind count) ∷ []) state.new.counts }
     ensures axioms { OnOk result (state.new.counts.axioms ≡ state.old.counts.axioms) }
+    ensures takes_no_memory { IfErr result (λ e. e ≢ Refusal.NoMemory) }
     ensures read { state.new.read ≡ state.old.read }
 {
     state.count_parts(line, parts_by_item_count(kind, count.min(MANY) as u64))
@@ -71,7 +73,8 @@ pub(crate) fn begin_axiom(
     ensures tests { Judged result state.old.counts (head_tests kind line count) state.new.counts }
     ensures fits { OnOk result (axiom_fits kind count ≡ true) }
     ensures counted { OnOk result (state.new.counts.axioms ≡ state.old.counts.axioms + 1) }
-    ensures within { OnOk result (state.old.counts.axioms < 20000) }
+    ensures within { OnOk result (state.old.counts.axioms < MAX_AXIOMS) }
+    ensures takes_no_memory { IfErr result (λ e. e ≢ Refusal.NoMemory) }
     ensures read { state.new.read ≡ state.old.read }
 {
     state.count_axiom(line)?;

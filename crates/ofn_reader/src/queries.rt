@@ -6,7 +6,7 @@ ghost use Rattle.ofn_expressions.specs.Walk.{Test, Judged, walked};
 ghost use Rattle.ofn_expressions.specs.Classes.{IsListed};
 ghost use Rattle.ofn_expressions.specs.declared.refusal.Refusal.TheVariants.{NoMemory};
 ghost use Rattle.ofn_reader.specs.Texts.{HasItems};
-ghost use Rattle.ofn_reader.specs.Queries.{query_group_tests, axiom_query_tests, query_form_tests, class_form_tests, query_tests, class_query_tests, roles_test, counted_by_first, counted_in_first, first_line, first_query, first_class, query_start, IsQuery, IsNoQuery, IsClass, IsNoClass, IsRefused, read_alone, read_simple, MeansPair, MeansQuery, AreBothListed};
+ghost use Rattle.ofn_reader.specs.Queries.{query_group_tests, axiom_query_tests, query_form_tests, class_form_tests, roles_test, counted_by_first, counted_in_first, first_line, first_query, first_class, query_walk, class_walk, QueryIsRead, ClassIsRead, IsQueryOn, IsNoQueryOn, IsClassOn, IsNoClassOn, IsRefused, read_alone, read_simple, MeansPair, MeansQuery, AreBothListed};
 
 use crate::groups::without_annotations;
 use crate::keywords::{AxiomKeyword, AxiomKind, axiom_keyword};
@@ -15,8 +15,8 @@ use crate::texts::read_items;
 use crate::{Context, Prefixes, Refusal, Which};
 use ofn_expressions::{MAX_NODES, Reading, item_line};
 use ofn_tree::{Form, Tree, end_line};
-use shq_terms::{Concept, Ontology, Query};
 use role_box::{class_is_simple, query_is_simple};
+use shq_terms::{Concept, Ontology, Query};
 use std::alloc::Global;
 use std::mem;
 
@@ -80,13 +80,11 @@ fn read_query_text(alloc: Global, text: &[u8]) -> Result<Vec<Tree<'_>>, Refusal>
     if text.len() > MAX_TEXT {
         return Err(Refusal::Limit(Which::Text, 0));
     }
-    match read_items(alloc, text) {
-        Ok((items, _)) => Ok(items),
-        Err(refusal) => Err(refusal),
-    }
+    let (items, _) = read_items(alloc, text)?;
+    Ok(items)
 }
 
-// What was read, unless something stands behind it.
+// What was read, unless something stands after it.
 fn alone<T: Drop>(read: Result<T, Refusal>, behind: &[Tree<'_>]) -> Result<T, Refusal>
     ensures { result ≡ read_alone behind.now read }
 {
@@ -219,8 +217,8 @@ fn read_query_on(
     ontology: &mut Ontology,
 ) -> Result<Query, Refusal>
     requires { nodes ≤ MAX_NODES }
-    ensures query { IfOk result (λ q. (behind : Counts) × (walked (query_start ontology.old nodes) (query_tests prefixes.now ontology.old.axioms (query_start ontology.old nodes) end_line items.now) ≡ Ok behind) × (first_query prefixes.now behind items.now ≡ q ∷ []) × AreBothListed behind q × (ontology.new ≡ record ontology.old { classes = behind.classes; roles = behind.roles })) }
-    ensures refused { IfErr result (λ e. e ≢ NoMemory → walked (query_start ontology.old nodes) (query_tests prefixes.now ontology.old.axioms (query_start ontology.old nodes) end_line items.now) ≡ Err e) }
+    ensures query { IfOk result (QueryIsRead prefixes.now nodes ontology.old end_line items.now ontology.new) }
+    ensures refused { IfErr result (λ e. e ≢ NoMemory → query_walk prefixes.now nodes ontology.old end_line items.now ≡ Err e) }
     ensures unchanged { OnErr result (ontology.new ≡ ontology.old) }
 {
     let classes = ontology.class_count();
@@ -248,8 +246,8 @@ fn read_class_on(
     ontology: &mut Ontology,
 ) -> Result<Concept, Refusal>
     requires { nodes ≤ MAX_NODES }
-    ensures class { IfOk result (λ c. (behind : Counts) × (walked (query_start ontology.old nodes) (class_query_tests prefixes.now ontology.old.axioms (query_start ontology.old nodes) end_line items.now) ≡ Ok behind) × (first_class prefixes.now behind items.now ≡ c ∷ []) × IsListed behind c × (ontology.new ≡ record ontology.old { classes = behind.classes; roles = behind.roles })) }
-    ensures refused { IfErr result (λ e. e ≢ NoMemory → walked (query_start ontology.old nodes) (class_query_tests prefixes.now ontology.old.axioms (query_start ontology.old nodes) end_line items.now) ≡ Err e) }
+    ensures class { IfOk result (ClassIsRead prefixes.now nodes ontology.old end_line items.now ontology.new) }
+    ensures refused { IfErr result (λ e. e ≢ NoMemory → class_walk prefixes.now nodes ontology.old end_line items.now ≡ Err e) }
     ensures unchanged { OnErr result (ontology.new ≡ ontology.old) }
 {
     let classes = ontology.class_count();
@@ -281,8 +279,8 @@ pub fn read_query(
     ontology: &mut Ontology,
     context: &Context,
 ) -> Result<Query, Refusal>
-    ensures query { IfOk result (λ q. (behind : Counts) × IsQuery context.now.prefixes ontology.old.axioms (query_start ontology.old context.now.nodes) text.now behind q × AreBothListed behind q × (ontology.new ≡ record ontology.old { classes = behind.classes; roles = behind.roles })) }
-    ensures refused { IfErr result (λ e. e ≢ NoMemory → IsNoQuery context.now.prefixes ontology.old.axioms (query_start ontology.old context.now.nodes) text.now e) }
+    ensures query { IfOk result (IsQueryOn context.now ontology.old text.now ontology.new) }
+    ensures refused { IfErr result (λ e. e ≢ NoMemory → IsNoQueryOn context.now ontology.old text.now e) }
     ensures unchanged { OnErr result (ontology.new ≡ ontology.old) }
 {
     let bytes = text.as_bytes();
@@ -311,8 +309,8 @@ pub fn read_class(
     ontology: &mut Ontology,
     context: &Context,
 ) -> Result<Concept, Refusal>
-    ensures class { IfOk result (λ c. (behind : Counts) × IsClass context.now.prefixes ontology.old.axioms (query_start ontology.old context.now.nodes) text.now behind c × IsListed behind c × (ontology.new ≡ record ontology.old { classes = behind.classes; roles = behind.roles })) }
-    ensures refused { IfErr result (λ e. e ≢ NoMemory → IsNoClass context.now.prefixes ontology.old.axioms (query_start ontology.old context.now.nodes) text.now e) }
+    ensures class { IfOk result (IsClassOn context.now ontology.old text.now ontology.new) }
+    ensures refused { IfErr result (λ e. e ≢ NoMemory → IsNoClassOn context.now ontology.old text.now e) }
     ensures unchanged { OnErr result (ontology.new ≡ ontology.old) }
 {
     let bytes = text.as_bytes();

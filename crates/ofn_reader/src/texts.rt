@@ -8,7 +8,7 @@ ghost use Rattle.ofn_reader.specs.Refusals.{refusal_of};
 ghost use Rattle.ofn_reader.specs.Texts.{HasItems, IsRefusedBy};
 
 use ofn_expressions::Refusal;
-use ofn_tree::{TextFault, Tree, end_line, tokens, tree};
+use ofn_tree::{MAX_BYTES, TextFault, Tree, end_line, tokens, tree};
 use std::alloc::Global;
 
 fn refusal_of(fault: TextFault) -> Refusal
@@ -20,13 +20,13 @@ fn refusal_of(fault: TextFault) -> Refusal
     }
 }
 
-/// The items of a text, and the place behind the last byte that was read.
+/// The items of a text, and the place after the last byte that was read.
 ///
 /// # Errors
 ///
 /// The first fault of the text, and `NoMemory`.
 pub(crate) fn read_items(alloc: Global, text: &[u8]) -> Result<(Vec<Tree<'_>>, usize), Refusal>
-    requires { length text.now ≤ 4294967293 }
+    requires { length text.now ≤ MAX_BYTES }
     ensures made { IfOk result (λ r. HasItems text.now r.0.items r.1) }
     ensures within { IfOk result (λ r. r.1 ≤ length text.now) }
     ensures refused { IfErr result (λ e. (tests : List Item → List Test) (s : Counts) → e ≢ NoMemory → IsRefusedBy tests s text.now e) }
