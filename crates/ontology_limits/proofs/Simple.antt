@@ -1,25 +1,24 @@
 -- A role that is simple by all axioms is simple by some of them.
 use Rattle.std.proofs.Common.{◌≡◌, ℕ, zero, suc, ◌+◌, ◌-◌, ◌<◌, ◌≤◌, eqb, Bool, true, ◌⊎◌, List, [], ◌∷◌, length, Option, None, refl, ◌∙◌, sym, subst, arith, inl, inr, eq-eqb}
 use Rattle.std.specs.Prelude.{slice_get}
-use Rattle.std.specs.List.{list_any, list_all}
+use Rattle.std.specs.List.{list_any, list_all, range_with_len}
 use Rattle.std.proofs.lemmas.Bool.{cases_eq, cases_lt, or_cases, or_left, or_right, and_parts, and_from, eqb-true, false≢true}
 use Rattle.std.proofs.lemmas.List.Folds.{list_any-append}
 use Rattle.shq_terms.specs.declared.axioms.Numbered.{Numbered}
 use Rattle.shape_specs.specs.Roles.{IsBelow, itself, by_step}
 use Rattle.role_box.specs.declared.role_axiom.RoleAxiom.{RoleAxiom}
 use Rattle.role_box.specs.RoleAxioms.{role_part_at, role_axioms}
-use Rattle.role_box.specs.Closure.{numbers_from}
 use Rattle.role_box.specs.Steps.{is_among, leads_by, Leads, is_transitive_by}
 use Rattle.role_box.specs.Counted.{counted_by, counted_by_query}
 use Rattle.role_box.specs.Simple.{is_simple, are_simple, counts_simple, all_role_axioms}
 use Rattle.role_box.proofs.Tested.{simple_test}
 use Rattle.ontology_limits.specs.Laws.{SimpleRolesStaySimple, CountsStaySimple, QueryCountsStaySimple}
 
-in_numbers : (first n x : ℕ) → first ≤ x → x < first + n → is_among (numbers_from first n) x ≡ true
+in_numbers : (first n x : ℕ) → first ≤ x → x < first + n → is_among (range_with_len first n) x ≡ true
 in_numbers first zero x le lt = absurd (omega arith)
 in_numbers first (suc n) x le lt = elim (cases_eq first x) [
-  | inl e ↦ or_left (eqb first x) (is_among (numbers_from (first + 1) n) x) (eq-eqb first x e)
-  | inr ne ↦ or_right (eqb first x) (is_among (numbers_from (first + 1) n) x) (in_numbers (first + 1) n x (omega arith) (omega arith))
+  | inl e ↦ or_left (eqb first x) (is_among (range_with_len (first + 1) n) x) (eq-eqb first x e)
+  | inr ne ↦ or_right (eqb first x) (is_among (range_with_len (first + 1) n) x) (in_numbers (first + 1) n x (omega arith) (omega arith))
 ]
 
 got_none : (axioms : List Numbered) (n : ℕ) → length axioms ≤ n → slice_get axioms n ≡ None
@@ -48,7 +47,7 @@ module _ (axioms : List Numbered) (p : RoleAxiom → Bool) where
   at_one k h = elim (cases_lt (k - 1) (length axioms)) [
     | inl lt ↦
         let e : k - 1 ≡ ((k - 1) + 1) - 1 = omega arith in
-        among (numbers_from 1 (length axioms)) ((k - 1) + 1) (in_numbers 1 (length axioms) ((k - 1) + 1) (omega arith) (omega arith)) (subst (λ (n : ℕ). list_any p (role_part_at (slice_get axioms n)) ≡ true) e h)
+        among (range_with_len 1 (length axioms)) ((k - 1) + 1) (in_numbers 1 (length axioms) ((k - 1) + 1) (omega arith) (omega arith)) (subst (λ (n : ℕ). list_any p (role_part_at (slice_get axioms n)) ≡ true) e h)
     | inr past ↦ absurd (false≢true (subst (λ (o : Option Numbered). list_any p (role_part_at o) ≡ true) (got_none axioms (k - 1) past) h))
   ]
 

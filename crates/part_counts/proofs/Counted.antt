@@ -25,7 +25,7 @@ module _ (ps : List Prefix) (s : Counts) where
   as_many no_items = refl
   as_many (item i is) = omega (arith, as_many is)
 
-pairs_counted : (cs : List Concept) (n : ℕ) → length cs ≡ n → pair_count n ≡ length (disjoint_parts cs)
+pub pairs_counted : (cs : List Concept) (n : ℕ) → length cs ≡ n → pair_count n ≡ length (disjoint_parts cs)
 pairs_counted cs n same =
     let total : 2 * length (disjoint_parts cs) ≡ n * (n - 1) = pair_total cs ∙ ap (λ k. k * (k - 1)) same in
     omega (arith, total)

@@ -1,4 +1,3 @@
-pub mod Expressions
-pub mod Axioms
-pub mod Words
-pub mod Texts
+pub mod Names
+pub mod Queries
+pub mod InLimit

@@ -1,29 +1,31 @@
--- What is read is within the limits that a checker of refutations asks for.
-use Rattle.std.specs.Prelude.{ℕ, List, IsTrue}
-use Rattle.shq_base.specs.Concept.{Concept}
+-- What is read is within the limits.
+use Rattle.std.specs.Prelude.{ℕ, List}
+use Rattle.shq_base.specs.Concept.{Concept, bottom}
 use Rattle.shq_terms.specs.Listed.{Listed}
-use Rattle.shq_terms.specs.declared.axioms.Numbered.{Numbered}
 use Rattle.shq_terms.specs.declared.axioms.Query.{Query}
-use Rattle.shq_nnf.specs.Counts.{has_counts_within}
-use Rattle.row_cache.specs.Rows.{AreInLimit}
+use Rattle.ontology_limits.specs.Limits.{IsOntologyInLimit, IsInLimit}
 use Rattle.ofn_expressions.specs.Counts.{Counts}
-use Rattle.ofn_expressions.specs.Names.{Prefix}
 use Rattle.ofn_reader.specs.DocumentContext.{DocumentContext}
 use Rattle.ofn_reader.specs.Documents.{IsDocument}
-use Rattle.ofn_reader.specs.Queries.{IsQuery, IsClass}
+use Rattle.ofn_reader.specs.Queries.{IsQuery, IsClass, query_start}
 
--- the axioms of a document
+-- the ontology of a document
 abbrev pub DocumentsAreInLimit : Type 0
-DocumentsAreInLimit = (text : List ℕ) (o : Listed) (kept : DocumentContext) (end : ℕ) → IsDocument text o kept end → AreInLimit o.axioms
+DocumentsAreInLimit = (text : List ℕ) (o : Listed) (kept : DocumentContext) (end : ℕ) → IsDocument text o kept end → IsOntologyInLimit o
 
--- both class expressions of a query
+-- the ontology with the names that it and a query on it list together
+abbrev pub with_names : Listed → Counts → Listed
+with_names o after = record o { classes = after.classes; roles = after.roles }
+
+-- with the query on the document, which lists the names of both
 abbrev pub QueriesAreInLimit : Type 0
 QueriesAreInLimit =
-    (ps : List Prefix) (axioms : List Numbered) (s : Counts) (text : List ℕ) (behind : Counts) (q : Query) → IsQuery ps axioms s text behind q
-    → IsTrue (has_counts_within 100 q.sub) × IsTrue (has_counts_within 100 q.sup)
+    (text : List ℕ) (o : Listed) (kept : DocumentContext) (end : ℕ) → IsDocument text o kept end
+    → (query : List ℕ) (after : Counts) (q : Query) → IsQuery kept.prefixes o.axioms (query_start o kept.nodes) query after q → IsInLimit (with_names o after) q
 
--- a class expression alone
+-- with a class expression, asked whether it has no element
 abbrev pub ClassesAreInLimit : Type 0
 ClassesAreInLimit =
-    (ps : List Prefix) (axioms : List Numbered) (s : Counts) (text : List ℕ) (behind : Counts) (c : Concept) → IsClass ps axioms s text behind c
-    → IsTrue (has_counts_within 100 c)
+    (text : List ℕ) (o : Listed) (kept : DocumentContext) (end : ℕ) → IsDocument text o kept end
+    → (class : List ℕ) (after : Counts) (c : Concept) → IsClass kept.prefixes o.axioms (query_start o kept.nodes) class after c
+    → IsInLimit (with_names o after) (record { sub = c; sup = bottom })

@@ -1,19 +1,22 @@
-//! What is read is within the limits that a checker of refutations asks for.
+//! What is read without refusal is within the limits of an ontology and a query on it, as later calls ask for them.
+//!
+//! A reader tests each limit where the text meets it: the number of a group's items at its name, a cardinality at its number,
+//! counts as they grow, and simple roles at the end. Here is what these tests say of the values that were read.
 #![tactic(auto)]
 
 ghost use Rattle.read_limits.specs.Laws.{DocumentsAreInLimit, QueriesAreInLimit, ClassesAreInLimit};
 
-/// Each axiom of a document has cardinalities of 100 at most, and 500,000 parts at most.
+/// The ontology of a document (OWL 2 Structural Specification, section 3.7) is within the limits.
 pub fn documents_are_in_limit()
     ensures { DocumentsAreInLimit }
 {}
 
-/// Both class expressions of a query have cardinalities of 100 at most.
+/// So is it with a query on it, where it lists the names of both.
 pub fn queries_are_in_limit()
     ensures { QueriesAreInLimit }
 {}
 
-/// A class expression that is asked about has cardinalities of 100 at most.
+/// So is it with a class expression, as the query whether the class is in `owl:Nothing`.
 pub fn classes_are_in_limit()
     ensures { ClassesAreInLimit }
 {}

@@ -18,9 +18,11 @@ use Rattle.ofn_reader.specs.Groups.{is_group, is_iri_or_name, inner_items, behin
 use Rattle.ofn_reader.specs.Prefixes.{declared_name, is_equals, declared_iri, or_empty, agrees, prefix_items_tests, prefix_tests, prefixes_tests, with_prefix}
 use Rattle.ofn_reader.specs.Axioms.{axioms_tests}
 use Rattle.ofn_reader.specs.Documents.{start, form_tests, all_simple_tests, is_prefix_group, prefix_groups, behind_prefixes, document_prefixes, ontology_tests, ontology_axioms, document_axioms, IsDocument}
+use Rattle.ofn_reader.specs.Queries.{query_start}
 use Rattle.ofn_writer.specs.Canonical.{ontology_text}
 use Rattle.written_ontologies.specs.Writable.{CanBeWritten}
 use Rattle.written_ontologies.specs.Laws.{IsDocumentOf}
+use Rattle.written_ontologies.proofs.Whole.{limits_from_whole, part_total, expression_total}
 use Rattle.written_ontologies.proofs.GoodTokens.{IsGoodItem, AreGoodItems, tokens_good, tree_good}
 use Rattle.written_ontologies.proofs.GoodNames.{AreGoodPrefixes, predeclared_good, prefixes_good, front_items_good, rest_items_good}
 use Rattle.written_ontologies.proofs.Counting.{held, Both, both, nothing_held, walked_after, never, IsWithin}
@@ -147,24 +149,48 @@ module _ (text : List ℕ) (o : Listed) (kept : DocumentContext) (end : ℕ) (d 
   within = said.rises.within start_within
 
   written : CanBeWritten (record { axioms = document_axioms predeclared d.behind d.items; classes = d.behind.classes; roles = d.behind.roles })
-  written = record {
-    class_iris = within.class_iris;
-    role_iris = within.role_iris;
-    distinct_classes = within.distinct_classes;
-    distinct_roles = within.distinct_roles;
-    listed = said.listed;
-    whole = said.whole;
-    nested = said.nested;
-    simple = simple_roles;
-    few_classes = within.few_classes;
-    few_roles = within.few_roles;
-    few_axioms = omega (arith, within.few_axioms, said.rises.axioms);
-    few_parts = omega (arith, within.few_parts, said.rises.parts);
-    few_expressions = omega (arith, within.few_nodes, said.rises.nodes);
-  }
+  written =
+      let axioms : List Numbered = document_axioms predeclared d.behind d.items in
+      let limits = limits_from_whole axioms said.whole in
+      record {
+        within = record {
+          listed = said.listed;
+          items = limits.items;
+          counts = limits.counts;
+          simple = simple_roles;
+          few_axioms = omega (arith, within.few_axioms, said.rises.axioms);
+          few_classes = within.few_classes;
+          few_roles = within.few_roles;
+          few_parts = omega (arith, within.few_parts, said.rises.parts, part_total axioms);
+        };
+        class_iris = within.class_iris;
+        role_iris = within.role_iris;
+        distinct_classes = within.distinct_classes;
+        distinct_roles = within.distinct_roles;
+        named = limits.named;
+        nested = said.nested;
+        few_expressions = omega (arith, within.few_nodes, said.rises.nodes, expression_total axioms);
+      }
 
   pub can_be_written : CanBeWritten o
   can_be_written = subst CanBeWritten (sym d.listed) written
+
+  -- from here a query on the document is read
+  pub prefixes_kept : AreGoodPrefixes kept.prefixes
+  prefixes_kept = subst (λ (k : DocumentContext). AreGoodPrefixes k.prefixes) (sym d.takes) prefixes_are
+
+  pub query_within : IsWithin (query_start o kept.nodes)
+  query_within = record {
+    class_iris = can_be_written.class_iris;
+    role_iris = can_be_written.role_iris;
+    distinct_classes = can_be_written.distinct_classes;
+    distinct_roles = can_be_written.distinct_roles;
+    few_classes = can_be_written.within.few_classes;
+    few_roles = can_be_written.within.few_roles;
+    few_axioms = can_be_written.within.few_axioms;
+    few_parts = omega arith;
+    few_nodes = subst (λ (k : DocumentContext). k.nodes ≤ 262144) (sym d.takes) within.few_nodes;
+  }
 
   pub read_again : IsDocumentOf (ontology_text o) o
   read_again = written_is_read o can_be_written

@@ -50,9 +50,9 @@ cuts_feed bad place n rest = record { cut = refl }
 
 -- ---- names
 
--- no byte of a name goes on with these
+-- no name goes on with these
 abbrev pub stops : List ℕ → Bool
-stops [] = false
+stops [] = true
 stops (b ∷ bs) = not (is_name_byte b)
 
 one_more : (n m : ℕ) → n ≡ m → 1 + n ≡ suc m
@@ -107,20 +107,29 @@ name_begins b bs h =
     (cond (name_other b 94 h refl i) (carets_at b bs)
     (cond (h i) (name_at (prefix_len is_name_byte bs) b bs) wrong)))))))))
 
+all_front : (p : ℕ → Bool) (bs : List ℕ) → list_all p bs ≡ true → prefix_len p (bs ++ []) ≡ length bs
+all_front p [] all = refl
+all_front p (c ∷ bs) all =
+    ap (λ v. cond v (1 + prefix_len p (bs ++ [])) 0) (and_left (p c) (list_all p bs) all)
+    ∙ one_more (prefix_len p (bs ++ [])) (length bs) (all_front p bs (and_right (p c) (list_all p bs) all))
+
+name_length : (bs rest : List ℕ) → list_all is_name_byte bs ≡ true → stops rest ≡ true → prefix_len is_name_byte (bs ++ rest) ≡ length bs
+name_length bs [] all end = all_front is_name_byte bs all
+name_length bs (c ∷ rest) all end = front is_name_byte bs c rest all (not_true (is_name_byte c) end)
+
 pub cuts_name : (bad : Option ℕ) (place n : ℕ) (w rest : List ℕ) → is_name w ≡ true → stops rest ≡ true → Cuts bad place n (w ++ rest) (token Name w place n ∷ []) (place + length w) n rest
 cuts_name bad place n [] rest h end = cc
-cuts_name bad place n (b ∷ bs) [] h end = cc
-cuts_name bad place n (b ∷ bs) (c ∷ rest) h end =
+cuts_name bad place n (b ∷ bs) rest h end =
     let first : is_name_byte b ≡ true = and_left (is_name_byte b) (list_all is_name_byte bs) h in
     let others : list_all is_name_byte bs ≡ true = and_right (is_name_byte b) (list_all is_name_byte bs) h in
-    let long : prefix_len is_name_byte (bs ++ c ∷ rest) ≡ length bs = front is_name_byte bs c rest others (not_true (is_name_byte c) end) in
-    let here : cut_at b (bs ++ c ∷ rest) ≡ name_at (length bs) b (bs ++ c ∷ rest) = name_begins b (bs ++ c ∷ rest) first ∙ ap (λ k. name_at k b (bs ++ c ∷ rest)) long in
-    let go : ℕ → List Piece = λ k. pieces_from bad k (place + 1) (line_behind b n) (bs ++ c ∷ rest) in
-    let behind : pieces_from bad (length bs) (place + 1) (line_behind b n) (bs ++ c ∷ rest) ≡ pieces_from bad 0 (place + suc (length bs)) n (c ∷ rest) =
-    ap (λ v. pieces_from bad (length bs) (place + 1) (cond v (n + 1) n) (bs ++ c ∷ rest)) (name_no_feed b first)
-    ∙ gone is_name_byte name_no_feed bad (place + 1) n bs (c ∷ rest) others
-    ∙ ap (λ k. pieces_from bad 0 k n (c ∷ rest)) (one_further place (length bs)) in
-    let text : take (length bs) (bs ++ c ∷ rest) ≡ bs = take-append_seam bs (c ∷ rest) in
+    let long : prefix_len is_name_byte (bs ++ rest) ≡ length bs = name_length bs rest others end in
+    let here : cut_at b (bs ++ rest) ≡ name_at (length bs) b (bs ++ rest) = name_begins b (bs ++ rest) first ∙ ap (λ k. name_at k b (bs ++ rest)) long in
+    let go : ℕ → List Piece = λ k. pieces_from bad k (place + 1) (line_behind b n) (bs ++ rest) in
+    let behind : pieces_from bad (length bs) (place + 1) (line_behind b n) (bs ++ rest) ≡ pieces_from bad 0 (place + suc (length bs)) n rest =
+    ap (λ v. pieces_from bad (length bs) (place + 1) (cond v (n + 1) n) (bs ++ rest)) (name_no_feed b first)
+    ∙ gone is_name_byte name_no_feed bad (place + 1) n bs rest others
+    ∙ ap (λ k. pieces_from bad 0 k n rest) (one_further place (length bs)) in
+    let text : take (length bs) (bs ++ rest) ≡ bs = take-append_seam bs rest in
     let far : place + (length bs + 1) ≡ place + (0 + (suc (length bs) + 0)) = omega arith in
     record {
       cut = ap (λ x. pieces_with bad x place n go) here ∙ (λ i. whole (token Name (b ∷ text i) place n) (far i) ∷ behind i);

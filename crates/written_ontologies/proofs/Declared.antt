@@ -17,7 +17,8 @@ use Rattle.ofn_expressions.specs.Classes.{is_thing, is_nothing, unless_excluded,
 use Rattle.ofn_expressions.specs.declared.construct.Construct.{Construct}
 use Rattle.ofn_expressions.proofs.Walks.{goes_on}
 use Rattle.ofn_reader.specs.Axioms.{axiom_tests, axioms_tests, axioms_in}
-use Rattle.written_ontologies.specs.Writable.{is_iri, is_class_iri, is_role_iri, is_whole_axiom, axiom_expressions, axiom_parts, total}
+use Rattle.written_ontologies.specs.Writable.{is_iri, is_class_iri, is_role_iri, axiom_expressions}
+use Rattle.written_ontologies.proofs.Whole.{is_whole_axiom, counted_parts, total}
 use Rattle.written_ontologies.specs.Laws.{axioms_of}
 use Rattle.written_ontologies.proofs.Checks.{and_left, and_right, not_true, le_true, no_more, one_further}
 use Rattle.written_ontologies.proofs.Phrases.{Phrase, iri, call, item_of, lines_items}
@@ -25,6 +26,7 @@ use Rattle.written_ontologies.proofs.Terms.{one, axiom_phrase}
 use Rattle.written_ontologies.proofs.Keywords.{class_declared, role_declared, no_axiom}
 use Rattle.written_ontologies.proofs.Walks.{step, AreKnown, counted}
 use Rattle.written_ontologies.proofs.Axioms.{axiom_walk, axiom_value}
+use Rattle.written_ontologies.proofs.Prefixes.{owl_known}
 use Rattle.written_ontologies.proofs.Places.{fresh}
 
 abbrev pub declaration : List ℕ → List ℕ → Phrase
@@ -129,19 +131,19 @@ module _ (o : Listed) (names : AreKnown o) where
   known a = axiom_uses_listed (length o.classes) (length o.roles) a.axiom
 
   pub axioms_walk : (as_ : List Numbered) (x p k n : ℕ) → all_use_listed (length o.classes) (length o.roles) as_ ≡ true → list_all (λ (a : Numbered). is_whole_axiom a.axiom) as_ ≡ true
-      → x + length as_ ≤ 20000 → p + total axiom_parts as_ ≤ 500000 → k + total axiom_expressions as_ ≤ 262144
-      → walked (counted o x p k) (tests_on n (axiom_phrases o as_)) ≡ Ok (counted o (x + length as_) (p + total axiom_parts as_) (k + total axiom_expressions as_))
+      → x + length as_ ≤ 20000 → p + total counted_parts as_ ≤ 500000 → k + total axiom_expressions as_ ≤ 262144
+      → walked (counted o x p k) (tests_on n (axiom_phrases o as_)) ≡ Ok (counted o (x + length as_) (p + total counted_parts as_) (k + total axiom_expressions as_))
   axioms_walk [] x p k n listed whole few few_parts few_nodes = λ i. Ok (counted o (no_more x i) (no_more p i) (no_more k i))
   axioms_walk (a ∷ more) x p k n listed whole few few_parts few_nodes =
       let e : ℕ = axiom_expressions a.axiom in
-      let q : ℕ = axiom_parts a.axiom in
+      let q : ℕ = counted_parts a.axiom in
       let others : Bool = all_use_listed (length o.classes) (length o.roles) more in
       let good : Bool = list_all (λ (b : Numbered). is_whole_axiom b.axiom) more in
       let x_is : x + 1 + length more ≡ x + suc (length more) = omega arith in
-      let p_is : p + q + total axiom_parts more ≡ p + (q + total axiom_parts more) = omega arith in
+      let p_is : p + q + total counted_parts more ≡ p + (q + total counted_parts more) = omega arith in
       let k_is : k + e + total axiom_expressions more ≡ k + (e + total axiom_expressions more) = omega arith in
       goes_on (counted o x p k) (counted o (x + 1) (p + q) (k + e)) (axiom_tests predeclared (item_of n (axiom_phrase o a.axiom))) (tests_on (n + 1) (axiom_phrases o more))
-      (axiom_walk o names x p k n a.axiom (and_left (known a) others listed) (and_left (is_whole_axiom a.axiom) good whole) (omega (arith, few)) (omega (arith, few_parts)) (omega (arith, few_nodes)))
+      (axiom_walk predeclared owl_known o names x p k n a.axiom (and_left (known a) others listed) (and_left (is_whole_axiom a.axiom) good whole) (omega (arith, few)) (omega (arith, few_parts)) (omega (arith, few_nodes)))
       ∙ axioms_walk more (x + 1) (p + q) (k + e) (n + 1) (and_right (known a) others listed) (and_right (is_whole_axiom a.axiom) good whole) (omega (arith, few)) (omega (arith, few_parts)) (omega (arith, few_nodes))
       ∙ (λ i. Ok (counted o (x_is i) (p_is i) (k_is i)))
 
@@ -152,5 +154,5 @@ module _ (o : Listed) (names : AreKnown o) where
       let s : Counts = counted o x p k in
       let others : Bool = all_use_listed (length o.classes) (length o.roles) more in
       let good : Bool = list_all (λ (b : Numbered). is_whole_axiom b.axiom) more in
-      ap (λ l. axioms_of (l ++ axioms_in predeclared s (lines_items (n + 1) (axiom_phrases o more)))) (axiom_value o names x p k n a.axiom (and_left (known a) others listed) (and_left (is_whole_axiom a.axiom) good whole))
+      ap (λ l. axioms_of (l ++ axioms_in predeclared s (lines_items (n + 1) (axiom_phrases o more)))) (axiom_value predeclared owl_known o names x p k n a.axiom (and_left (known a) others listed) (and_left (is_whole_axiom a.axiom) good whole))
       ∙ ap (λ l. a.axiom ∷ l) (axioms_value x p k more (n + 1) (and_right (known a) others listed) (and_right (is_whole_axiom a.axiom) good whole))

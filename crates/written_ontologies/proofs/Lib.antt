@@ -1,4 +1,5 @@
 pub mod Checks
+pub mod Whole
 pub mod Phrases
 pub mod Cuts
 pub mod Made
@@ -6,10 +7,13 @@ pub mod Terms
 pub mod Keywords
 pub mod Walks
 pub mod Axioms
+pub mod Prefixes
 pub mod Places
 pub mod Declared
 pub mod Texts
+pub mod Alone
 pub mod Read
+pub mod ReadBack
 pub mod GoodTokens
 pub mod GoodNames
 pub mod Counting

@@ -1,5 +1,5 @@
 -- The tokens of phrases make their items, with no fault, inside a document.
-use Rattle.std.proofs.Common.{◌≡◌, ℕ, ◌+◌, ◌-◌, ◌<◌, ◌≤◌, true, false, cond, ◌&&◌, List, [], ◌∷◌, ◌++◌, length, Some, Result, Ok, Err, refl, ap, sym, ◌∙◌, arith, append_assoc, nat_eq, nat_lt}
+use Rattle.std.proofs.Common.{◌≡◌, ℕ, ◌+◌, ◌-◌, ◌<◌, ◌≤◌, Bool, false, cond, ◌&&◌, List, [], ◌∷◌, ◌++◌, length, Some, Result, Ok, Err, refl, ap, sym, ◌∙◌, arith, append_assoc, nat_eq, nat_lt}
 use Rattle.std.proofs.lemmas.Grind.{common_steps}
 use Rattle.ofn_tree.specs.declared.token.Kind.TheVariants.{OpenBracket, CloseBracket, Iri, Name}
 use Rattle.ofn_tree.specs.declared.fault.TextFault.{TextFault}
@@ -113,11 +113,11 @@ fault_lines end d n place (p ∷ ps) rest deep =
     ∙ fault_phrase end d n place p (lines_tokens (n + 1) p1 ps ++ rest) first
     ∙ fault_lines end d (n + 1) p1 ps rest others
 
--- ---- inside a document
+-- ---- inside a group
 
--- inside the document's group, with so many brackets open, and the last tokens those of m
-abbrev pub inside : ℕ → Met → Met
-inside d m = record { depth = d; document = true; latest = m.latest }
+-- inside a group, that of a document or another, with so many brackets open, and the last tokens those of m
+abbrev pub inside : Bool → ℕ → Met → Met
+inside doc d m = record { depth = d; document = doc; latest = m.latest }
 
 abbrev pub with_tokens : List PlainToken → Result DocumentTokens TextFault → Result DocumentTokens TextFault
 with_tokens [] r = r
@@ -128,23 +128,23 @@ with_both [] us r = refl
 with_both (t ∷ ts) us r = ap (with_token t) (with_both ts us r)
 
 -- the tokens do not end the document
-pub record Passes (end d : ℕ) (before : Met) (ts : List PlainToken) (e : ℕ) : Type 0 where
+pub record Passes (doc : Bool) (end d : ℕ) (before : Met) (ts : List PlainToken) (e : ℕ) : Type 0 where
   pub latest : Met
-  pub goes : (ps : List Piece) → document_front end (inside d before) (wholes ts ++ ps) ≡ with_tokens ts (document_front end (inside e latest) ps)
+  pub goes : (ps : List Piece) → document_front end (inside doc d before) (wholes ts ++ ps) ≡ with_tokens ts (document_front end (inside doc e latest) ps)
 
-passes_nothing : (end d : ℕ) (before : Met) → Passes end d before [] d
-passes_nothing end d before = record { latest = before; goes = λ ps. refl }
+passes_nothing : (doc : Bool) (end d : ℕ) (before : Met) → Passes doc end d before [] d
+passes_nothing doc end d before = record { latest = before; goes = λ ps. refl }
 
-passes_both : (end d : ℕ) (before : Met) (ts : List PlainToken) (e : ℕ) (us : List PlainToken) (f : ℕ) → Passes end d before ts e → ((l : Met) → Passes end e l us f) → Passes end d before (ts ++ us) f
-passes_both end d before ts e us f first second =
-    let then : Passes end e first.latest us f = second first.latest in
+passes_both : (doc : Bool) (end d : ℕ) (before : Met) (ts : List PlainToken) (e : ℕ) (us : List PlainToken) (f : ℕ) → Passes doc end d before ts e → ((l : Met) → Passes doc end e l us f) → Passes doc end d before (ts ++ us) f
+passes_both doc end d before ts e us f first second =
+    let then : Passes doc end e first.latest us f = second first.latest in
     record {
       latest = then.latest;
       goes = λ ps.
-          ap (document_front end (inside d before)) (ap (λ l. l ++ ps) (wholes_append ts us) ∙ append_assoc (wholes ts) (wholes us) ps)
+          ap (document_front end (inside doc d before)) (ap (λ l. l ++ ps) (wholes_append ts us) ∙ append_assoc (wholes ts) (wholes us) ps)
           ∙ first.goes (wholes us ++ ps)
           ∙ ap (with_tokens ts) (then.goes ps)
-          ∙ with_both ts us (document_front end (inside f then.latest) ps);
+          ∙ with_both ts us (document_front end (inside doc f then.latest) ps);
     }
 
 above_zero : (d : ℕ) → 1 ≤ d → nat_eq d 0 ≡ false
@@ -153,55 +153,55 @@ above_zero d h = grind (arith, common_steps, h)
 above_one : (d : ℕ) → 1 ≤ d → nat_eq (d + 1) 1 ≡ false
 above_one d h = grind (arith, common_steps, h)
 
-passes_name : (end d : ℕ) (before : Met) (w : List ℕ) (place n : ℕ) → Passes end d before (token Name w place n ∷ []) d
-passes_name end d before w place n = record { latest = met_after Name w (inside d before); goes = λ ps. refl }
+passes_name : (doc : Bool) (end d : ℕ) (before : Met) (w : List ℕ) (place n : ℕ) → Passes doc end d before (token Name w place n ∷ []) d
+passes_name doc end d before w place n = record { latest = met_after Name w (inside doc d before); goes = λ ps. refl }
 
-passes_iri : (end d : ℕ) (before : Met) (w : List ℕ) (place n : ℕ) → Passes end d before (token Iri w place n ∷ []) d
-passes_iri end d before w place n = record { latest = met_after Iri w (inside d before); goes = λ ps. refl }
+passes_iri : (doc : Bool) (end d : ℕ) (before : Met) (w : List ℕ) (place n : ℕ) → Passes doc end d before (token Iri w place n ∷ []) d
+passes_iri doc end d before w place n = record { latest = met_after Iri w (inside doc d before); goes = λ ps. refl }
 
-passes_open : (end d : ℕ) (before : Met) (place n : ℕ) → 1 ≤ d → Passes end d before (token OpenBracket (40 ∷ []) place n ∷ []) (d + 1)
-passes_open end d before place n some = record {
-  latest = met_after OpenBracket (40 ∷ []) (inside d before);
-  goes = λ ps. ap (λ v. with_token (token OpenBracket (40 ∷ []) place n) (document_front end (record { depth = d + 1; document = cond v (is_document_name before.latest) true; latest = (met_after OpenBracket (40 ∷ []) (inside d before)).latest }) ps)) (above_zero d some);
+passes_open : (doc : Bool) (end d : ℕ) (before : Met) (place n : ℕ) → 1 ≤ d → Passes doc end d before (token OpenBracket (40 ∷ []) place n ∷ []) (d + 1)
+passes_open doc end d before place n some = record {
+  latest = met_after OpenBracket (40 ∷ []) (inside doc d before);
+  goes = λ ps. ap (λ v. with_token (token OpenBracket (40 ∷ []) place n) (document_front end (record { depth = d + 1; document = cond v (is_document_name before.latest) doc; latest = (met_after OpenBracket (40 ∷ []) (inside doc d before)).latest }) ps)) (above_zero d some);
 }
 
-passes_close : (end d : ℕ) (before : Met) (place n : ℕ) → 1 ≤ d → Passes end (d + 1) before (token CloseBracket (41 ∷ []) place n ∷ []) d
-passes_close end d before place n some =
+passes_close : (doc : Bool) (end d : ℕ) (before : Met) (place n : ℕ) → 1 ≤ d → Passes doc end (d + 1) before (token CloseBracket (41 ∷ []) place n ∷ []) d
+passes_close doc end d before place n some =
     let t : PlainToken = token CloseBracket (41 ∷ []) place n in
     let less : d + 1 - 1 ≡ d = omega arith in
-    let behind : Met = met_after CloseBracket (41 ∷ []) (inside (d + 1) before) in
+    let behind : Met = met_after CloseBracket (41 ∷ []) (inside doc (d + 1) before) in
     record {
       latest = behind;
       goes = λ ps.
-          ap (λ v. cond (v && true) (Ok (record { tokens = t ∷ []; place_behind = place + 1 })) (with_token t (document_front end (inside (d + 1 - 1) behind) ps))) (above_one d some)
-          ∙ ap (λ e. with_token t (document_front end (inside e behind) ps)) less;
+          ap (λ v. cond (v && doc) (Ok (record { tokens = t ∷ []; place_behind = place + 1 })) (with_token t (document_front end (inside doc (d + 1 - 1) behind) ps))) (above_one d some)
+          ∙ ap (λ e. with_token t (document_front end (inside doc e behind) ps)) less;
     }
 
 mutual
-  pub passes_phrase : (end d : ℕ) (before : Met) (n place : ℕ) (p : Phrase) → 1 ≤ d → Passes end d before (tokens_of n place p) d
-  passes_phrase end d before n place (word w) some = passes_name end d before w place n
-  passes_phrase end d before n place (iri w) some = passes_iri end d before w place n
-  passes_phrase end d before n place (call w ps) some =
+  pub passes_phrase : (doc : Bool) (end d : ℕ) (before : Met) (n place : ℕ) (p : Phrase) → 1 ≤ d → Passes doc end d before (tokens_of n place p) d
+  passes_phrase doc end d before n place (word w) some = passes_name doc end d before w place n
+  passes_phrase doc end d before n place (iri w) some = passes_iri doc end d before w place n
+  passes_phrase doc end d before n place (call w ps) some =
       let p1 : ℕ = place + length w in
       let p2 : ℕ = place + length w + 1 in
       let p3 : ℕ = place + length w + 1 + length (items_text (texts_of ps)) in
       let more : 1 ≤ d + 1 = omega arith in
-      passes_both end d before (token Name w place n ∷ []) d (token OpenBracket (40 ∷ []) p1 n ∷ (all_tokens n p2 ps ++ token CloseBracket (41 ∷ []) p3 n ∷ [])) d
-      (passes_name end d before w place n)
-      (λ l. passes_both end d l (token OpenBracket (40 ∷ []) p1 n ∷ []) (d + 1) (all_tokens n p2 ps ++ token CloseBracket (41 ∷ []) p3 n ∷ []) d
-      (passes_open end d l p1 n some)
-      (λ k. passes_both end (d + 1) k (all_tokens n p2 ps) (d + 1) (token CloseBracket (41 ∷ []) p3 n ∷ []) d
-      (passes_phrases end (d + 1) k n p2 ps more)
-      (λ j. passes_close end d j p3 n some)))
+      passes_both doc end d before (token Name w place n ∷ []) d (token OpenBracket (40 ∷ []) p1 n ∷ (all_tokens n p2 ps ++ token CloseBracket (41 ∷ []) p3 n ∷ [])) d
+      (passes_name doc end d before w place n)
+      (λ l. passes_both doc end d l (token OpenBracket (40 ∷ []) p1 n ∷ []) (d + 1) (all_tokens n p2 ps ++ token CloseBracket (41 ∷ []) p3 n ∷ []) d
+      (passes_open doc end d l p1 n some)
+      (λ k. passes_both doc end (d + 1) k (all_tokens n p2 ps) (d + 1) (token CloseBracket (41 ∷ []) p3 n ∷ []) d
+      (passes_phrases doc end (d + 1) k n p2 ps more)
+      (λ j. passes_close doc end d j p3 n some)))
 
-  pub passes_phrases : (end d : ℕ) (before : Met) (n place : ℕ) (ps : Phrases) → 1 ≤ d → Passes end d before (all_tokens n place ps) d
-  passes_phrases end d before n place none some = passes_nothing end d before
-  passes_phrases end d before n place (more p ps) some =
+  pub passes_phrases : (doc : Bool) (end d : ℕ) (before : Met) (n place : ℕ) (ps : Phrases) → 1 ≤ d → Passes doc end d before (all_tokens n place ps) d
+  passes_phrases doc end d before n place none some = passes_nothing doc end d before
+  passes_phrases doc end d before n place (more p ps) some =
       let p1 : ℕ = place + length (text_of p) + 1 in
-      passes_both end d before (tokens_of n place p) d (all_tokens n p1 ps) d (passes_phrase end d before n place p some) (λ l. passes_phrases end d l n p1 ps some)
+      passes_both doc end d before (tokens_of n place p) d (all_tokens n p1 ps) d (passes_phrase doc end d before n place p some) (λ l. passes_phrases doc end d l n p1 ps some)
 
-pub passes_lines : (end d : ℕ) (before : Met) (n place : ℕ) (ps : List Phrase) → 1 ≤ d → Passes end d before (lines_tokens n place ps) d
-passes_lines end d before n place [] some = passes_nothing end d before
-passes_lines end d before n place (p ∷ ps) some =
+pub passes_lines : (doc : Bool) (end d : ℕ) (before : Met) (n place : ℕ) (ps : List Phrase) → 1 ≤ d → Passes doc end d before (lines_tokens n place ps) d
+passes_lines doc end d before n place [] some = passes_nothing doc end d before
+passes_lines doc end d before n place (p ∷ ps) some =
     let p1 : ℕ = place + length (text_of p) + 1 in
-    passes_both end d before (tokens_of n place p) d (lines_tokens (n + 1) p1 ps) d (passes_phrase end d before n place p some) (λ l. passes_lines end d l (n + 1) p1 ps some)
+    passes_both doc end d before (tokens_of n place p) d (lines_tokens (n + 1) p1 ps) d (passes_phrase doc end d before n place p some) (λ l. passes_lines doc end d l (n + 1) p1 ps some)

@@ -1,19 +1,15 @@
 -- What is written is read again.
-use Rattle.std.proofs.Common.{◌≡◌, ℕ, ◌+◌, ◌<◌, ◌≤◌, true, false, cond, ◌&&◌, List, [], ◌∷◌, ◌++◌, length, take, Option, Some, None, Ok, refl, ap, sym, ◌∙◌, subst, arith, append-nil, codes, nat_lt}
+use Rattle.std.proofs.Common.{◌≡◌, ℕ, ◌+◌, ◌<◌, ◌≤◌, true, ◌&&◌, List, [], ◌∷◌, ◌++◌, length, Option, Some, None, Ok, refl, ap, sym, ◌∙◌, subst, arith, append-nil, codes}
 use Rattle.std.specs.Prelude.{slice_index_or, not, is_none}
 use Rattle.std.specs.Result.{result_ok}
 use Rattle.std.specs.Str.{IsUtf8}
-use Rattle.std.specs.Str.Lossy.{utf8_valid_len}
-use Rattle.std.proofs.Math.Seq.{take-length}
-use Rattle.std.proofs.lemmas.Str.{utf8_valid_len-IsUtf8}
-use Rattle.std.proofs.lemmas.Bool.Decides.{nat_tests}
 use Rattle.shq_terms.specs.Listed.{Listed}
 use Rattle.shq_terms.specs.declared.axioms.Axiom.{Axiom}
 use Rattle.shq_terms.specs.declared.axioms.Axiom.TheVariants.{SubClassOf, EquivalentClasses, DisjointClasses, DisjointUnion, SubRole, EquivalentRoles, Domain, Range, Functional, Transitive}
 use Rattle.shq_terms.specs.declared.axioms.Numbered.{Numbered}
 use Rattle.ofn_tree.specs.declared.token.Kind.TheVariants.{OpenBracket, CloseBracket, Name}
 use Rattle.ofn_tree.specs.Token.{PlainToken}
-use Rattle.ofn_tree.specs.Lexemes.{whole, end_line, bad_byte_line, utf8_front, front_pieces, pieces}
+use Rattle.ofn_tree.specs.Lexemes.{whole, end_line, pieces}
 use Rattle.ofn_tree.specs.Document.{Met, DocumentTokens, nothing_met, met_after, with_token, document_front, document}
 use Rattle.ofn_tree.specs.Items.{Item, group_item, Items, item, Mark, opening, closing, written_all, nesting_all, IsTree}
 use Rattle.ofn_tree.specs.Faults.{bracket_fault}
@@ -29,12 +25,14 @@ use Rattle.ofn_reader.specs.Groups.{axiom_items}
 use Rattle.ofn_reader.specs.Axioms.{axioms_tests, axioms_in}
 use Rattle.ofn_reader.specs.Documents.{start, form_tests, all_simple_tests, document_tests, document_axioms}
 use Rattle.ofn_writer.specs.Canonical.{ontology_text}
-use Rattle.written_ontologies.specs.Writable.{is_iri, is_class_iri, is_role_iri, axiom_parts, axiom_expressions, total, CanBeWritten}
+use Rattle.written_ontologies.specs.Writable.{is_iri, is_class_iri, is_role_iri, axiom_expressions, CanBeWritten}
+use Rattle.written_ontologies.proofs.Whole.{counted_parts, total, whole_of, part_total, expression_total}
 use Rattle.written_ontologies.specs.Laws.{axioms_of, IsDocumentOf}
 use Rattle.written_ontologies.proofs.Checks.{and_left, and_right, not_true, all_at}
 use Rattle.written_ontologies.proofs.Phrases.{Phrase, item_of, token, lines_text, lines_items, lines_tokens, all_can_stand}
 use Rattle.written_ontologies.proofs.Cuts.{wholes, wholes_append, Cuts, cuts_both, cuts_name, cuts_open, cuts_close, cuts_feed, cuts_lines}
-use Rattle.written_ontologies.proofs.Made.{marks_lines, fault_lines, with_tokens, Passes, passes_lines}
+use Rattle.written_ontologies.proofs.Alone.{pieces_of_utf8, with_ok}
+use Rattle.written_ontologies.proofs.Made.{marks_lines, fault_lines, Passes, passes_lines}
 use Rattle.written_ontologies.proofs.Terms.{axiom_phrase, AreSpelled}
 use Rattle.written_ontologies.proofs.Walks.{step, AreKnown, counted}
 use Rattle.written_ontologies.proofs.Counting.{walked_after}
@@ -76,32 +74,13 @@ module _ (ps : List Phrase) (stands : all_can_stand ps ≡ true) (utf8 : IsUtf8 
       (cuts_lines None 10 2 ps (41 ∷ (10 ∷ [])) stands)
       (cuts_close None place end (10 ∷ [])))))
 
-  same_length : utf8_valid_len (opened (lines_text ps)) ≡ length (opened (lines_text ps))
-  same_length = utf8_valid_len-IsUtf8 (opened (lines_text ps)) utf8
-
-  not_less : (n : ℕ) → nat_lt n n ≡ false
-  not_less n = grind (arith, nat_tests)
-
-  no_bad_byte : bad_byte_line (opened (lines_text ps)) ≡ None
-  no_bad_byte =
-      let n : ℕ = length (opened (lines_text ps)) in
-      ap (λ k. cond (nat_lt k n) (Some (end_line (take k (opened (lines_text ps))))) None) same_length
-      ∙ ap (λ b. cond b (Some (end_line (take n (opened (lines_text ps))))) None) (not_less n)
-
-  whole_front : utf8_front (opened (lines_text ps)) ≡ opened (lines_text ps)
-  whole_front = ap (λ k. take k (opened (lines_text ps))) same_length ∙ take-length (opened (lines_text ps))
-
   pieces_are : pieces (opened (lines_text ps)) ≡ wholes (document_tokens ps)
   pieces_are =
-      (λ i. front_pieces (no_bad_byte i) (whole_front i))
+      pieces_of_utf8 (opened (lines_text ps)) utf8
       ∙ cuts.cut
       ∙ append-nil (wholes (document_tokens ps))
 
   -- ---- the reading
-
-  with_ok : (ts us : List PlainToken) (behind : ℕ) → with_tokens ts (Ok (record { tokens = us; place_behind = behind })) ≡ Ok (record { tokens = ts ++ us; place_behind = behind })
-  with_ok [] us behind = refl
-  with_ok (t ∷ ts) us behind = ap (with_token t) (with_ok ts us behind)
 
   abbrev read_tokens : DocumentTokens
   read_tokens = record { tokens = document_tokens ps; place_behind = place + 1 }
@@ -113,7 +92,7 @@ module _ (ps : List Phrase) (stands : all_can_stand ps ≡ true) (utf8 : IsUtf8 
   document_is =
       let n : ℕ = length (opened (lines_text ps)) in
       let m : Met = met_after OpenBracket (40 ∷ []) (met_after Name (codes "Ontology") nothing_met) in
-      let middle : Passes n 1 m (lines_tokens 2 10 ps) 1 = passes_lines n 1 m 2 10 ps (omega arith) in
+      let middle : Passes true n 1 m (lines_tokens 2 10 ps) 1 = passes_lines true n 1 m 2 10 ps (omega arith) in
       let name : PlainToken = token Name (codes "Ontology") 0 1 in
       let bracket : PlainToken = token OpenBracket (40 ∷ []) 8 1 in
       ap (document_front n nothing_met) (pieces_are ∙ ap (λ l. whole name 8 ∷ (whole bracket 9 ∷ l)) (wholes_append (lines_tokens 2 10 ps) (close_of ps ∷ [])))
@@ -170,7 +149,7 @@ no_name_first o n =
 
 -- ---- the names
 
-spelled : (o : Listed) → CanBeWritten o → AreSpelled o
+pub spelled : (o : Listed) → CanBeWritten o → AreSpelled o
 spelled o can = record {
   class_iri = λ a less. all_at is_class_iri o.classes a can.class_iris less;
   role_iri = λ r less. all_at is_role_iri o.roles r can.role_iris less;
@@ -180,7 +159,7 @@ no_construct : (e : Option Construct) → is_none e ≡ true → e ≡ None
 no_construct None h = refl
 no_construct (Some c) h = cc
 
-known : (o : Listed) → CanBeWritten o → AreKnown o
+pub known : (o : Listed) → CanBeWritten o → AreKnown o
 known o can =
     let class_names : (a : ℕ) → a < length o.classes → (not (is_thing (slice_index_or o.classes a [])) && not (is_nothing (slice_index_or o.classes a []))) ≡ true =
     λ a less.
@@ -198,8 +177,8 @@ known o can =
           let w : List ℕ = slice_index_or o.roles r [] in
           no_construct (excluded_role_name w) (and_right (is_iri w) (is_none (excluded_role_name w)) (all_at is_role_iri o.roles r can.role_iris less));
       role_place = λ r less. own_place o.roles r can.distinct_roles less;
-      few_classes = can.few_classes;
-      few_roles = can.few_roles;
+      few_classes = can.within.few_classes;
+      few_roles = can.within.few_roles;
     }
 
 -- ---- the document
@@ -209,7 +188,7 @@ module _ (o : Listed) (can : CanBeWritten o) where
   phrases = document_phrases o
 
   abbrev behind : Counts
-  behind = counted o (0 + length o.axioms) (0 + total axiom_parts o.axioms) (0 + total axiom_expressions o.axioms)
+  behind = counted o (0 + length o.axioms) (0 + total counted_parts o.axioms) (0 + total axiom_expressions o.axioms)
 
   abbrev first_axiom : ℕ
   first_axiom = 2 + length o.classes + length o.roles
@@ -218,16 +197,16 @@ module _ (o : Listed) (can : CanBeWritten o) where
   form_holds last =
       step start (shape 1 true) (axioms_tests predeclared (axiom_items (lines_items 2 (document_phrases o)))) refl
       ∙ ap (λ is. walked start (axioms_tests predeclared is)) (no_name_first o 2)
-      ∙ classes_walk o.classes 2 (declarations (codes "ObjectProperty") o.roles ++ axiom_phrases o o.axioms) can.distinct_classes can.class_iris can.few_classes
-      ∙ roles_walk o.classes o.roles (2 + length o.classes) (axiom_phrases o o.axioms) can.distinct_roles can.role_iris can.few_roles
-      ∙ axioms_walk o (known o can) o.axioms 0 0 0 first_axiom can.listed can.whole (omega (arith, can.few_axioms)) (omega (arith, can.few_parts)) (omega (arith, can.few_expressions))
+      ∙ classes_walk o.classes 2 (declarations (codes "ObjectProperty") o.roles ++ axiom_phrases o o.axioms) can.distinct_classes can.class_iris can.within.few_classes
+      ∙ roles_walk o.classes o.roles (2 + length o.classes) (axiom_phrases o o.axioms) can.distinct_roles can.role_iris can.within.few_roles
+      ∙ axioms_walk o (known o can) o.axioms 0 0 0 first_axiom can.within.listed (whole_of o can) (omega (arith, can.within.few_axioms)) (omega (arith, can.within.few_parts, part_total o.axioms)) (omega (arith, can.few_expressions, expression_total o.axioms))
 
   same_axioms : axioms_of (document_axioms predeclared behind (document_items (document_phrases o))) ≡ axioms_of o.axioms
   same_axioms =
       ap (λ is. axioms_of (axioms_in predeclared behind is)) (no_name_first o 2)
       ∙ ap axioms_of (declarations_value (codes "Class") behind o.classes 2 (declarations (codes "ObjectProperty") o.roles ++ axiom_phrases o o.axioms)
       ∙ declarations_value (codes "ObjectProperty") behind o.roles (2 + length o.classes) (axiom_phrases o o.axioms))
-      ∙ axioms_value o (known o can) (0 + length o.axioms) (0 + total axiom_parts o.axioms) (0 + total axiom_expressions o.axioms) o.axioms first_axiom can.listed can.whole
+      ∙ axioms_value o (known o can) (0 + length o.axioms) (0 + total counted_parts o.axioms) (0 + total axiom_expressions o.axioms) o.axioms first_axiom can.within.listed (whole_of o can)
 
   holds : (last : ℕ) → walked start (document_tests predeclared last (document_items (document_phrases o))) ≡ Ok behind
   holds last =
@@ -235,7 +214,7 @@ module _ (o : Listed) (can : CanBeWritten o) where
       let counts_are : after_all start form ≡ behind = walked_after start form behind (form_holds last) in
       goes_on start behind form (all_simple_tests (document_axioms predeclared (after_all start form) (document_items (document_phrases o)))) (form_holds last)
       ∙ ap (λ s. walked behind (all_simple_tests (document_axioms predeclared s (document_items (document_phrases o))))) counts_are
-      ∙ simple_again (document_axioms predeclared behind (document_items (document_phrases o))) o.axioms behind same_axioms can.simple
+      ∙ simple_again (document_axioms predeclared behind (document_items (document_phrases o))) o.axioms behind same_axioms can.within.simple
 
   says : IsDocumentOf (opened (lines_text (document_phrases o))) o
   says =

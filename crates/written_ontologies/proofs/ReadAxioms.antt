@@ -18,7 +18,8 @@ use Rattle.ofn_reader.specs.Keywords.{axiom_keyword, entity_keyword}
 use Rattle.ofn_reader.specs.Groups.{is_annotation, without_annotations}
 use Rattle.ofn_reader.specs.Declarations.{declared_classes_tests, declared_roles_tests, entity_tests, first_entity_tests, declaration_tests}
 use Rattle.ofn_reader.specs.Axioms.{pair_count, role_and_class_tests, name_and_class_tests, axiom_tests, axioms_tests, axiom_in, axioms_in, numbered_at, sub_class_made, union_made, sub_role_made, domain_made, range_made, functional_made, transitive_made}
-use Rattle.written_ontologies.specs.Writable.{is_whole, are_whole, most_brackets, expressions, all_expressions, is_named, has_enough_items, has_whole_items, is_whole_axiom, axiom_brackets, axiom_expressions, axiom_parts, total}
+use Rattle.written_ontologies.specs.Writable.{most_brackets, expressions, all_expressions, is_named, axiom_brackets, axiom_expressions}
+use Rattle.written_ontologies.proofs.Whole.{is_whole, are_whole, has_item_count, has_whole_items, is_whole_axiom, counted_parts, total}
 use Rattle.written_ontologies.proofs.Checks.{and_left, and_right, and_both, true_le, le_true, eq_true}
 use Rattle.written_ontologies.proofs.Keywords as keywords
 use Rattle.written_ontologies.proofs.Keywords.{axiom_group_tests}
@@ -43,7 +44,7 @@ uses_append m n (x ∷ xs) ys first second =
     and_both (axiom_uses_listed m n x.axiom) (all_use_listed m n (xs ++ ys)) (and_left (axiom_uses_listed m n x.axiom) (all_use_listed m n xs) first) (uses_append m n xs ys (and_right (axiom_uses_listed m n x.axiom) (all_use_listed m n xs) first) second)
 
 -- items behind annotations
-plain_good : (is : Items) → AreGoodItems is → AreGoodItems (without_annotations is)
+pub plain_good : (is : Items) → AreGoodItems is → AreGoodItems (without_annotations is)
 plain_good no_items good = tt
 plain_good (item i is) good = by (is_annotation i) (plain_good is good.1)
   where
@@ -62,7 +63,7 @@ plain_nests (item i is) = by (is_annotation i) (plain_nests is)
 module _ (ps : List Prefix) (prefixes : AreGoodPrefixes ps) (f : Counts) where
   -- these axioms are read
   pub record AreSaid (s new : Counts) (as_ : List Numbered) : Type 0 where
-    pub rises : Rises s new (length as_) (total axiom_parts as_) (total axiom_expressions as_)
+    pub rises : Rises s new (length as_) (total counted_parts as_) (total axiom_expressions as_)
     pub listed : all_use_listed (length f.classes) (length f.roles) as_ ≡ true
     pub whole : list_all (λ (a : Numbered). is_whole_axiom a.axiom) as_ ≡ true
     pub nested : list_all (λ (a : Numbered). nat_le (axiom_brackets a.axiom) 63) as_ ≡ true
@@ -70,15 +71,15 @@ module _ (ps : List Prefix) (prefixes : AreGoodPrefixes ps) (f : Counts) where
   none_said : (s new : Counts) → Rises s new 0 0 0 → AreSaid s new []
   none_said s new rises = record { rises = rises; listed = refl; whole = refl; nested = refl }
 
-  one_said : (s new : Counts) (n : ℕ) (a : Axiom) → Rises s new 1 (axiom_parts a) (axiom_expressions a) → axiom_uses_listed (length f.classes) (length f.roles) a ≡ true → has_enough_items a ≡ true → has_whole_items a ≡ true → axiom_brackets a ≤ 63
+  one_said : (s new : Counts) (n : ℕ) (a : Axiom) → Rises s new 1 (counted_parts a) (axiom_expressions a) → axiom_uses_listed (length f.classes) (length f.roles) a ≡ true → has_item_count a ≡ true → has_whole_items a ≡ true → axiom_brackets a ≤ 63
       → AreSaid s new (numbered_at n (a ∷ []))
   one_said s new n a rises listed enough whole nested =
-      let p : axiom_parts a ≡ axiom_parts a + 0 = omega arith in
+      let p : counted_parts a ≡ counted_parts a + 0 = omega arith in
       let e : axiom_expressions a ≡ axiom_expressions a + 0 = omega arith in
       record {
-        rises = rises_as s new 1 (axiom_parts a) (axiom_expressions a) 1 (axiom_parts a + 0) (axiom_expressions a + 0) refl p e rises;
+        rises = rises_as s new 1 (counted_parts a) (axiom_expressions a) 1 (counted_parts a + 0) (axiom_expressions a + 0) refl p e rises;
         listed = and_both (axiom_uses_listed (length f.classes) (length f.roles) a) true listed refl;
-        whole = and_both (is_whole_axiom a) true (and_both (has_enough_items a) (has_whole_items a) enough whole) refl;
+        whole = and_both (is_whole_axiom a) true (and_both (has_item_count a) (has_whole_items a) enough whole) refl;
         nested = and_both (nat_le (axiom_brackets a) 63) true (le_true (axiom_brackets a) 63 nested) refl;
       }
 
@@ -87,9 +88,9 @@ module _ (ps : List Prefix) (prefixes : AreGoodPrefixes ps) (f : Counts) where
 
   both_said : (s mid new : Counts) (xs ys : List Numbered) → AreSaid s mid xs → AreSaid mid new ys → AreSaid s new (xs ++ ys)
   both_said s mid new xs ys first second = record {
-    rises = rises_as s new (length xs + length ys) (total axiom_parts xs + total axiom_parts ys) (total axiom_expressions xs + total axiom_expressions ys) (length (xs ++ ys)) (total axiom_parts (xs ++ ys)) (total axiom_expressions (xs ++ ys))
-        (sym (length-append xs ys)) (sym (total_append axiom_parts xs ys)) (sym (total_append axiom_expressions xs ys))
-        (rises_both s mid new (length xs) (total axiom_parts xs) (total axiom_expressions xs) (length ys) (total axiom_parts ys) (total axiom_expressions ys) first.rises second.rises);
+    rises = rises_as s new (length xs + length ys) (total counted_parts xs + total counted_parts ys) (total axiom_expressions xs + total axiom_expressions ys) (length (xs ++ ys)) (total counted_parts (xs ++ ys)) (total axiom_expressions (xs ++ ys))
+        (sym (length-append xs ys)) (sym (total_append counted_parts xs ys)) (sym (total_append axiom_expressions xs ys))
+        (rises_both s mid new (length xs) (total counted_parts xs) (total axiom_expressions xs) (length ys) (total counted_parts ys) (total axiom_expressions ys) first.rises second.rises);
     listed = uses_append (length f.classes) (length f.roles) xs ys first.listed second.listed;
     whole = list_all-append (λ (a : Numbered). is_whole_axiom a.axiom) xs ys ∙ and_both (list_all (λ (a : Numbered). is_whole_axiom a.axiom) xs) (list_all (λ (a : Numbered). is_whole_axiom a.axiom) ys) first.whole second.whole;
     nested = list_all-append (λ (a : Numbered). nat_le (axiom_brackets a.axiom) 63) xs ys ∙ and_both (list_all (λ (a : Numbered). nat_le (axiom_brackets a.axiom) 63) xs) (list_all (λ (a : Numbered). nat_le (axiom_brackets a.axiom) 63) ys) first.nested second.nested;
@@ -150,9 +151,9 @@ module _ (ps : List Prefix) (prefixes : AreGoodPrefixes ps) (f : Counts) where
       (omega (arith, inner.nested, deep))
 
   -- equivalent and disjoint classes
-  many_said : (con : List Concept → Axiom) → ((cs : List Concept) → axiom_uses_listed (length f.classes) (length f.roles) (con cs) ≡ parts_use_listed (length f.classes) (length f.roles) (parts_of cs)) → ((cs : List Concept) → has_enough_items (con cs) ≡ nat_le 2 (length cs))
+  many_said : (con : List Concept → Axiom) → ((cs : List Concept) → axiom_uses_listed (length f.classes) (length f.roles) (con cs) ≡ parts_use_listed (length f.classes) (length f.roles) (parts_of cs)) → ((cs : List Concept) → has_item_count (con cs) ≡ nat_le 2 (length cs))
       → ((cs : List Concept) → has_whole_items (con cs) ≡ are_whole (parts_of cs)) → ((cs : List Concept) → axiom_expressions (con cs) ≡ all_expressions (parts_of cs)) → ((cs : List Concept) → axiom_brackets (con cs) ≡ most_brackets (parts_of cs) + 1)
-      → (count : ℕ → ℕ) → ((cs : List Concept) → axiom_parts (con cs) ≡ count (length cs)) → (n : ℕ) (is : Items) → AreGoodItems is → nesting_all is ≤ 62 → (s new : Counts)
+      → (count : ℕ → ℕ) → ((cs : List Concept) → counted_parts (con cs) ≡ count (length cs)) → (n : ℕ) (is : Items) → AreGoodItems is → nesting_all is ≤ 62 → (s new : Counts)
       → walked s (axiom_group_tests n (nat_le 2 (item_count is)) (count (item_count is)) (joined (each_class ps is))) ≡ Ok new → Keeps new f → Said s new n (con (part_list (concepts_of ps f is)) ∷ [])
   many_said con lists enough wholes nodes nests count counts n is good deep s new h keeps =
       let cs : Parts = concepts_of ps f is in
@@ -161,10 +162,10 @@ module _ (ps : List Prefix) (prefixes : AreGoodPrefixes ps) (f : Counts) where
       let many : length l ≡ item_count is = count_read ps prefixes f is in
       let b = begins s new n (nat_le 2 (item_count is)) (count (item_count is)) (joined (each_class ps is)) h in
       let inner = parts_read ps prefixes f is (all_classes_read ps prefixes f is good) b.mid new b.later keeps in
-      let parts_are : count (item_count is) + 0 ≡ axiom_parts (con l) = omega (arith, counts l, ap count many) in
+      let parts_are : count (item_count is) + 0 ≡ counted_parts (con l) = omega (arith, counts l, ap count many) in
       let nodes_are : 0 + all_expressions cs ≡ axiom_expressions (con l) = omega (arith, nodes l, ap all_expressions back) in
       one_said s new n (con l)
-      (rises_as s new 1 (count (item_count is) + 0) (0 + all_expressions cs) 1 (axiom_parts (con l)) (axiom_expressions (con l)) refl parts_are nodes_are
+      (rises_as s new 1 (count (item_count is) + 0) (0 + all_expressions cs) 1 (counted_parts (con l)) (axiom_expressions (con l)) refl parts_are nodes_are
       (rises_both s b.mid new 1 (count (item_count is)) 0 0 0 (all_expressions cs) b.rises inner.rises))
       (lists l ∙ ap (parts_use_listed (length f.classes) (length f.roles)) back ∙ inner.listed)
       (enough l ∙ ap (nat_le 2) many ∙ b.fits)

@@ -18,7 +18,8 @@ use Rattle.ofn_expressions.specs.Classes as classes
 use Rattle.ofn_expressions.specs.Classes.{item_count, is_thing, is_nothing, listed_class, class_name_tests, listed_role, role_name_tests, role_group_tests, role_tests, roles_tests, cardinality_in, number_tests_of, number_tests, joined, class_tests, each_class, place, or_zero, class_named, role_named, role_of, roles_of, concept_of, concepts_of, Keeps}
 use Rattle.ofn_expressions.specs.declared.construct.Construct.{Construct}
 use Rattle.ofn_expressions.proofs.Kept.{place_listed, place_within}
-use Rattle.written_ontologies.specs.Writable.{is_iri, is_class_iri, is_role_iri, is_whole, are_whole, brackets, most_brackets, expressions, all_expressions, is_named}
+use Rattle.written_ontologies.specs.Writable.{is_iri, is_class_iri, is_role_iri, brackets, most_brackets, expressions, all_expressions, is_named}
+use Rattle.written_ontologies.proofs.Whole.{is_whole, are_whole}
 use Rattle.written_ontologies.proofs.Checks.{and_both, true_le, le_true, eq_true}
 use Rattle.written_ontologies.proofs.Keywords as keywords
 use Rattle.written_ontologies.proofs.GoodTokens.{IsGoodItem, AreGoodItems}

@@ -18,7 +18,8 @@ use Rattle.ofn_tree.specs.Items.{nesting, nesting_all}
 use Rattle.ofn_expressions.specs.Constructs.{excluded_role_name}
 use Rattle.ofn_expressions.specs.Classes.{is_digit, cardinality_in, is_thing, is_nothing}
 use Rattle.ofn_writer.specs.Canonical.{group_text, concept_text, part_texts, role_text, role_texts, axiom_text}
-use Rattle.written_ontologies.specs.Writable.{is_iri, is_class_iri, is_role_iri, is_whole, are_whole, brackets, most_brackets, is_named, has_whole_items, axiom_brackets, expressions}
+use Rattle.written_ontologies.specs.Writable.{is_iri, is_class_iri, is_role_iri, brackets, most_brackets, is_named, axiom_brackets, expressions}
+use Rattle.written_ontologies.proofs.Whole.{is_whole, are_whole, has_whole_items}
 use Rattle.written_ontologies.proofs.Checks.{and_left, and_right, and_both, true_lt, true_le}
 use Rattle.written_ontologies.proofs.Phrases.{Phrase, word, iri, call, Phrases, none, more, text_of, texts_of, is_name, can_stand, can_all_stand, item_of, all_items}
 

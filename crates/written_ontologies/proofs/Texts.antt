@@ -11,7 +11,8 @@ use Rattle.ofn_tree.specs.Items.{nesting, nesting_all}
 use Rattle.ofn_expressions.specs.Constructs.{excluded_role_name}
 use Rattle.ofn_expressions.specs.Classes.{is_thing, is_nothing}
 use Rattle.ofn_writer.specs.Canonical.{items_text, line, declaration_lines, axiom_lines, ontology_text}
-use Rattle.written_ontologies.specs.Writable.{is_iri, has_enough_items, has_whole_items, is_whole_axiom, axiom_brackets, CanBeWritten}
+use Rattle.written_ontologies.specs.Writable.{is_iri, axiom_brackets, CanBeWritten}
+use Rattle.written_ontologies.proofs.Whole.{has_item_count, has_whole_items, is_whole_axiom, whole_of}
 use Rattle.written_ontologies.proofs.Checks.{and_left, and_right, and_both, true_le}
 use Rattle.written_ontologies.proofs.Phrases.{Phrase, word, iri, call, Phrases, none, more, text_of, texts_of, can_stand, all_can_stand, item_of, lines_text, lines_items}
 use Rattle.written_ontologies.proofs.Terms.{one, axiom_phrase, axiom_written, axiom_nests, IsText, AreTexts, AreSpelled, Stands, iri_stands, stands_call, stand_one, low_text, axiom_stands}
@@ -20,7 +21,7 @@ use Rattle.written_ontologies.proofs.Declared.{declaration, declarations, axiom_
 -- ---- UTF-8
 
 mutual
-  text_utf8 : (p : Phrase) → IsText p → IsUtf8 (text_of p)
+  pub text_utf8 : (p : Phrase) → IsText p → IsUtf8 (text_of p)
   text_utf8 (word w) h = h
   text_utf8 (iri w) h = IsUtf8-append (60 ∷ []) (w ++ 62 ∷ []) (low_text (60 ∷ []) refl) (IsUtf8-append w (62 ∷ []) h (low_text (62 ∷ []) refl))
   text_utf8 (call w ps) h =
@@ -129,7 +130,7 @@ module _ (o : Listed) (names : AreSpelled o) where
       let good : Bool = list_all (λ (b : Numbered). is_whole_axiom b.axiom) rest in
       let here : is_whole_axiom a.axiom ≡ true = and_left (is_whole_axiom a.axiom) good whole in
       cons_stand (axiom_phrase o a.axiom) (axiom_phrases o rest)
-      (axiom_stands o names a.axiom (and_left (known a) others listed) (and_right (has_enough_items a.axiom) (has_whole_items a.axiom) here))
+      (axiom_stands o names a.axiom (and_left (known a) others listed) (and_right (has_item_count a.axiom) (has_whole_items a.axiom) here))
       (axioms_stand rest (and_right (known a) others listed) (and_right (is_whole_axiom a.axiom) good whole))
 
   pub document_stands : CanBeWritten o → AllStand (document_phrases o)
@@ -138,7 +139,7 @@ module _ (o : Listed) (names : AreSpelled o) where
       (declarations_stand (codes "Class") class_stands (λ w. not (is_thing w) && not (is_nothing w)) o.classes can.class_iris)
       (append_stand (declarations (codes "ObjectProperty") o.roles) (axiom_phrases o o.axioms)
       (declarations_stand (codes "ObjectProperty") role_stands (λ w. is_none (excluded_role_name w)) o.roles can.role_iris)
-      (axioms_stand o.axioms can.listed can.whole))
+      (axioms_stand o.axioms can.within.listed (whole_of o can)))
 
 -- ---- how deep they nest
 
@@ -161,7 +162,7 @@ axioms_nest o (a ∷ rest) whole nested n =
     let good : Bool = list_all (λ (b : Numbered). is_whole_axiom b.axiom) rest in
     let flat : Bool = list_all (λ (b : Numbered). nat_le (axiom_brackets b.axiom) 63) rest in
     let here : is_whole_axiom a.axiom ≡ true = and_left (is_whole_axiom a.axiom) good whole in
-    let deep : nesting (item_of n (axiom_phrase o a.axiom)) ≡ axiom_brackets a.axiom = axiom_nests o n a.axiom (and_right (has_enough_items a.axiom) (has_whole_items a.axiom) here) in
+    let deep : nesting (item_of n (axiom_phrase o a.axiom)) ≡ axiom_brackets a.axiom = axiom_nests o n a.axiom (and_right (has_item_count a.axiom) (has_whole_items a.axiom) here) in
     let few : axiom_brackets a.axiom ≤ 63 = true_le (axiom_brackets a.axiom) 63 (and_left (nat_le (axiom_brackets a.axiom) 63) flat nested) in
     let others : nesting_all (lines_items (n + 1) (axiom_phrases o rest)) ≤ 63 = axioms_nest o rest (and_right (is_whole_axiom a.axiom) good whole) (and_right (nat_le (axiom_brackets a.axiom) 63) flat nested) (n + 1) in
     omega (arith, deep, few, others)
@@ -169,4 +170,4 @@ axioms_nest o (a ∷ rest) whole nested n =
 pub document_nests : (o : Listed) → CanBeWritten o → (n : ℕ) → Nests n (document_phrases o)
 document_nests o can n =
     append_nests n (declarations (codes "Class") o.classes) (declarations (codes "ObjectProperty") o.roles ++ axiom_phrases o o.axioms) (declarations_nest (codes "Class") n o.classes)
-    (λ m. append_nests m (declarations (codes "ObjectProperty") o.roles) (axiom_phrases o o.axioms) (declarations_nest (codes "ObjectProperty") m o.roles) (axioms_nest o o.axioms can.whole can.nested))
+    (λ m. append_nests m (declarations (codes "ObjectProperty") o.roles) (axiom_phrases o o.axioms) (declarations_nest (codes "ObjectProperty") m o.roles) (axioms_nest o o.axioms (whole_of o can) can.nested))

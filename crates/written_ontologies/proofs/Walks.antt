@@ -1,6 +1,6 @@
 -- The tests of class expressions and axioms whose names are listed already.
-use Rattle.std.proofs.Common.{◌≡◌, ℕ, ◌+◌, ◌<◌, ◌≤◌, Bool, true, false, cond, List, [], ◌∷◌, ◌++◌, length, Some, None, Ok, Err, refl, ap, ◌∙◌, arith, codes, decimal, nat_lt}
-use Rattle.std.specs.Prelude.{nat_le, slice_index_or}
+use Rattle.std.proofs.Common.{◌≡◌, ℕ, ◌+◌, ◌<◌, ◌≤◌, Bool, true, false, cond, List, [], ◌∷◌, ◌++◌, length, Option, Some, None, Ok, Err, refl, ap, ◌∙◌, arith, codes, decimal, nat_lt}
+use Rattle.std.specs.Prelude.{nat_le, slice_index_or, is_some}
 use Rattle.std.specs.List.{list_all}
 use Rattle.shq_base.specs.Concept.{Concept, top, bottom, name, complement, intersection, union, some_of, all_of, at_least, at_most, exactly, Parts, no_parts, part, part_list}
 use Rattle.shq_terms.specs.Listed.{Listed}
@@ -9,11 +9,13 @@ use Rattle.shq_terms.specs.Uses.{uses_listed, parts_use_listed}
 use Rattle.ofn_tree.specs.Items.{name_item, Items}
 use Rattle.ofn_expressions.specs.Counts.{Counts}
 use Rattle.ofn_expressions.specs.Walk.{Test, shape, prefix, nodes, class, role, number, holds, refusal, counts_after, walked}
-use Rattle.ofn_expressions.specs.Names.{predeclared}
+use Rattle.ofn_expressions.specs.Names.{Prefix, prefix_iri, full_iri}
 use Rattle.ofn_expressions.specs.Constructs.{excluded_role_name}
 use Rattle.ofn_expressions.specs.Classes.{item_count, is_thing, is_nothing, listed_class, listed_role, role_tests, roles_tests, number_tests, number_tests_of, joined, class_tests, each_class, class_name_tests, place}
 use Rattle.ofn_expressions.proofs.Walks.{walked-cons, goes_on}
-use Rattle.written_ontologies.specs.Writable.{is_whole, are_whole, expressions, all_expressions}
+use Rattle.written_ontologies.specs.Writable.{expressions, all_expressions}
+use Rattle.written_ontologies.specs.Laws.{owl_iri, KnowsOwl}
+use Rattle.written_ontologies.proofs.Whole.{is_whole, are_whole}
 use Rattle.written_ontologies.proofs.Checks.{and_left, and_right, le_true, true_lt, true_le}
 use Rattle.written_ontologies.proofs.Phrases.{item_of, all_items}
 use Rattle.written_ontologies.proofs.Terms.{class_phrase, role_phrase, concept_phrase, part_phrases, role_phrases, decimal_number}
@@ -40,7 +42,7 @@ pub record AreKnown (o : Listed) : Type 0 where
 abbrev pub counted : Listed → ℕ → ℕ → ℕ → Counts
 counted o a p n = record { axioms = a; parts = p; nodes = n; classes = o.classes; roles = o.roles }
 
-module _ (o : Listed) (names : AreKnown o) (a p : ℕ) where
+module _ (ps : List Prefix) (knows : KnowsOwl ps) (o : Listed) (names : AreKnown o) (a p : ℕ) where
   with_known : (w : List ℕ) (all : List (List ℕ)) (k : ℕ) → place w all ≡ Some k → with_name all w ≡ all
   with_known w all k known = ap (λ r. with_at r all w) known
 
@@ -63,25 +65,37 @@ module _ (o : Listed) (names : AreKnown o) (a p : ℕ) where
 
   -- ---- names
 
-  pub role_walk : (n line r : ℕ) → r < length o.roles → walked (counted o a p n) (role_tests predeclared (item_of line (role_phrase o r))) ≡ Ok (counted o a p n)
+  pub role_walk : (n line r : ℕ) → r < length o.roles → walked (counted o a p n) (role_tests ps (item_of line (role_phrase o r))) ≡ Ok (counted o a p n)
   role_walk n line r less =
       let w : List ℕ = slice_index_or o.roles r [] in
       ap (λ e. walked (counted o a p n) (listed_role e line w)) (names.no_excluded r less) ∙ role_step n line r [] less
 
-  class_name_walk : (n line c : ℕ) → c < length o.classes → n + 1 ≤ 262144 → walked (counted o a p n) (class_name_tests predeclared (item_of line (class_phrase o c))) ≡ Ok (counted o a p (n + 1))
+  class_name_walk : (n line c : ℕ) → c < length o.classes → n + 1 ≤ 262144 → walked (counted o a p n) (class_name_tests ps (item_of line (class_phrase o c))) ≡ Ok (counted o a p (n + 1))
   class_name_walk n line c less few =
       let w : List ℕ = slice_index_or o.classes c [] in
       nodes_step n 1 line (listed_class line w) few
       ∙ (λ i. walked (counted o a p (n + 1)) (cond (names.no_thing c less i) [] (cond (names.no_nothing c less i) [] (class line w ∷ []))))
       ∙ class_step (n + 1) line c [] less
 
-  thing_walk : (n line : ℕ) → n + 1 ≤ 262144 → walked (counted o a p n) (class_name_tests predeclared (name_item (codes "owl:Thing") line)) ≡ Ok (counted o a p (n + 1))
-  unfolding predeclared is_thing
-  thing_walk n line few = step (counted o a p n) (shape line true) (prefix line true ∷ (nodes line 1 ∷ [])) refl ∙ step (counted o a p n) (prefix line true) (nodes line 1 ∷ []) refl ∙ nodes_step n 1 line [] few
+  -- a name with the prefix of `owl:Thing`
+  abbrev owl_tests : Option (List ℕ) → List ℕ → ℕ → List Test
+  owl_tests iri rest line = shape line true ∷ (prefix line (is_some iri) ∷ (nodes line 1 ∷ listed_class line (full_iri iri rest)))
 
-  nothing_walk : (n line : ℕ) → n + 1 ≤ 262144 → walked (counted o a p n) (class_name_tests predeclared (name_item (codes "owl:Nothing") line)) ≡ Ok (counted o a p (n + 1))
-  unfolding predeclared is_thing is_nothing
-  nothing_walk n line few = step (counted o a p n) (shape line true) (prefix line true ∷ (nodes line 1 ∷ [])) refl ∙ step (counted o a p n) (prefix line true) (nodes line 1 ∷ []) refl ∙ nodes_step n 1 line [] few
+  owl_walk : (n line : ℕ) (rest : List ℕ) → listed_class line (full_iri (Some owl_iri) rest) ≡ [] → n + 1 ≤ 262144 → walked (counted o a p n) (owl_tests (prefix_iri ps (codes "owl")) rest line) ≡ Ok (counted o a p (n + 1))
+  owl_walk n line rest none few =
+      ap (λ r. walked (counted o a p n) (owl_tests r rest line)) knows
+      ∙ ap (λ ts. walked (counted o a p n) (shape line true ∷ (prefix line true ∷ (nodes line 1 ∷ ts)))) none
+      ∙ step (counted o a p n) (shape line true) (prefix line true ∷ (nodes line 1 ∷ [])) refl
+      ∙ step (counted o a p n) (prefix line true) (nodes line 1 ∷ []) refl
+      ∙ nodes_step n 1 line [] few
+
+  thing_walk : (n line : ℕ) → n + 1 ≤ 262144 → walked (counted o a p n) (class_name_tests ps (name_item (codes "owl:Thing") line)) ≡ Ok (counted o a p (n + 1))
+  unfolding is_thing
+  thing_walk n line few = owl_walk n line (codes "Thing") refl few
+
+  nothing_walk : (n line : ℕ) → n + 1 ≤ 262144 → walked (counted o a p n) (class_name_tests ps (name_item (codes "owl:Nothing") line)) ≡ Ok (counted o a p (n + 1))
+  unfolding is_thing is_nothing
+  nothing_walk n line few = owl_walk n line (codes "Nothing") refl few
 
   -- ---- groups
 
@@ -103,27 +117,27 @@ module _ (o : Listed) (names : AreKnown o) (a p : ℕ) where
   all_listed cs = parts_use_listed (length o.classes) (length o.roles) cs
 
   abbrev Walks : ℕ → ℕ → Concept → Type 0
-  Walks n line c = walked (counted o a p n) (class_tests predeclared (item_of line (concept_phrase o c))) ≡ Ok (counted o a p (n + expressions c))
+  Walks n line c = walked (counted o a p n) (class_tests ps (item_of line (concept_phrase o c))) ≡ Ok (counted o a p (n + expressions c))
 
   sum_of : (n k m : ℕ) → n + k + m ≡ n + (k + m)
   sum_of n k m = omega arith
 
-  valued_walk : (n line r : ℕ) (c : Concept) (all : List Test) → all ≡ group_tests line true (role_tests predeclared (item_of line (role_phrase o r)) ++ (class_tests predeclared (item_of line (concept_phrase o c)) ++ []))
+  valued_walk : (n line r : ℕ) (c : Concept) (all : List Test) → all ≡ group_tests line true (role_tests ps (item_of line (role_phrase o r)) ++ (class_tests ps (item_of line (concept_phrase o c)) ++ []))
       → nat_lt r (length o.roles) ≡ true → n + (1 + expressions c) ≤ 262144 → Walks (n + 1) line c → walked (counted o a p n) all ≡ Ok (counted o a p (n + (1 + expressions c)))
   valued_walk n line r c all is less few inner =
-      let ts : List Test = class_tests predeclared (item_of line (concept_phrase o c)) in
-      let rs : List Test = role_tests predeclared (item_of line (role_phrase o r)) in
+      let ts : List Test = class_tests ps (item_of line (concept_phrase o c)) in
+      let rs : List Test = role_tests ps (item_of line (role_phrase o r)) in
       group_walk n line all true (rs ++ (ts ++ [])) is refl (omega (arith, few))
       ∙ goes_on (counted o a p (n + 1)) (counted o a p (n + 1)) rs (ts ++ []) (role_walk (n + 1) line r (true_lt r (length o.roles) less))
       ∙ alone (counted o a p (n + 1)) (counted o a p (n + 1 + expressions c)) ts inner
       ∙ ap (λ m. Ok (counted o a p m)) (sum_of n 1 (expressions c))
 
   bounded_walk : (n line k r : ℕ) (c : Concept) (all : List Test)
-      → all ≡ group_tests line true (number_tests (name_item (decimal k) line) ++ (role_tests predeclared (item_of line (role_phrase o r)) ++ (class_tests predeclared (item_of line (concept_phrase o c)) ++ [])))
+      → all ≡ group_tests line true (number_tests (name_item (decimal k) line) ++ (role_tests ps (item_of line (role_phrase o r)) ++ (class_tests ps (item_of line (concept_phrase o c)) ++ [])))
       → nat_le k 100 ≡ true → nat_lt r (length o.roles) ≡ true → n + (1 + expressions c) ≤ 262144 → Walks (n + 1) line c → walked (counted o a p n) all ≡ Ok (counted o a p (n + (1 + expressions c)))
   bounded_walk n line k r c all is small less few inner =
-      let ts : List Test = class_tests predeclared (item_of line (concept_phrase o c)) in
-      let rs : List Test = role_tests predeclared (item_of line (role_phrase o r)) in
+      let ts : List Test = class_tests ps (item_of line (concept_phrase o c)) in
+      let rs : List Test = role_tests ps (item_of line (role_phrase o r)) in
       group_walk n line all true (number_tests (name_item (decimal k) line) ++ (rs ++ (ts ++ []))) is refl (omega (arith, few))
       ∙ number_walk (n + 1) line k (rs ++ (ts ++ [])) (true_le k 100 small)
       ∙ goes_on (counted o a p (n + 1)) (counted o a p (n + 1)) rs (ts ++ []) (role_walk (n + 1) line r (true_lt r (length o.roles) less))
@@ -135,13 +149,13 @@ module _ (o : Listed) (names : AreKnown o) (a p : ℕ) where
   count_parts line (part c cs) = omega (arith, count_parts line cs)
 
   -- an intersection or a union
-  parts_walk_in : (n line : ℕ) (cs : Parts) (all : List Test) → all ≡ group_tests line (nat_le 2 (item_count (all_items line (part_phrases o cs)))) (joined (each_class predeclared (all_items line (part_phrases o cs))))
+  parts_walk_in : (n line : ℕ) (cs : Parts) (all : List Test) → all ≡ group_tests line (nat_le 2 (item_count (all_items line (part_phrases o cs)))) (joined (each_class ps (all_items line (part_phrases o cs))))
       → nat_le 2 (length (part_list cs)) ≡ true → n + (1 + all_expressions cs) ≤ 262144
-      → walked (counted o a p (n + 1)) (joined (each_class predeclared (all_items line (part_phrases o cs)))) ≡ Ok (counted o a p (n + 1 + all_expressions cs))
+      → walked (counted o a p (n + 1)) (joined (each_class ps (all_items line (part_phrases o cs)))) ≡ Ok (counted o a p (n + 1 + all_expressions cs))
       → walked (counted o a p n) all ≡ Ok (counted o a p (n + (1 + all_expressions cs)))
   parts_walk_in n line cs all is many few inner =
       let items : Items = all_items line (part_phrases o cs) in
-      group_walk n line all (nat_le 2 (item_count items)) (joined (each_class predeclared items)) is (ap (nat_le 2) (count_parts line cs) ∙ many) (omega (arith, few))
+      group_walk n line all (nat_le 2 (item_count items)) (joined (each_class ps items)) is (ap (nat_le 2) (count_parts line cs) ∙ many) (omega (arith, few))
       ∙ inner
       ∙ ap (λ m. Ok (counted o a p m)) (sum_of n 1 (all_expressions cs))
 
@@ -152,52 +166,52 @@ module _ (o : Listed) (names : AreKnown o) (a p : ℕ) where
     concept_walk n line (name c) known whole few = class_name_walk n line c (true_lt c (length o.classes) known) few
     concept_walk n line (complement c) known whole few =
         let inner : n + 1 + expressions c ≤ 262144 = omega (arith, few) in
-        group_walk n line (class_tests predeclared (item_of line (concept_phrase o (complement c)))) true (class_tests predeclared (item_of line (concept_phrase o c)) ++ [])
-        (complement_tests predeclared line (item_of line (concept_phrase o c))) refl (omega (arith, few))
-        ∙ alone (counted o a p (n + 1)) (counted o a p (n + 1 + expressions c)) (class_tests predeclared (item_of line (concept_phrase o c))) (concept_walk (n + 1) line c known whole inner)
+        group_walk n line (class_tests ps (item_of line (concept_phrase o (complement c)))) true (class_tests ps (item_of line (concept_phrase o c)) ++ [])
+        (complement_tests ps line (item_of line (concept_phrase o c))) refl (omega (arith, few))
+        ∙ alone (counted o a p (n + 1)) (counted o a p (n + 1 + expressions c)) (class_tests ps (item_of line (concept_phrase o c))) (concept_walk (n + 1) line c known whole inner)
         ∙ ap (λ m. Ok (counted o a p m)) (sum_of n 1 (expressions c))
     concept_walk n line (intersection cs) known whole few =
         let inner : n + 1 + all_expressions cs ≤ 262144 = omega (arith, few) in
-        parts_walk_in n line cs (class_tests predeclared (item_of line (concept_phrase o (intersection cs)))) (intersection_tests predeclared line (all_items line (part_phrases o cs))) (and_left (nat_le 2 (length (part_list cs))) (are_whole cs) whole) few
+        parts_walk_in n line cs (class_tests ps (item_of line (concept_phrase o (intersection cs)))) (intersection_tests ps line (all_items line (part_phrases o cs))) (and_left (nat_le 2 (length (part_list cs))) (are_whole cs) whole) few
         (parts_walk (n + 1) line cs known (and_right (nat_le 2 (length (part_list cs))) (are_whole cs) whole) inner)
     concept_walk n line (union cs) known whole few =
         let inner : n + 1 + all_expressions cs ≤ 262144 = omega (arith, few) in
-        parts_walk_in n line cs (class_tests predeclared (item_of line (concept_phrase o (union cs)))) (union_tests predeclared line (all_items line (part_phrases o cs))) (and_left (nat_le 2 (length (part_list cs))) (are_whole cs) whole) few
+        parts_walk_in n line cs (class_tests ps (item_of line (concept_phrase o (union cs)))) (union_tests ps line (all_items line (part_phrases o cs))) (and_left (nat_le 2 (length (part_list cs))) (are_whole cs) whole) few
         (parts_walk (n + 1) line cs known (and_right (nat_le 2 (length (part_list cs))) (are_whole cs) whole) inner)
     concept_walk n line (some_of r c) known whole few =
         let inner : n + 1 + expressions c ≤ 262144 = omega (arith, few) in
-        valued_walk n line r c (class_tests predeclared (item_of line (concept_phrase o (some_of r c)))) (some_tests predeclared line (item_of line (role_phrase o r)) (item_of line (concept_phrase o c))) (and_left (nat_lt r (length o.roles)) (listed c) known) few (concept_walk (n + 1) line c (and_right (nat_lt r (length o.roles)) (listed c) known) whole inner)
+        valued_walk n line r c (class_tests ps (item_of line (concept_phrase o (some_of r c)))) (some_tests ps line (item_of line (role_phrase o r)) (item_of line (concept_phrase o c))) (and_left (nat_lt r (length o.roles)) (listed c) known) few (concept_walk (n + 1) line c (and_right (nat_lt r (length o.roles)) (listed c) known) whole inner)
     concept_walk n line (all_of r c) known whole few =
         let inner : n + 1 + expressions c ≤ 262144 = omega (arith, few) in
-        valued_walk n line r c (class_tests predeclared (item_of line (concept_phrase o (all_of r c)))) (all_tests predeclared line (item_of line (role_phrase o r)) (item_of line (concept_phrase o c))) (and_left (nat_lt r (length o.roles)) (listed c) known) few (concept_walk (n + 1) line c (and_right (nat_lt r (length o.roles)) (listed c) known) whole inner)
+        valued_walk n line r c (class_tests ps (item_of line (concept_phrase o (all_of r c)))) (all_tests ps line (item_of line (role_phrase o r)) (item_of line (concept_phrase o c))) (and_left (nat_lt r (length o.roles)) (listed c) known) few (concept_walk (n + 1) line c (and_right (nat_lt r (length o.roles)) (listed c) known) whole inner)
     concept_walk n line (at_least k r c) known whole few =
         let inner : n + 1 + expressions c ≤ 262144 = omega (arith, few) in
-        bounded_walk n line k r c (class_tests predeclared (item_of line (concept_phrase o (at_least k r c)))) (least_tests predeclared line (name_item (decimal k) line) (item_of line (role_phrase o r)) (item_of line (concept_phrase o c))) (and_left (nat_le k 100) (is_whole c) whole) (and_left (nat_lt r (length o.roles)) (listed c) known) few
+        bounded_walk n line k r c (class_tests ps (item_of line (concept_phrase o (at_least k r c)))) (least_tests ps line (name_item (decimal k) line) (item_of line (role_phrase o r)) (item_of line (concept_phrase o c))) (and_left (nat_le k 100) (is_whole c) whole) (and_left (nat_lt r (length o.roles)) (listed c) known) few
         (concept_walk (n + 1) line c (and_right (nat_lt r (length o.roles)) (listed c) known) (and_right (nat_le k 100) (is_whole c) whole) inner)
     concept_walk n line (at_most k r c) known whole few =
         let inner : n + 1 + expressions c ≤ 262144 = omega (arith, few) in
-        bounded_walk n line k r c (class_tests predeclared (item_of line (concept_phrase o (at_most k r c)))) (most_tests predeclared line (name_item (decimal k) line) (item_of line (role_phrase o r)) (item_of line (concept_phrase o c))) (and_left (nat_le k 100) (is_whole c) whole) (and_left (nat_lt r (length o.roles)) (listed c) known) few
+        bounded_walk n line k r c (class_tests ps (item_of line (concept_phrase o (at_most k r c)))) (most_tests ps line (name_item (decimal k) line) (item_of line (role_phrase o r)) (item_of line (concept_phrase o c))) (and_left (nat_le k 100) (is_whole c) whole) (and_left (nat_lt r (length o.roles)) (listed c) known) few
         (concept_walk (n + 1) line c (and_right (nat_lt r (length o.roles)) (listed c) known) (and_right (nat_le k 100) (is_whole c) whole) inner)
     concept_walk n line (exactly k r c) known whole few =
         let inner : n + 1 + expressions c ≤ 262144 = omega (arith, few) in
-        bounded_walk n line k r c (class_tests predeclared (item_of line (concept_phrase o (exactly k r c)))) (exact_tests predeclared line (name_item (decimal k) line) (item_of line (role_phrase o r)) (item_of line (concept_phrase o c))) (and_left (nat_le k 100) (is_whole c) whole) (and_left (nat_lt r (length o.roles)) (listed c) known) few
+        bounded_walk n line k r c (class_tests ps (item_of line (concept_phrase o (exactly k r c)))) (exact_tests ps line (name_item (decimal k) line) (item_of line (role_phrase o r)) (item_of line (concept_phrase o c))) (and_left (nat_le k 100) (is_whole c) whole) (and_left (nat_lt r (length o.roles)) (listed c) known) few
         (concept_walk (n + 1) line c (and_right (nat_lt r (length o.roles)) (listed c) known) (and_right (nat_le k 100) (is_whole c) whole) inner)
 
     pub parts_walk : (n line : ℕ) (cs : Parts) → all_listed cs ≡ true → are_whole cs ≡ true → n + all_expressions cs ≤ 262144
-        → walked (counted o a p n) (joined (each_class predeclared (all_items line (part_phrases o cs)))) ≡ Ok (counted o a p (n + all_expressions cs))
+        → walked (counted o a p n) (joined (each_class ps (all_items line (part_phrases o cs)))) ≡ Ok (counted o a p (n + all_expressions cs))
     parts_walk n line no_parts known whole few = let same : n ≡ n + 0 = omega arith in ap (λ m. Ok (counted o a p m)) same
     parts_walk n line (part c cs) known whole few =
         let first : n + expressions c ≤ 262144 = omega (arith, few) in
         let others : n + expressions c + all_expressions cs ≤ 262144 = omega (arith, few) in
-        goes_on (counted o a p n) (counted o a p (n + expressions c)) (class_tests predeclared (item_of line (concept_phrase o c))) (joined (each_class predeclared (all_items line (part_phrases o cs))))
+        goes_on (counted o a p n) (counted o a p (n + expressions c)) (class_tests ps (item_of line (concept_phrase o c))) (joined (each_class ps (all_items line (part_phrases o cs))))
         (concept_walk n line c (and_left (listed c) (all_listed cs) known) (and_left (is_whole c) (are_whole cs) whole) first)
         ∙ parts_walk (n + expressions c) line cs (and_right (listed c) (all_listed cs) known) (and_right (is_whole c) (are_whole cs) whole) others
         ∙ ap (λ m. Ok (counted o a p m)) (sum_of n (expressions c) (all_expressions cs))
 
-  pub roles_walk : (n line : ℕ) (rs : List ℕ) → list_all (λ r. nat_lt r (length o.roles)) rs ≡ true → walked (counted o a p n) (roles_tests predeclared (all_items line (role_phrases o rs))) ≡ Ok (counted o a p n)
+  pub roles_walk : (n line : ℕ) (rs : List ℕ) → list_all (λ r. nat_lt r (length o.roles)) rs ≡ true → walked (counted o a p n) (roles_tests ps (all_items line (role_phrases o rs))) ≡ Ok (counted o a p n)
   roles_walk n line [] known = refl
   roles_walk n line (r ∷ rs) known =
       let here : Bool = nat_lt r (length o.roles) in
       let others : Bool = list_all (λ s. nat_lt s (length o.roles)) rs in
-      goes_on (counted o a p n) (counted o a p n) (role_tests predeclared (item_of line (role_phrase o r))) (roles_tests predeclared (all_items line (role_phrases o rs))) (role_walk n line r (true_lt r (length o.roles) (and_left here others known)))
+      goes_on (counted o a p n) (counted o a p n) (role_tests ps (item_of line (role_phrase o r))) (roles_tests ps (all_items line (role_phrases o rs))) (role_walk n line r (true_lt r (length o.roles) (and_left here others known)))
       ∙ roles_walk n line rs (and_right here others known)

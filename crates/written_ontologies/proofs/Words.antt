@@ -77,8 +77,9 @@ no_axiom_word : (w : List ℕ) → bytes_eq w (codes "SubClassOf") ≡ false →
 unfolding axiom_keyword
 no_axiom_word w a1 a2 a3 a4 a5 a6 a7 a8 a9 a10 a11 a12 a13 a14 a15 a16 = passed _ _ _ a1 ∙ passed _ _ _ a2 ∙ passed _ _ _ a3 ∙ passed _ _ _ a4 ∙ passed _ _ _ a5 ∙ passed _ _ _ a6 ∙ passed _ _ _ a7 ∙ passed _ _ _ a8 ∙ passed _ _ _ a9 ∙ passed _ _ _ a10 ∙ passed _ _ _ a11 ∙ passed _ _ _ a12 ∙ passed _ _ _ a13 ∙ passed _ _ _ a14 ∙ passed _ _ _ a15 ∙ passed _ _ _ a16
 
-pub axiom_words : (P : List ℕ → Type 0) → P (codes "SubClassOf") → P (codes "EquivalentClasses") → P (codes "DisjointClasses") → P (codes "DisjointUnion") → P (codes "SubObjectPropertyOf") → P (codes "EquivalentObjectProperties") → P (codes "ObjectPropertyDomain") → P (codes "ObjectPropertyRange") → P (codes "FunctionalObjectProperty") → P (codes "TransitiveObjectProperty") → P (codes "Declaration") → P (codes "Annotation") → P (codes "AnnotationAssertion") → P (codes "SubAnnotationPropertyOf") → P (codes "AnnotationPropertyDomain") → P (codes "AnnotationPropertyRange") → ((w : List ℕ) → NoAxiom w → P w) → (w : List ℕ) → P w
-axiom_words P p1 p2 p3 p4 p5 p6 p7 p8 p9 p10 p11 p12 p13 p14 p15 p16 other w =
+-- each keyword, and each other word
+pub keyword_words : (P : List ℕ → Type 0) → P (codes "SubClassOf") → P (codes "EquivalentClasses") → P (codes "DisjointClasses") → P (codes "DisjointUnion") → P (codes "SubObjectPropertyOf") → P (codes "EquivalentObjectProperties") → P (codes "ObjectPropertyDomain") → P (codes "ObjectPropertyRange") → P (codes "FunctionalObjectProperty") → P (codes "TransitiveObjectProperty") → P (codes "Declaration") → P (codes "Annotation") → P (codes "AnnotationAssertion") → P (codes "SubAnnotationPropertyOf") → P (codes "AnnotationPropertyDomain") → P (codes "AnnotationPropertyRange") → ((w : List ℕ) → axiom_keyword w ≡ axiom_else (excluded_axiom w) → P w) → (w : List ℕ) → P w
+keyword_words P p1 p2 p3 p4 p5 p6 p7 p8 p9 p10 p11 p12 p13 p14 p15 p16 other w =
     word_or P w (codes "SubClassOf") p1 (λ a1.
     word_or P w (codes "EquivalentClasses") p2 (λ a2.
     word_or P w (codes "DisjointClasses") p3 (λ a3.
@@ -95,7 +96,11 @@ axiom_words P p1 p2 p3 p4 p5 p6 p7 p8 p9 p10 p11 p12 p13 p14 p15 p16 other w =
     word_or P w (codes "SubAnnotationPropertyOf") p14 (λ a14.
     word_or P w (codes "AnnotationPropertyDomain") p15 (λ a15.
     word_or P w (codes "AnnotationPropertyRange") p16 (λ a16.
-    other w (other_axiom w (no_axiom_word w a1 a2 a3 a4 a5 a6 a7 a8 a9 a10 a11 a12 a13 a14 a15 a16))))))))))))))))))
+    other w (no_axiom_word w a1 a2 a3 a4 a5 a6 a7 a8 a9 a10 a11 a12 a13 a14 a15 a16)))))))))))))))))
+
+pub axiom_words : (P : List ℕ → Type 0) → P (codes "SubClassOf") → P (codes "EquivalentClasses") → P (codes "DisjointClasses") → P (codes "DisjointUnion") → P (codes "SubObjectPropertyOf") → P (codes "EquivalentObjectProperties") → P (codes "ObjectPropertyDomain") → P (codes "ObjectPropertyRange") → P (codes "FunctionalObjectProperty") → P (codes "TransitiveObjectProperty") → P (codes "Declaration") → P (codes "Annotation") → P (codes "AnnotationAssertion") → P (codes "SubAnnotationPropertyOf") → P (codes "AnnotationPropertyDomain") → P (codes "AnnotationPropertyRange") → ((w : List ℕ) → NoAxiom w → P w) → (w : List ℕ) → P w
+axiom_words P p1 p2 p3 p4 p5 p6 p7 p8 p9 p10 p11 p12 p13 p14 p15 p16 other =
+    keyword_words P p1 p2 p3 p4 p5 p6 p7 p8 p9 p10 p11 p12 p13 p14 p15 p16 (λ w is. other w (other_axiom w is))
 
 -- ---- entities
 

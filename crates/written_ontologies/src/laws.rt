@@ -1,5 +1,5 @@
 // What is written of an ontology is read again.
-ghost use Rattle.written_ontologies.specs.Laws.{WrittenOntologiesAreRead, DocumentsCanBeWritten, DocumentsAreReadAgain, EqualTextsSayTheSame};
+ghost use Rattle.written_ontologies.specs.Laws.{WrittenOntologiesAreRead, DocumentsCanBeWritten, DocumentsAreReadAgain, EqualTextsSayTheSame, DocumentsKnowOwl, ClassTextsAreRead, QueryTextsAreRead};
 
 /// The canonical text of an ontology is a document (OWL 2 Structural Specification, section 3.7), which lists the same
 /// classes and roles in the same order, and the same axioms in the same order. The ontology's names may stand in a
@@ -21,4 +21,20 @@ pub fn documents_are_read_again()
 /// Two ontologies of one canonical text have the same names and axioms in the same order.
 pub fn equal_texts_say_the_same()
     ensures { EqualTextsSayTheSame }
+{}
+
+/// In each document the prefix of `owl:Thing` and `owl:Nothing` stands for the IRI of the OWL vocabulary (OWL 2 Structural
+/// Specification, section 2.4).
+pub fn documents_know_owl()
+    ensures { DocumentsKnowOwl }
+{}
+
+/// The text of a class expression over the names of an ontology is read as that expression, with no new name.
+pub fn class_texts_are_read()
+    ensures { ClassTextsAreRead }
+{}
+
+/// The text of a query over the names of an ontology is read as that query, with no new name.
+pub fn query_texts_are_read()
+    ensures { QueryTextsAreRead }
 {}

@@ -1,4 +1,4 @@
-use Rattle.read_limits.proofs.Texts.{classes_in_limit}
+use Rattle.read_limits.proofs.InLimit.{classes_in_limit}
 use Rattle.read_limits.proofs.classes_are_in_limit.Goals as goal
 
 pub returns : goal.returns

@@ -1,4 +1,4 @@
-use Rattle.read_limits.proofs.Texts.{documents_in_limit}
+use Rattle.read_limits.proofs.InLimit.{documents_in_limit}
 use Rattle.read_limits.proofs.documents_are_in_limit.Goals as goal
 
 pub returns : goal.returns

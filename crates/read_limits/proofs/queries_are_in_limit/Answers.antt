@@ -1,4 +1,4 @@
-use Rattle.read_limits.proofs.Texts.{queries_in_limit}
+use Rattle.read_limits.proofs.InLimit.{queries_in_limit}
 use Rattle.read_limits.proofs.queries_are_in_limit.Goals as goal
 
 pub returns : goal.returns
