@@ -1,0 +1,4 @@
+pub mod Closure
+pub mod ComputedClosure
+pub mod Laws
+pub mod Examples
