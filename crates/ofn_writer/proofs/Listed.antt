@@ -7,7 +7,7 @@ both : (a b : Bool) → (a && b) ≡ true → (a ≡ true) × (b ≡ true)
 both true b h = (refl, h)
 both false b h = let clash : false ≡ true = h in absurd (cc clash)
 
--- from a place on, the one there and those behind it
+-- from a place on, the one there and those after it
 pub listed_at : (m n : ℕ) (cs : List Concept) (i : ℕ) (c : Concept) → c ≡ get_or cs i c → i < length cs → parts_use_listed m n (parts_of (drop i cs)) ≡ true
     → (uses_listed m n c ≡ true) × (parts_use_listed m n (parts_of (drop (i + 1) cs)) ≡ true)
 listed_at m n cs i c at inside all =

@@ -150,7 +150,7 @@ fn put_role_items(out: &mut Vec<u8>, roles: &[u32], ontology: &Ontology) -> Resu
     }
 }
 
-// Puts roles last, each behind one blank.
+// Puts roles last, each after one blank.
 fn put_spaced_roles(out: &mut Vec<u8>, roles: &[u32], ontology: &Ontology) -> Result<(), NoMemory>
     requires { IsTrue (list_all (λ r. nat_lt r (length ontology.now.roles)) roles.now) }
     ensures { OnOk result (out.new.items ≡ out.old.items ++ spaced (role_texts ontology.now roles.now)) }
@@ -162,9 +162,12 @@ fn put_spaced_roles(out: &mut Vec<u8>, roles: &[u32], ontology: &Ontology) -> Re
     Ok(())
 }
 
-/// Appends the text of an axiom, or nothing. The classes and roles of the axiom are listed.
+/// Appends the text of an axiom, whose classes and roles are listed. The forms of its class expressions are those of
+/// [`concept_text`](crate::concept_text).
 ///
-/// The forms of its class expressions are those of [`concept_text`](crate::concept_text).
+/// # Errors
+///
+/// `NoMemory`. Nothing is appended then.
 pub fn axiom_text(out: &mut Vec<u8>, axiom: &Axiom, ontology: &Ontology) -> Result<(), NoMemory>
     requires { IsTrue (axiom_uses_listed (length ontology.now.classes) (length ontology.now.roles) «axiom».now) }
     ensures text { OnOk result (out.new.items ≡ out.old.items ++ axiom_text ontology.now «axiom».now) }

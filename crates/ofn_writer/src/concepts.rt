@@ -167,7 +167,7 @@ fn put_items(out: &mut Vec<u8>, parts: &[Concept], ontology: &Ontology) -> Resul
     }
 }
 
-/// Puts class expressions last, each behind one blank.
+/// Puts class expressions last, each after one blank.
 #[cycle(concepts)]
 pub(crate) fn put_spaced(
     out: &mut Vec<u8>,
@@ -184,10 +184,14 @@ pub(crate) fn put_spaced(
     Ok(())
 }
 
-/// Appends the text of a class expression, or nothing. The classes and roles of the expression are listed.
+/// Appends the text of a class expression, whose classes and roles are listed.
 ///
 /// Names are written as full IRIs between `<` and `>`, but for `owl:Thing` and `owl:Nothing`. One blank stands between two
 /// items of a group, and the filler of a cardinality is always written.
+///
+/// # Errors
+///
+/// `NoMemory`. Nothing is appended then.
 pub fn concept_text(
     out: &mut Vec<u8>,
     concept: &Concept,

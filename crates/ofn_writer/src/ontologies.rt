@@ -70,8 +70,12 @@ fn put_ontology(out: &mut Vec<u8>, ontology: &Ontology) -> Result<(), NoMemory>
     put(out, b")\n")
 }
 
-/// Appends the text of an ontology, or nothing: a document whose lines are `Ontology(`, a declaration of each class and then
+/// Appends the text of an ontology: a document whose lines are `Ontology(`, a declaration of each class and then
 /// of each role in list order, each axiom in the order of the numbers, and `)`. Each line ends with a line feed.
+///
+/// # Errors
+///
+/// `NoMemory`. Nothing is appended then.
 pub fn ontology_text(out: &mut Vec<u8>, ontology: &Ontology) -> Result<(), NoMemory>
     ensures text { OnOk result (out.new.items ≡ out.old.items ++ ontology_text ontology.now) }
     ensures unchanged { OnErr result (out.new.items ≡ out.old.items) }
