@@ -44,8 +44,8 @@ fn is_rewritten_so(alloc: Global, document: &str, wanted: &str) -> bool {
 fn writes_what_is_read_again(rt: HostRuntime) {
     let cases = [
         (
-            "Prefix(:=<http://e.org/p#>)\nPrefix(owl:=<http://www.w3.org/2002/07/owl#>)\n\n\nOntology(<http://e.org/p>\n\nDeclaration(Class(:A))\nDeclaration(Class(:B))\n\n#   Classes\n# Class: :A (:A)\n\nAnnotationAssertion(rdfs:label :A \"a \\\"small\\\" thing # one\"@en)\nSubClassOf(Annotation(rdfs:comment \"x\") :A :B)\n\n\n)",
-            "Ontology(\nDeclaration(Class(<http://e.org/p#A>))\nDeclaration(Class(<http://e.org/p#B>))\nSubClassOf(<http://e.org/p#A> <http://e.org/p#B>)\n)\n",
+            "Prefix(:=<p#>)\n# Class: :A (:A)\nOntology(<p>\nAnnotationAssertion(rdfs:label :A \"a \\\"s\\\" # one\"@en)\nSubClassOf(Annotation(rdfs:comment \"x\") :A :B))",
+            "Ontology(\nDeclaration(Class(<p#A>))\nDeclaration(Class(<p#B>))\nSubClassOf(<p#A> <p#B>)\n)\n",
         ),
         (
             "Ontology(SubClassOf(<A> ObjectMaxCardinality(007 <r>)))",
