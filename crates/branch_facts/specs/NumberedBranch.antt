@@ -3,9 +3,9 @@ use Rattle.std.specs.Prelude.{ℕ, ◌==◌, Bool, List}
 use Rattle.std.specs.List.{list_any}
 use Rattle.fact_specs.specs.declared.Fact.{Fact}
 
-pub record Known : Type 0 where
+pub record NumberedBranch : Type 0 where
   pub nodes : List ℕ
   pub facts : List (Fact ℕ)
 
-abbrev pub knows : Known → ℕ → Bool
-knows k x = list_any (λ y. y == x) k.nodes
+abbrev pub has_node : NumberedBranch → ℕ → Bool
+has_node k x = list_any (λ y. y == x) k.nodes

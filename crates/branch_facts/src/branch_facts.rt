@@ -2,8 +2,8 @@
 ghost use Rattle.std.specs.Prelude.{◌≡◌, ℕ, ◌+◌, ◌≤◌, ◌==◌, [], ◌∷◌, ◌++◌, false, OnOk, OnErr, length, take};
 ghost use Rattle.fact_specs.specs.Joins.{rep};
 ghost use Rattle.fact_specs.specs.State.{has, has_edge, are_apart};
-ghost use Rattle.branch_facts.specs.Known.{knows};
-ghost use Rattle.branch_facts.specs.Seen.{facts_of, after, index_of, AreEntries, Begins};
+ghost use Rattle.branch_facts.specs.NumberedBranch.{has_node};
+ghost use Rattle.branch_facts.specs.Seen.{entry_facts, index_after, index_of, AreEntries, Begins};
 
 use crate::NoMemory;
 use crate::index::Index;
@@ -39,18 +39,18 @@ pub struct BranchFacts {
 
 impl Model for BranchFacts {
     ghost use Rattle.std.specs.Prelude.{◌≡◌};
-    ghost use Rattle.branch_facts.specs.Known.{Known};
-    ghost use Rattle.branch_facts.specs.Seen.{facts_of, index_of, AreEntries};
+    ghost use Rattle.branch_facts.specs.NumberedBranch.{NumberedBranch};
+    ghost use Rattle.branch_facts.specs.Seen.{entry_facts, index_of, AreEntries};
 
-    ghost Value = { Known };
+    ghost Value = { NumberedBranch };
 
-    ghost view = { λ b. record { nodes = b.nodes.keys; facts = facts_of b.entries.items } };
+    ghost view = { λ b. record { nodes = b.nodes.keys; facts = entry_facts b.entries.items } };
 
-    ghost invariant = { λ b. (b.index ≡ index_of (facts_of b.entries.items)) × AreEntries b.entries.items };
+    ghost invariant = { λ b. (b.index ≡ index_of (entry_facts b.entries.items)) × AreEntries b.entries.items };
 }
 
 impl BranchFacts {
-    ghost use Rattle.branch_facts.specs.Known.{Known};
+    ghost use Rattle.branch_facts.specs.NumberedBranch.{NumberedBranch};
 
     /// A branch that knows nothing.
     pub fn new(alloc: Global) -> BranchFacts
@@ -90,7 +90,7 @@ impl BranchFacts {
 
     /// Whether the node is known.
     pub fn knows(&self, node: u32) -> bool
-        ensures { result ≡ knows self.now node }
+        ensures { result ≡ has_node self.now node }
     {
         self.nodes.contains(&node)
     }
@@ -99,9 +99,9 @@ impl BranchFacts {
     ///
     /// # Errors
     ///
-    /// Want of memory; nothing has changed.
+    /// Out of memory; nothing has changed.
     pub fn add_node(&mut self, node: u32) -> Result<(), NoMemory>
-        requires { knows self.old node ≡ false }
+        requires { has_node self.old node ≡ false }
         ensures added { OnOk result (self.new ≡ record self.old { nodes = self.old.nodes ++ node ∷ [] }) }
         ensures unchanged { OnErr result (self.new ≡ self.old) }
     {
@@ -113,7 +113,7 @@ impl BranchFacts {
     ///
     /// # Errors
     ///
-    /// Want of memory; nothing has changed.
+    /// Out of memory; nothing has changed.
     pub fn add(&mut self, fact: Fact<u32>) -> Result<(), NoMemory>
         ensures added { OnOk result (self.new ≡ record self.old { facts = self.old.facts ++ fact ∷ [] }) }
         ensures unchanged { OnErr result (self.new ≡ self.old) }
@@ -165,7 +165,7 @@ impl BranchFacts {
 
 // Keeps one entry more.
 fn put(index: &mut Index, entries: &mut Vec<Entry>, entry: Entry) -> Result<(), NoMemory>
-    ensures index { OnOk result (index.new ≡ after index.old entry.fact) }
+    ensures index { OnOk result (index.new ≡ index_after index.old entry.fact) }
     ensures entries { OnOk result (entries.new.items ≡ entries.old.items ++ entry ∷ []) }
     ensures begins { OnErr result (Begins index.old index.new) }
     ensures unchanged { OnErr result (entries.new.items ≡ entries.old.items) }

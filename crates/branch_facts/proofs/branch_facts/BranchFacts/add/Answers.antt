@@ -1,9 +1,9 @@
 use Rattle.std.proofs.Common.{subst, sym, ap, ◌∙◌}
-use Rattle.branch_facts.specs.declared.facts.Entry.{Entry}
-use Rattle.branch_facts.specs.Seen.{index_of, facts_of, AreEntries}
+use Rattle.branch_facts.specs.declared.branch_facts.Entry.{Entry}
+use Rattle.branch_facts.specs.Seen.{index_of, entry_facts, AreEntries}
 use Rattle.branch_facts.proofs.Grown.{from_ok}
 use Rattle.branch_facts.proofs.Entries.{entry_more, index_more}
-use Rattle.branch_facts.proofs.facts.BranchFacts.add.Goals as goal
+use Rattle.branch_facts.proofs.branch_facts.BranchFacts.add.Goals as goal
 
 pub invariant_of-self-else-is_err : goal.invariant_of-self-else-is_err
 invariant_of-self-else-is_err c =
@@ -13,4 +13,4 @@ invariant_of-self-else-is_err c =
     let index = from_ok c.put-outcome.result _ fine c.put-outcome.ensures.index in
     let entries = from_ok c.put-outcome.result _ fine c.put-outcome.ensures.entries in
     let are = entry_more es c.self.inside.index entry c.self.invariant.1 c.self.invariant.0 c.lengths-seen.ensures.seen c.lengths-seen.ensures.links in
-    (index_more es c.self.inside.index c.put-outcome.new.index entry c.self.invariant.0 index ∙ ap (λ us. index_of (facts_of us)) (sym entries), subst AreEntries (sym entries) are)
+    (index_more es c.self.inside.index c.put-outcome.new.index entry c.self.invariant.0 index ∙ ap (λ us. index_of (entry_facts us)) (sym entries), subst AreEntries (sym entries) are)
