@@ -1,85 +1,101 @@
--- The rows that are kept with a table of concepts.
-use Rattle.std.specs.Prelude.{◌≡◌, ℕ, ◌&&◌, nat_eq, List, length, Option, Some, None, if◌then◌else◌}
+-- The rows that are cached with a table of concepts.
+use Rattle.std.specs.Prelude.{◌≡◌, ℕ, ◌&&◌, nat_eq, List, [], length, Option, Some, None, if◌then◌else◌}
 use Rattle.std.specs.Cmp.Lexicographic.{pointwise}
 use Rattle.std.specs.Map.{lookup}
+use Rattle.indexmap.specs.IndexMap.{IndexMap, Updates}
 use Rattle.shq_terms.specs.declared.axioms.Numbered.{Numbered}
 use Rattle.shape_specs.specs.Shape.{Shape}
 use Rattle.shape_specs.specs.Rows.{Part, part_at}
-use Rattle.axiom_sets.specs.Sets.{Limited, member_list}
+use Rattle.axiom_sets.specs.Sets.{Limited, IsWithin, member_list}
 use Rattle.refutation_truth.specs.Theory.{theory_of}
 use Rattle.row_cache.specs.Rows.{AreInLimit, row_for, IsRow, range_for, IsRange}
-use Rattle.row_cache.specs.declared.rows.Row.{Row}
-use Rattle.row_cache.specs.declared.rows.RangeRow.{RangeRow}
-use Rattle.row_cache.specs.declared.kept_rows.KeptRow.{KeptRow}
+use Rattle.row_cache.specs.declared.cached_row.CachedRow.{CachedRow}
+use Rattle.row_cache.specs.declared.cached_row.CachedRange.{CachedRange}
+use Rattle.row_cache.specs.declared.cache_entry.CacheEntry.{CacheEntry}
 
--- the axioms, the numbers of those that are named, the table whose numbers rows are made of, and the rows that are kept: of
+-- the axioms, the numbers of those that are named, the table whose numbers rows are made of, and the rows that are cached: of
 -- parts, by the numbers of their axioms and themselves, and of range axioms
-pub record RowFrame : Type 0 where
+pub record CacheState : Type 0 where
   pub axioms : List Numbered
   pub named : List ℕ
   pub table : List Shape
-  pub rows : List ((ℕ × ℕ) × KeptRow)
-  pub ranges : List (ℕ × RangeRow)
+  pub rows : List ((ℕ × ℕ) × CacheEntry)
+  pub ranges : List (ℕ × CachedRange)
+
+-- no row is cached yet
+abbrev pub empty_cache : List Numbered → List ℕ → List Shape → CacheState
+empty_cache axioms named table = record { axioms = axioms; named = named; table = table; rows = []; ranges = [] }
 
 -- the part of a named axiom
-abbrev pub named_part : RowFrame → ℕ → ℕ → Option Part
-named_part f a p = part_at (theory_of f.axioms f.named) a p
+abbrev pub named_part : CacheState → ℕ → ℕ → Option Part
+named_part c a p = part_at (theory_of c.axioms c.named) a p
 
 -- the axioms and those that are named stay
-pub record IsOver (earlier later : RowFrame) : Type 0 where
+pub record HasSameAxioms (earlier later : CacheState) : Type 0 where
   pub axioms : later.axioms ≡ earlier.axioms
   pub named : later.named ≡ earlier.named
 
--- the rows that are kept stay
-pub record KeepsRows (earlier later : RowFrame) : Type 0 where
+-- the rows that are cached stay
+pub record KeepsEntries (earlier later : CacheState) : Type 0 where
   pub rows : later.rows ≡ earlier.rows
   pub ranges : later.ranges ≡ earlier.ranges
 
--- ---- what is kept
+-- the row of a named axiom's part for some positions, and that of a named range axiom
+abbrev pub IsRowOf : CacheState → ℕ → ℕ → List ℕ → Option CachedRow → Type 0
+IsRowOf c a p positions row = IsRow c.table (row_for (named_part c a p) positions) row
 
--- of a part, by the numbers of its axiom and itself
-abbrev pub kept_for : List ((ℕ × ℕ) × KeptRow) → ℕ → ℕ → Option KeptRow
-kept_for rows a p = lookup (λ k. nat_eq a k.0 && nat_eq p k.1) rows
+abbrev pub IsRangeOf : CacheState → ℕ → Option CachedRange → Type 0
+IsRangeOf c a row = IsRange c.table (range_for (named_part c a 1)) row
 
--- of a range axiom
-abbrev pub kept_range : List (ℕ × RangeRow) → ℕ → Option RangeRow
-kept_range ranges a = lookup (nat_eq a) ranges
+-- ---- what is cached
 
--- a kept row serves the positions for which it was made, and no others
-abbrev pub serving : Option KeptRow → List ℕ → Option Row
+-- the row of a part with the positions for which it was made, by the numbers of its axiom and itself
+abbrev pub entry_for : List ((ℕ × ℕ) × CacheEntry) → ℕ → ℕ → Option CacheEntry
+entry_for rows a p = lookup (λ k. nat_eq a k.0 && nat_eq p k.1) rows
+
+-- the row of a range axiom
+abbrev pub cached_range_for : List (ℕ × CachedRange) → ℕ → Option CachedRange
+cached_range_for ranges a = lookup (nat_eq a) ranges
+
+-- a row serves the positions for which it was made, and no others
+abbrev pub serving : Option CacheEntry → List ℕ → Option CachedRow
 serving None positions = None
-serving (Some k) positions = if pointwise nat_eq k.positions positions then Some k.row else None
+serving (Some e) positions = if pointwise nat_eq e.positions positions then Some e.row else None
 
 -- the row that need not be made
-abbrev pub row_at_hand : RowFrame → ℕ → ℕ → List ℕ → Option Row
-row_at_hand f a p positions = serving (kept_for f.rows a p) positions
+abbrev pub cached_row : CacheState → ℕ → ℕ → List ℕ → Option CachedRow
+cached_row c a p positions = serving (entry_for c.rows a p) positions
 
-abbrev pub range_at_hand : RowFrame → ℕ → Option RangeRow
-range_at_hand f a = kept_range f.ranges a
+abbrev pub cached_range : CacheState → ℕ → Option CachedRange
+cached_range c a = cached_range_for c.ranges a
 
--- a row that was answered is at hand
-abbrev pub IsAtHand : RowFrame → ℕ → ℕ → List ℕ → Option Row → Type 0
-IsAtHand f a p positions answer = (r : Row) → answer ≡ Some r → row_at_hand f a p positions ≡ Some r
+-- a row that was answered is cached
+abbrev pub IsCached : CacheState → ℕ → ℕ → List ℕ → Option CachedRow → Type 0
+IsCached c a p positions answer = (r : CachedRow) → answer ≡ Some r → cached_row c a p positions ≡ Some r
 
-abbrev pub IsRangeAtHand : RowFrame → ℕ → Option RangeRow → Type 0
-IsRangeAtHand f a answer = (r : RangeRow) → answer ≡ Some r → range_at_hand f a ≡ Some r
+abbrev pub IsRangeCached : CacheState → ℕ → Option CachedRange → Type 0
+IsRangeCached c a answer = (r : CachedRange) → answer ≡ Some r → cached_range c a ≡ Some r
 
--- a row at hand is answered, and nothing is made; and so it is from now on
-pub record IsKeptRow (earlier later : RowFrame) (a p : ℕ) (positions : List ℕ) (answer : Option Row) : Type 0 where
-  pub again : (r : Row) → row_at_hand earlier a p positions ≡ Some r → (later ≡ earlier) × (answer ≡ Some r)
-  pub from_now : IsAtHand later a p positions answer
+-- a cached row is answered, and then nothing is made; and what is answered is cached afterwards
+pub record IsMadeOnce (earlier later : CacheState) (a p : ℕ) (positions : List ℕ) (answer : Option CachedRow) : Type 0 where
+  pub from_cache : (r : CachedRow) → cached_row earlier a p positions ≡ Some r → (later ≡ earlier) × (answer ≡ Some r)
+  pub afterwards : IsCached later a p positions answer
 
-pub record IsKeptRange (earlier later : RowFrame) (a : ℕ) (answer : Option RangeRow) : Type 0 where
-  pub again : (r : RangeRow) → range_at_hand earlier a ≡ Some r → (later ≡ earlier) × (answer ≡ Some r)
-  pub from_now : IsRangeAtHand later a answer
+pub record IsRangeMadeOnce (earlier later : CacheState) (a : ℕ) (answer : Option CachedRange) : Type 0 where
+  pub from_cache : (r : CachedRange) → cached_range earlier a ≡ Some r → (later ≡ earlier) × (answer ≡ Some r)
+  pub afterwards : IsRangeCached later a answer
 
--- each row that is kept is that of its part for its positions, by the table as it is now
-pub record AreKept (f : RowFrame) : Type 0 where
-  pub rows_are : (a p : ℕ) (k : KeptRow) → kept_for f.rows a p ≡ Some k → IsRow f.table (row_for (named_part f a p) k.positions) (Some k.row)
-  pub ranges_are : (a : ℕ) (r : RangeRow) → kept_range f.ranges a ≡ Some r → IsRange f.table (range_for (named_part f a 1)) (Some r)
+-- each cached row is that of its part for its positions, by the table as it is now
+pub record AreCurrent (c : CacheState) : Type 0 where
+  pub rows_are : (a p : ℕ) (e : CacheEntry) → entry_for c.rows a p ≡ Some e → IsRowOf c a p e.positions (Some e.row)
+  pub ranges_are : (a : ℕ) (r : CachedRange) → cached_range_for c.ranges a ≡ Some r → IsRangeOf c a (Some r)
 
--- a table of the axioms of an ontology, by a set of their numbers
-pub record IsRowCache (axioms : List Numbered) (named : Limited) (table : List Shape) (rows : List ((ℕ × ℕ) × KeptRow)) (ranges : List (ℕ × RangeRow)) : Type 0 where
-  pub limit : named.limit ≡ length axioms
+-- a table of the axioms of an ontology, by a set of numbers of these
+pub record IsRowCache (axioms : List Numbered) (named : Limited) (table : List Shape) (rows : List ((ℕ × ℕ) × CacheEntry)) (ranges : List (ℕ × CachedRange)) : Type 0 where
+  pub numbers : IsWithin (length axioms) named.members
   pub within : AreInLimit axioms
-  pub kept : AreKept (record { axioms = axioms; named = member_list named; table = table; rows = rows; ranges = ranges })
+  pub current : AreCurrent (record { axioms = axioms; named = member_list named; table = table; rows = rows; ranges = ranges })
+
+-- the row takes the place of what was cached for the part
+abbrev pub StoresRow : {S : Type 0} → IndexMap (ℕ × ℕ) CacheEntry S → IndexMap (ℕ × ℕ) CacheEntry S → ℕ → ℕ → List ℕ → CachedRow → Type 0
+StoresRow old new a p positions row = Updates (λ k l. nat_eq k.0 l.0 && nat_eq k.1 l.1) old new (a, p) (Some (record { positions = positions; row = row }))

@@ -1,73 +1,73 @@
-// Rows by the numbers of their axioms and parts.
-ghost use Rattle.std.specs.Prelude.{◌≡◌, ◌&&◌, nat_eq, Some, OnOk, OnErr};
+// Cached rows, by the numbers of their axioms and parts.
+ghost use Rattle.std.specs.Prelude.{◌≡◌, nat_eq, Some, OnOk, OnErr};
 ghost use Rattle.std.specs.Option.{option_copied};
 ghost use Rattle.indexmap.specs.IndexMap.{IsUnchanged, Updates};
-ghost use Rattle.row_cache.specs.Kept.{kept_for, kept_range, serving};
+ghost use Rattle.row_cache.specs.Cache.{entry_for, cached_range_for, serving, StoresRow};
 
 use crate::NoMemory;
-use crate::rows::{RangeRow, Row, number_list};
+use crate::cached_row::{CachedRange, CachedRow, number_list};
 use indexmap::IndexMap;
 use shq_terms::NumberList;
 use std::alloc::Global;
 
 // The row of a part, with the positions for which it was made.
 #[derive(Drop)]
-pub(crate) struct KeptRow {
+pub(crate) struct CacheEntry {
     positions: NumberList,
-    row: Row,
+    row: CachedRow,
 }
 
-// The row that is kept for the part, if it was made for these positions.
-pub(crate) fn kept_row<'a>(
-    rows: &'a IndexMap<(u32, u32), KeptRow>,
+// The row that is cached for the part, if it was made for these positions.
+pub(crate) fn find_row<'a>(
+    rows: &'a IndexMap<(u32, u32), CacheEntry>,
     axiom: u32,
     part: u32,
     positions: &[u32],
-) -> Option<&'a Row>
-    ensures { option_copied result ≡ serving (kept_for rows.now.entries «axiom» part) positions.now }
+) -> Option<&'a CachedRow>
+    ensures { option_copied result ≡ serving (entry_for rows.now.entries «axiom» part) positions.now }
 {
-    let kept = rows.get(&(axiom, part))?;
-    if kept.positions.items() == positions {
-        Some(&kept.row)
+    let entry = rows.get(&(axiom, part))?;
+    if entry.positions.items() == positions {
+        Some(&entry.row)
     } else {
         None
     }
 }
 
-// Keeps a row in place of that which was kept for the part, or changes nothing.
-pub(crate) fn keep_row(
+// Stores a row in the place of the part's last one, or changes nothing.
+pub(crate) fn store_row(
     alloc: Global,
-    rows: &mut IndexMap<(u32, u32), KeptRow>,
+    rows: &mut IndexMap<(u32, u32), CacheEntry>,
     axiom: u32,
     part: u32,
     positions: &[u32],
-    row: &Row,
+    row: &CachedRow,
 ) -> Result<(), NoMemory>
-    ensures kept { OnOk result (Updates (λ k l. nat_eq k.0 l.0 && nat_eq k.1 l.1) rows.old rows.new («axiom», part) (Some (record { positions = positions.now; row = row.now }))) }
+    ensures stored { OnOk result (StoresRow rows.old rows.new «axiom» part positions.now row.now) }
     ensures unchanged { OnErr result (IsUnchanged rows.old rows.new) }
 {
-    let kept = KeptRow {
+    let entry = CacheEntry {
         positions: number_list(alloc, positions)?,
         row: row.try_clone(alloc)?,
     };
-    rows.insert((axiom, part), kept)?;
+    rows.insert((axiom, part), entry)?;
     Ok(())
 }
 
-// The row that is kept for a range axiom.
-pub(crate) fn kept_range(ranges: &IndexMap<u32, RangeRow>, axiom: u32) -> Option<RangeRow>
-    ensures { result ≡ kept_range ranges.now.entries «axiom» }
+// The row that is cached for a range axiom.
+pub(crate) fn find_range(ranges: &IndexMap<u32, CachedRange>, axiom: u32) -> Option<CachedRange>
+    ensures { result ≡ cached_range_for ranges.now.entries «axiom» }
 {
     ranges.get(&axiom).copied()
 }
 
-// Keeps the row of a range axiom, or changes nothing.
-pub(crate) fn keep_range(
-    ranges: &mut IndexMap<u32, RangeRow>,
+// Stores the row of a range axiom, or changes nothing.
+pub(crate) fn store_range(
+    ranges: &mut IndexMap<u32, CachedRange>,
     axiom: u32,
-    row: RangeRow,
+    row: CachedRange,
 ) -> Result<(), NoMemory>
-    ensures kept { OnOk result (Updates nat_eq ranges.old ranges.new «axiom» (Some row)) }
+    ensures stored { OnOk result (Updates nat_eq ranges.old ranges.new «axiom» (Some row)) }
     ensures unchanged { OnErr result (IsUnchanged ranges.old ranges.new) }
 {
     ranges.insert(axiom, row)?;

@@ -1,17 +1,15 @@
-// Rows of the axioms that are named.
-ghost use Rattle.std.specs.Prelude.{◌≡◌, ◌≤◌, ◌<◌, ◌&&◌, nat_le, nat_lt, IsTrue, IfOk, OnOk, length, map};
+// Rows of the axioms that are named, in numbers of a table of concepts.
+ghost use Rattle.std.specs.Prelude.{◌≡◌, ◌≤◌, ◌<◌, nat_le, nat_lt, true, IsTrue, IfOk, OnOk, length, map};
 ghost use Rattle.std.specs.List.{list_all};
-ghost use Rattle.shape_specs.specs.Normal.{negated_form};
-ghost use Rattle.shape_specs.specs.Rows.{part_at, is_among, is_ascending, is_name, conjunct_at, are_name_positions, row_concept};
-ghost use Rattle.shape_specs.specs.Rows.Part.{inclusion};
+ghost use Rattle.shape_specs.specs.Rows.{is_among, is_ascending, is_name, are_name_positions};
 ghost use Rattle.shape_specs.specs.Shape.{IsTable};
 ghost use Rattle.shape_specs.specs.Tree.{tree_of};
-ghost use Rattle.std.specs.Prelude.{Some as PlainSome};
 ghost use Rattle.shq_nnf.specs.Shapes.{form_of};
-ghost use Rattle.shq_nnf.specs.Numbers.{Extends, IsNumber, AreNumbers};
-ghost use Rattle.axiom_sets.specs.Sets.{member_list};
-ghost use Rattle.refutation_truth.specs.Theory.{theory_of, parts_at};
-ghost use Rattle.row_cache.specs.Rows.{AreInLimit, row_for, IsRow, range_for, IsRange, IsPartFound, is_name_shape, number_at, other_numbers};
+ghost use Rattle.shq_nnf.specs.Bounds.{negated_trees};
+ghost use Rattle.shq_nnf.specs.Numbers.{Extends, AreNumbers, trees_at};
+ghost use Rattle.std.specs.FinSet as set;
+ghost use Rattle.axiom_sets.specs.Sets.{IsWithin, member_list};
+ghost use Rattle.row_cache.specs.Rows.{AreInLimit, IsRow, IsRowIn, IsRangeIn, IsPartIn, row_at, IsRowConcept, is_name_at, are_names_at, is_name_shape, conjunct_number_at, other_numbers};
 
 use crate::NoMemory;
 use axiom_sets::AxiomSet;
@@ -21,7 +19,7 @@ use std::alloc::Global;
 
 /// A row of a part of an axiom: what is in all the premises is in the concept.
 #[derive(Drop)]
-pub struct Row {
+pub struct CachedRow {
     /// The conjuncts that are premises, by number.
     pub premises: NumberList,
     /// What an element is in that has them, by number.
@@ -30,20 +28,20 @@ pub struct Row {
 
 /// The row of a range axiom: what is at the end of an edge of the role is in the concept.
 #[derive(Clone, Copy, Debug, PartialEq, Eq)]
-pub struct RangeRow {
+pub struct CachedRange {
     /// The role.
     pub role: u32,
     /// The class, by number.
     pub concept: u32,
 }
 
-impl Row {
+impl CachedRow {
     // The row once more.
-    pub(crate) fn try_clone(&self, alloc: Global) -> Result<Row, NoMemory>
+    pub(crate) fn try_clone(&self, alloc: Global) -> Result<CachedRow, NoMemory>
         ensures { IfOk result (λ r. r ≡ self.now) }
     {
         let premises = number_list(alloc, self.premises.items())?;
-        Ok(Row {
+        Ok(CachedRow {
             premises,
             concept: self.concept,
         })
@@ -69,10 +67,10 @@ pub(crate) fn inclusion_row(
     axiom: u32,
     part: u32,
     positions: &[u32],
-) -> Result<Option<Row>, NoMemory>
-    requires limit { named.now.limit ≡ length ontology.now.axioms }
+) -> Result<Option<CachedRow>, NoMemory>
+    requires numbers { IsWithin (length ontology.now.axioms) named.now.members }
     requires within { AreInLimit ontology.now.axioms }
-    ensures row { IfOk result (λ r. IsRow concepts.new (row_for (part_at (theory_of ontology.now.axioms (member_list named.now)) «axiom» part) positions.now) r) }
+    ensures row { IfOk result (IsRowIn concepts.new ontology.now.axioms named.now «axiom» part positions.now) }
     ensures kept { Extends concepts.old concepts.new }
     ensures table { IsTable concepts.new }
 {
@@ -92,16 +90,16 @@ pub(crate) fn range_row(
     ontology: &Ontology,
     named: &AxiomSet,
     axiom: u32,
-) -> Result<Option<RangeRow>, NoMemory>
-    requires limit { named.now.limit ≡ length ontology.now.axioms }
+) -> Result<Option<CachedRange>, NoMemory>
+    requires numbers { IsWithin (length ontology.now.axioms) named.now.members }
     requires within { AreInLimit ontology.now.axioms }
-    ensures row { IfOk result (λ r. IsRange concepts.new (range_for (part_at (theory_of ontology.now.axioms (member_list named.now)) «axiom» 1)) r) }
+    ensures row { IfOk result (IsRangeIn concepts.new ontology.now.axioms named.now «axiom») }
     ensures kept { Extends concepts.old concepts.new }
     ensures table { IsTable concepts.new }
 {
     let found = named_part(concepts, ontology, named, axiom, 1)?;
     match found {
-        Some(Part::Range(role, concept)) => Ok(Some(RangeRow { role, concept })),
+        Some(Part::Range(role, concept)) => Ok(Some(CachedRange { role, concept })),
         _ => Ok(None),
     }
 }
@@ -114,9 +112,9 @@ fn named_part(
     axiom: u32,
     part: u32,
 ) -> Result<Option<Part>, NoMemory>
-    requires limit { named.now.limit ≡ length ontology.now.axioms }
+    requires numbers { IsWithin (length ontology.now.axioms) named.now.members }
     requires within { AreInLimit ontology.now.axioms }
-    ensures part { IfOk result (λ p. IsPartFound concepts.new (part_at (theory_of ontology.now.axioms (member_list named.now)) «axiom» part) p) }
+    ensures part { IfOk result (IsPartIn concepts.new ontology.now.axioms named.now «axiom» part) }
     ensures kept { Extends concepts.old concepts.new }
     ensures table { IsTable concepts.new }
 {
@@ -135,8 +133,7 @@ fn named_part(
 
 fn is_named(named: &AxiomSet, axiom: u32) -> bool
     ensures named { result ≡ is_among (member_list named.now) «axiom» }
-    ensures low { IsTrue result → 1 ≤ «axiom» }
-    ensures high { IsTrue result → «axiom» ≤ named.now.limit }
+    ensures member { IsTrue result → set.contains named.now.members «axiom» ≡ true }
 {
     let limit = named.limit();
     if axiom < 1 || axiom > limit {
@@ -152,10 +149,10 @@ fn part_row(
     conjuncts: &[u32],
     right: u32,
     positions: &[u32],
-) -> Result<Option<Row>, NoMemory>
+) -> Result<Option<CachedRow>, NoMemory>
     requires listed { IsTrue (list_all (λ n. nat_lt n (length concepts.old)) conjuncts.now) }
     requires right_listed { right < length concepts.old }
-    ensures row { IfOk result (λ r. IsRow concepts.new (row_for (PlainSome (inclusion (map (tree_of concepts.old) conjuncts.now) (tree_of concepts.old right))) positions.now) r) }
+    ensures row { IfOk result (λ r. IsRow concepts.new (row_at concepts.old conjuncts.now right positions.now) r) }
     ensures kept { Extends concepts.old concepts.new }
     ensures table { IsTable concepts.new }
 {
@@ -167,7 +164,7 @@ fn part_row(
     let outcome = row_concept(alloc, concepts, conjuncts, right, positions);
     let _count = concepts.len();
     let concept = outcome?;
-    Ok(Some(Row { premises, concept }))
+    Ok(Some(CachedRow { premises, concept }))
 }
 
 fn is_ascending(positions: &[u32]) -> bool
@@ -184,7 +181,7 @@ fn is_ascending(positions: &[u32]) -> bool
 // Whether the conjuncts at these positions are names.
 fn are_names(concepts: &Concepts, conjuncts: &[u32], positions: &[u32]) -> bool
     requires listed { IsTrue (list_all (λ n. nat_lt n (length concepts.now)) conjuncts.now) }
-    ensures { result ≡ list_all (λ i. is_name (conjunct_at (map (tree_of concepts.now) conjuncts.now) i)) positions.now }
+    ensures { result ≡ are_names_at concepts.now conjuncts.now positions.now }
 {
     let mut names = true;
     for position in positions {
@@ -196,7 +193,7 @@ fn are_names(concepts: &Concepts, conjuncts: &[u32], positions: &[u32]) -> bool
 
 fn is_name_at(concepts: &Concepts, conjuncts: &[u32], position: u32) -> bool
     requires { IsTrue (list_all (λ n. nat_lt n (length concepts.now)) conjuncts.now) }
-    ensures { result ≡ is_name (conjunct_at (map (tree_of concepts.now) conjuncts.now) position) }
+    ensures { result ≡ is_name_at concepts.now conjuncts.now position }
 {
     let _count = concepts.len();
     is_name(concepts, conjunct_at(conjuncts, position))
@@ -204,7 +201,7 @@ fn is_name_at(concepts: &Concepts, conjuncts: &[u32], position: u32) -> bool
 
 // The number of a conjunct by its position, from 1: that of `Top` where there is none.
 fn conjunct_at(conjuncts: &[u32], position: u32) -> u32
-    ensures { result ≡ number_at conjuncts.now position }
+    ensures { result ≡ conjunct_number_at conjuncts.now position }
 {
     if position == 0 || position as usize > conjuncts.len() {
         return 0;
@@ -227,7 +224,7 @@ fn is_name_shape(shape: Shape<'_>) -> bool
 
 // The conjuncts at these positions.
 fn premises(alloc: Global, conjuncts: &[u32], positions: &[u32]) -> Result<NumberList, NoMemory>
-    ensures { IfOk result (λ numbers. numbers ≡ map (number_at conjuncts.now) positions.now) }
+    ensures { IfOk result (λ numbers. numbers ≡ map (conjunct_number_at conjuncts.now) positions.now) }
 {
     let mut numbers = NumberList::new(alloc);
     for position in positions {
@@ -246,8 +243,8 @@ fn row_concept(
 ) -> Result<u32, NoMemory>
     requires listed { IsTrue (list_all (λ n. nat_lt n (length concepts.old)) conjuncts.now) }
     requires right_listed { right < length concepts.old }
-    requires positions { IsTrue (are_name_positions (map (tree_of concepts.old) conjuncts.now) positions.now) }
-    ensures concept { IfOk result (λ n. IsNumber concepts.new n (row_concept (map (tree_of concepts.old) conjuncts.now) (tree_of concepts.old right) positions.now)) }
+    requires positions { IsTrue (are_name_positions (trees_at concepts.old conjuncts.now) positions.now) }
+    ensures concept { IfOk result (IsRowConcept concepts.old concepts.new conjuncts.now right positions.now) }
     ensures kept { Extends concepts.old concepts.new }
 {
     let _count = concepts.len();
@@ -288,7 +285,7 @@ fn begins_with(positions: &[u32], place: usize) -> bool
 // The complements of these numbers.
 fn complements(alloc: Global, concepts: &mut Concepts, parts: &[u32]) -> Result<Vec<u32>, NoMemory>
     requires { IsTrue (list_all (λ n. nat_lt n (length concepts.old)) parts.now) }
-    ensures numbers { IfOk result (λ ns. AreNumbers concepts.new ns.items (map (λ c. negated_form (tree_of concepts.old c)) parts.now)) }
+    ensures numbers { IfOk result (λ ns. AreNumbers concepts.new ns.items (negated_trees concepts.old parts.now)) }
     ensures kept { Extends concepts.old concepts.new }
 {
     let _count = concepts.len();

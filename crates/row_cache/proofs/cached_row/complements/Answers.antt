@@ -4,7 +4,7 @@ use Rattle.shape_specs.specs.Tree.{tree_of}
 use Rattle.shq_nnf.specs.Numbers.{AreNumbers}
 use Rattle.shq_nnf.proofs.Numbers.{extends_twice}
 use Rattle.shq_nnf.proofs.Stable.{complements_push}
-use Rattle.row_cache.proofs.rows.complements.Goals as goal
+use Rattle.row_cache.proofs.cached_row.complements.Goals as goal
 
 pub loop-part-preserved : goal.loop-part-preserved
 loop-part-preserved c =

@@ -8,7 +8,7 @@ use Rattle.axiom_sets.specs.Sets.{member_list}
 use Rattle.refutation_truth.specs.Theory.{theory_of}
 use Rattle.row_cache.specs.Rows.{IsPartFound, IsRow, row_for}
 use Rattle.row_cache.proofs.Assembled.{row_of_inclusion}
-use Rattle.row_cache.proofs.rows.inclusion_row.Goals as goal
+use Rattle.row_cache.proofs.cached_row.inclusion_row.Goals as goal
 
 pub returns-in_ok-row-in-Some-Inclusion-clause-row : goal.returns-in_ok-row-in-Some-Inclusion-clause-row
 returns-in_ok-row-in-Some-Inclusion-clause-row c =

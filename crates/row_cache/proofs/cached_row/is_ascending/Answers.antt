@@ -1,7 +1,7 @@
 use Rattle.std.proofs.Common.{◌-◌, drop, arith, sym, ◌∙◌}
 use Rattle.std.proofs.lemmas.List.{length-drop}
 use Rattle.row_cache.proofs.Places.{short_ascends}
-use Rattle.row_cache.proofs.rows.is_ascending.Goals as goal
+use Rattle.row_cache.proofs.cached_row.is_ascending.Goals as goal
 
 pub returns : goal.returns
 returns c =

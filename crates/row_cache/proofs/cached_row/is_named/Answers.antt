@@ -1,7 +1,7 @@
 use Rattle.std.proofs.Common.{◌∙◌, arith, inl, inr}
 use Rattle.row_cache.proofs.Named.{among_members, no_member}
-use Rattle.row_cache.proofs.rows.is_named.Goals as goal
-use Rattle.row_cache.proofs.rows.is_named.Goals.{then-axiom-lt1-via-then-axiom-lt1, then-axiom-lt1-via-else-axiom-lt1+then-axiom-limit}
+use Rattle.row_cache.proofs.cached_row.is_named.Goals as goal
+use Rattle.row_cache.proofs.cached_row.is_named.Goals.{then-axiom-lt1-via-then-axiom-lt1, then-axiom-lt1-via-else-axiom-lt1+then-axiom-limit}
 
 pub returns-then-axiom-lt1-clause-named : goal.returns-then-axiom-lt1-clause-named
 returns-then-axiom-lt1-clause-named c =

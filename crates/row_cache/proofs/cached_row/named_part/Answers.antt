@@ -1,11 +1,17 @@
 use Rattle.std.proofs.Common.{◌-◌, arith, inl, inr, sym, ◌∙◌}
 use Rattle.axiom_sets.specs.Sets.{member_list}
 use Rattle.row_cache.proofs.Named.{axiom_in_limit, not_named, no_part, part_there}
-use Rattle.row_cache.proofs.rows.named_part.Goals as goal
-use Rattle.row_cache.proofs.rows.named_part.Goals.{then-part-lt1-via-then-part-lt1, then-part-lt1-via-else-part-lt1+then-part-part_count}
+use Rattle.row_cache.proofs.cached_row.named_part.Goals as goal
+use Rattle.row_cache.proofs.cached_row.named_part.Goals.{then-part-lt1-via-then-part-lt1, then-part-lt1-via-else-part-lt1+then-part-part_count}
 
 pub returns-then-not-is_named-clause-part : goal.returns-then-not-is_named-clause-part
 returns-then-not-is_named-clause-part c = not_named c.args.ontology.now.axioms (member_list c.args.named.now) c.args.axiom c.args.part c.args.concepts.now (sym c.if-not-is_named.true ∙ c.is_named.ensures.named)
+
+pub axiom-numbered-requires-clause-low : goal.axiom-numbered-requires-clause-low
+axiom-numbered-requires-clause-low c = (c.requires.numbers c.args.axiom (c.is_named.ensures.member c.if-not-is_named.false)).0
+
+pub axiom-numbered-requires-clause-high : goal.axiom-numbered-requires-clause-high
+axiom-numbered-requires-clause-high c = (c.requires.numbers c.args.axiom (c.is_named.ensures.member c.if-not-is_named.false)).1
 
 pub part_count-requires : goal.part_count-requires
 part_count-requires c = (axiom_in_limit c.args.ontology.now.axioms (c.args.axiom - 1) c.axiom-numbered.result.now c.requires.within c.axiom-numbered.ensures).1

@@ -1,8 +1,8 @@
 use Rattle.std.proofs.Common.{◌≡◌, ◌+◌, ◌++◌, ◌∷◌, [], List, ℕ, ap, sym, subst, ◌∙◌, ◌-◌, length, arith, drop, get_or}
 use Rattle.std.proofs.lemmas.List.{length-drop, take_all}
 use Rattle.row_cache.proofs.Places.{IsWalked, walked_place, walked_other}
-use Rattle.row_cache.proofs.rows.others.Goals as goal
-use Rattle.row_cache.proofs.rows.others.Goals.{then-begins_with, else-begins_with+in_ok-push}
+use Rattle.row_cache.proofs.cached_row.others.Goals as goal
+use Rattle.row_cache.proofs.cached_row.others.Goals.{then-begins_with, else-begins_with+in_ok-push}
 
 pub loop-index-preserved : goal.loop-index-preserved
 loop-index-preserved c =

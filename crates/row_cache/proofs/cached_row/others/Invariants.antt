@@ -2,7 +2,7 @@ use Rattle.std.proofs.Common.{◌≡◌, ◌+◌, ◌++◌, drop, leb, true}
 use Rattle.std.specs.List.{list_all}
 use Rattle.shape_specs.specs.Rows.{is_ascending}
 use Rattle.row_cache.specs.Rows.{other_numbers}
-use Rattle.row_cache.proofs.rows.others.Given as goal
+use Rattle.row_cache.proofs.cached_row.others.Given as goal
 
 -- what is put is what stands before this place, by the positions that are left
 abbrev pub invariant-loop-index : goal.invariant-loop-index

@@ -4,7 +4,7 @@ use Rattle.std.proofs.lemmas.Bool.{and_from}
 use Rattle.shape_specs.specs.Rows.{is_ascending, is_name, conjunct_at}
 use Rattle.shape_specs.specs.Tree.{tree_of}
 use Rattle.row_cache.proofs.Assembled.{row_is}
-use Rattle.row_cache.proofs.rows.part_row.Goals as goal
+use Rattle.row_cache.proofs.cached_row.part_row.Goals as goal
 
 pub returns-clause-row : goal.returns-clause-row
 returns-clause-row c =

@@ -9,7 +9,7 @@ use Rattle.shq_nnf.specs.Numbers.{IsNumber, AreNumbers}
 use Rattle.row_cache.specs.Rows.{other_numbers}
 use Rattle.row_cache.proofs.Places.{names_low, others_listed}
 use Rattle.row_cache.proofs.Assembled.{concept_is}
-use Rattle.row_cache.proofs.rows.row_concept.Goals as goal
+use Rattle.row_cache.proofs.cached_row.row_concept.Goals as goal
 
 pub others-requires-clause-low : goal.others-requires-clause-low
 others-requires-clause-low c =
