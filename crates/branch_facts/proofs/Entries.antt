@@ -45,14 +45,14 @@ pub entry_more : (es : List Entry) (i : Index) (e : Entry) → AreEntries es →
 entry_more es i e are is seen links = record {
   seen_before = λ p d lt. elim (cases_lt p (length es)) [
     | inl before ↦ ap (λ (x : Entry). x.seen) (get_or-append es (e ∷ []) d p before) ∙ are.seen_before p d before ∙ ap kept_seen (sym (take-append-le p es (e ∷ []) (omega arith)))
-    | inr behind ↦
+    | inr last ↦
         let at : p ≡ length es = omega (arith, length-append es (e ∷ [])) in
         ap (λ n. (get_or (es ++ e ∷ []) n d).seen) at ∙ ap (λ (x : Entry). x.seen) (get_or-append_seam es e [] d) ∙ seen ∙ ap (λ (j : Index). length j.seen) is
         ∙ ap kept_seen (sym (take-append_seam es (e ∷ []))) ∙ ap (λ n. kept_seen (take n (es ++ e ∷ []))) (sym at)
   ];
   links_before = λ p d lt. elim (cases_lt p (length es)) [
     | inl before ↦ ap (λ (x : Entry). x.links) (get_or-append es (e ∷ []) d p before) ∙ are.links_before p d before ∙ ap kept_links (sym (take-append-le p es (e ∷ []) (omega arith)))
-    | inr behind ↦
+    | inr last ↦
         let at : p ≡ length es = omega (arith, length-append es (e ∷ [])) in
         ap (λ n. (get_or (es ++ e ∷ []) n d).links) at ∙ ap (λ (x : Entry). x.links) (get_or-append_seam es e [] d) ∙ links ∙ ap (λ (j : Index). length j.links) is
         ∙ ap kept_links (sym (take-append_seam es (e ∷ []))) ∙ ap (λ n. kept_links (take n (es ++ e ∷ []))) (sym at)

@@ -1,10 +1,10 @@
 // The branches that are open.
 ghost use Rattle.std.specs.Prelude.{◌≡◌, ◌+◌, ◌^◌, ◌≤◌, false, [], ◌∷◌, ◌++◌, OnOk, length, map};
 ghost use Rattle.std.specs.List.{list_any, range_with_len};
-ghost use Rattle.fact_specs.specs.State.{new_nodes, apart_from, pairwise_apart};
-ghost use Rattle.branch_facts.specs.Known.{knows};
-ghost use Rattle.refutation_rules.specs.Outcomes.{children, with_facts, with_nodes, started};
-ghost use Rattle.refutation_check.specs.Open.{branches, knowing, knowing_nodes, IsReady};
+ghost use Rattle.fact_specs.specs.State.{apart_from, pairwise_apart};
+ghost use Rattle.branch_facts.specs.NumberedBranch.{has_node};
+ghost use Rattle.refutation_rules.specs.Outcomes.{branches_after, started_branch};
+ghost use Rattle.refutation_check.specs.Open.{branches, branches_for, waiting_with, with_new_nodes, facts_of_new, knowing, knowing_nodes, IsReady};
 
 use crate::NoMemory;
 use branch_facts::{BranchFacts, Fact, Mark};
@@ -70,11 +70,11 @@ impl OpenBranches {
     ///
     /// # Errors
     ///
-    /// Want of memory. What is open then is no longer that of the lines that were read.
+    /// Out of memory. What is open then is no longer that of the lines that were read.
     pub(crate) fn apply(&mut self, outcome: &Outcome) -> Result<(), NoMemory>
         requires open { self.old.closed ≡ false }
         requires ready { IsReady self.old.branch outcome.now }
-        ensures { OnOk result (branches self.new ≡ children self.old.branch outcome.now ++ self.old.waiting) }
+        ensures { OnOk result (branches self.new ≡ branches_after self.old.branch outcome.now ++ self.old.waiting) }
     {
         match outcome {
             Outcome::Closed => self.close(),
@@ -106,7 +106,7 @@ impl OpenBranches {
     // Lets a branch wait for each fact, where it has this fact more, and goes on with the first of them.
     fn branch_out(&mut self, facts: &[Fact<u32>]) -> Result<(), NoMemory>
         requires { self.old.closed ≡ false }
-        ensures { OnOk result (branches self.new ≡ map (λ f. with_facts self.old.branch (f ∷ [])) facts.now ++ self.old.waiting) }
+        ensures { OnOk result (branches self.new ≡ branches_for self.old.branch facts.now ++ self.old.waiting) }
     {
         let mark = self.branch.mark();
         for place in 0..facts.len() {
@@ -120,7 +120,7 @@ impl OpenBranches {
     fn put_pending(&mut self, pending: Pending) -> Result<(), NoMemory>
         requires nodes { pending.mark.nodes ≡ length self.old.branch.nodes }
         requires facts { pending.mark.facts ≡ length self.old.branch.facts }
-        ensures { OnOk result (self.new ≡ record self.old { waiting = with_facts self.old.branch (pending.fact ∷ []) ∷ self.old.waiting }) }
+        ensures { OnOk result (self.new ≡ waiting_with self.old pending.fact) }
     {
         self.pending.push(pending)?;
         Ok(())
@@ -136,7 +136,7 @@ impl OpenBranches {
 
     // Knows a node more there.
     fn add_node(&mut self, node: u32) -> Result<(), NoMemory>
-        requires { knows self.old.branch node ≡ false }
+        requires { has_node self.old.branch node ≡ false }
         ensures { OnOk result (self.new ≡ knowing_nodes self.old (node ∷ [])) }
     {
         self.branch.add_node(node)?;
@@ -157,7 +157,7 @@ impl OpenBranches {
     fn start(&mut self, sub: u32, not_sup: u32) -> Result<(), NoMemory>
         requires nodes { self.old.branch.nodes ≡ [] }
         requires facts { self.old.branch.facts ≡ [] }
-        ensures { OnOk result (self.new ≡ record self.old { branch = started sub not_sup }) }
+        ensures { OnOk result (self.new ≡ record self.old { branch = started_branch sub not_sup }) }
     {
         self.add_node(0)?;
         self.add(Fact::Has(0, sub))?;
@@ -167,8 +167,8 @@ impl OpenBranches {
     // Knows new nodes and what is said of them.
     fn add_nodes(&mut self, nodes: &NewNodes) -> Result<(), NoMemory>
         requires small { nodes.now.first + nodes.now.count ≤ 2 ^ 32 }
-        requires new { list_any (knows self.old.branch) (range_with_len nodes.now.first nodes.now.count) ≡ false }
-        ensures { OnOk result (self.new ≡ record self.old { branch = with_nodes self.old.branch nodes.now.from nodes.now.role nodes.now.concept nodes.now.first nodes.now.count }) }
+        requires new { list_any (has_node self.old.branch) (range_with_len nodes.now.first nodes.now.count) ≡ false }
+        ensures { OnOk result (self.new ≡ with_new_nodes self.old nodes.now) }
     {
         self.know_all(nodes.first, nodes.count)?;
         self.add_edges(nodes)?;
@@ -179,7 +179,7 @@ impl OpenBranches {
     #[tactic(auto, using(crate::proofs::Ranges::next_is_new))]
     fn know_all(&mut self, first: u32, count: u32) -> Result<(), NoMemory>
         requires small { first + count ≤ 2 ^ 32 }
-        requires new { list_any (knows self.old.branch) (range_with_len first count) ≡ false }
+        requires new { list_any (has_node self.old.branch) (range_with_len first count) ≡ false }
         ensures { OnOk result (self.new ≡ knowing_nodes self.old (range_with_len first count)) }
     {
         for place in 0..count {
@@ -191,7 +191,7 @@ impl OpenBranches {
     // Knows of each new node the edge that leads to it, and its concept.
     fn add_edges(&mut self, nodes: &NewNodes) -> Result<(), NoMemory>
         requires small { nodes.now.first + nodes.now.count ≤ 2 ^ 32 }
-        ensures { OnOk result (self.new ≡ knowing self.old (new_nodes nodes.now.from nodes.now.role nodes.now.concept nodes.now.first nodes.now.count)) }
+        ensures { OnOk result (self.new ≡ knowing self.old (facts_of_new nodes.now)) }
     {
         for place in 0..nodes.count {
             self.add(Fact::Edge(nodes.role, nodes.from, nodes.first + place))?;
@@ -200,7 +200,7 @@ impl OpenBranches {
         Ok(())
     }
 
-    // Keeps so many nodes from the first one on apart, each from those behind it.
+    // Keeps so many nodes from the first one on apart, each from those after it.
     fn keep_apart(&mut self, first: u32, count: u32) -> Result<(), NoMemory>
         requires small { first + count ≤ 2 ^ 32 }
         ensures { OnOk result (self.new ≡ knowing self.old (pairwise_apart first count)) }

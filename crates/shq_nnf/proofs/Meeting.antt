@@ -30,7 +30,7 @@ all_below_both : (n : ℕ) (p q : ℕ → Bool) → all_below n (λ x. p x && q 
 all_below_both zero p q = refl
 all_below_both (suc n) p q = ap (λ b. b && (p n && q n)) (all_below_both n p q) ∙ exchange (all_below n p) (all_below n q) (p n) (q n)
 
--- at most one in all: none behind the first that counts, and at most one behind it
+-- at most one in all: none after the first that counts, and at most one after it
 one_more : (b : Bool) (k : ℕ) → leb (cond b 1 0 + k) 1 ≡ (implies b (not (leb 1 k)) && leb k 1)
 one_more false k = ap (λ n. leb n 1) (omega arith)
 one_more true zero = refl

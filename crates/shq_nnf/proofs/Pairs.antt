@@ -88,7 +88,7 @@ union_later a cs i le =
 pub length_union : (a : Concept) (cs : List Concept) → length (union_parts a cs) ≡ 1 + length cs + length (disjoint_parts cs)
 length_union a cs = omega (arith, length-append (map (λ c. inclusion_of c a) cs) (disjoint_parts cs), length-map cs (λ c. inclusion_of c a))
 
--- the pairs of a class with those behind it come before the pairs of these
+-- the pairs of a class with those after it come before the pairs of these
 pub pair_found : (cs : List Concept) (i place : ℕ) (first second : Concept) → i + 1 + place < length cs → first ≡ get_or cs i first → second ≡ get_or cs (i + 1 + place) second → disjoint_pair first second ≡ part_in (disjoint_parts (drop i cs)) place
 pair_found [] i place first second lt is there = absurd (omega arith)
 pair_found (c ∷ cs) zero place first second lt is there =
@@ -98,22 +98,22 @@ pair_found (c ∷ cs) (suc i) place first second lt is there =
     let next : suc i + 1 + place ≡ suc (i + 1 + place) = omega arith in
     pair_found cs i place first second (omega arith) is (there ∙ ap (λ k. get_or (c ∷ cs) k second) next)
 
-pub pair_behind : (cs : List Concept) (i place : ℕ) → i < length cs → length cs - i - 1 ≤ place → part_in (disjoint_parts (drop (i + 1) cs)) (place - (length cs - i - 1)) ≡ part_in (disjoint_parts (drop i cs)) place
-pair_behind [] i place lt le = absurd (omega arith)
-pair_behind (c ∷ cs) zero place lt le =
+pub pair_after : (cs : List Concept) (i place : ℕ) → i < length cs → length cs - i - 1 ≤ place → part_in (disjoint_parts (drop (i + 1) cs)) (place - (length cs - i - 1)) ≡ part_in (disjoint_parts (drop i cs)) place
+pair_after [] i place lt le = absurd (omega arith)
+pair_after (c ∷ cs) zero place lt le =
     let later : length (c ∷ cs) - 0 - 1 ≡ length cs = omega arith in
     ap (λ k. part_in (disjoint_parts cs) (place - k)) later ∙ pair_later c cs place (omega arith)
-pair_behind (c ∷ cs) (suc i) place lt le =
+pair_after (c ∷ cs) (suc i) place lt le =
     let later : length (c ∷ cs) - suc i - 1 ≡ length cs - i - 1 = omega arith in
     let next : suc i + 1 ≡ suc (i + 1) = omega arith in
-    (λ j. part_in (disjoint_parts (drop (next j) (c ∷ cs))) (place - later j)) ∙ pair_behind cs i place (omega arith) (omega arith)
+    (λ j. part_in (disjoint_parts (drop (next j) (c ∷ cs))) (place - later j)) ∙ pair_after cs i place (omega arith) (omega arith)
 
-pub pairs_behind : (cs : List Concept) (i place : ℕ) → i < length cs → length cs - i - 1 ≤ place → place < length (disjoint_parts (drop i cs)) → place - (length cs - i - 1) < length (disjoint_parts (drop (i + 1) cs))
-pairs_behind [] i place lt le listed = absurd (omega arith)
-pairs_behind (c ∷ cs) zero place lt le listed = omega (arith, length_pairs c cs)
-pairs_behind (c ∷ cs) (suc i) place lt le listed =
+pub pairs_after : (cs : List Concept) (i place : ℕ) → i < length cs → length cs - i - 1 ≤ place → place < length (disjoint_parts (drop i cs)) → place - (length cs - i - 1) < length (disjoint_parts (drop (i + 1) cs))
+pairs_after [] i place lt le listed = absurd (omega arith)
+pairs_after (c ∷ cs) zero place lt le listed = omega (arith, length_pairs c cs)
+pairs_after (c ∷ cs) (suc i) place lt le listed =
     let next : suc i + 1 ≡ suc (i + 1) = omega arith in
-    let more : place - (length cs - i - 1) < length (disjoint_parts (drop (i + 1) cs)) = pairs_behind cs i place (omega arith) (omega arith) listed in
+    let more : place - (length cs - i - 1) < length (disjoint_parts (drop (i + 1) cs)) = pairs_after cs i place (omega arith) (omega arith) listed in
     subst (λ k. place - (length (c ∷ cs) - suc i - 1) < length (disjoint_parts (drop k (c ∷ cs)))) (sym next) (omega (arith, more))
 
 pub no_pairs : (cs : List Concept) (i : ℕ) → length cs ≤ i → length (disjoint_parts (drop i cs)) ≡ 0

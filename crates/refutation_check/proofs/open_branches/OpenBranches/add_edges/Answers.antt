@@ -4,7 +4,7 @@ use Rattle.fact_specs.specs.State.{new_nodes}
 use Rattle.refutation_check.specs.Open.{knowing}
 use Rattle.refutation_check.proofs.Grown.{know_step}
 use Rattle.refutation_check.proofs.Ranges.{next_edge}
-use Rattle.refutation_check.proofs.open.OpenBranches.add_edges.Goals as goal
+use Rattle.refutation_check.proofs.open_branches.OpenBranches.add_edges.Goals as goal
 
 pub loop-place-preserved : goal.loop-place-preserved
 loop-place-preserved c =

@@ -1,7 +1,7 @@
 use Rattle.std.proofs.Common.{◌≡◌, ◌+◌, ◌-◌}
 use Rattle.fact_specs.specs.State.{new_nodes}
 use Rattle.refutation_check.specs.Open.{knowing}
-use Rattle.refutation_check.proofs.open.OpenBranches.add_edges.Given as goal
+use Rattle.refutation_check.proofs.open_branches.OpenBranches.add_edges.Given as goal
 
 abbrev pub invariant-loop-place : goal.invariant-loop-place
 invariant-loop-place l =

@@ -1,6 +1,6 @@
 use Rattle.fact_specs.specs.declared.Fact.TheVariants.{Has}
 use Rattle.refutation_check.proofs.Grown.{put_step}
-use Rattle.refutation_check.proofs.open.OpenBranches.branch_out.Goals as goal
+use Rattle.refutation_check.proofs.open_branches.OpenBranches.branch_out.Goals as goal
 
 pub loop-place-preserved : goal.loop-place-preserved
 loop-place-preserved c =

@@ -3,7 +3,7 @@ use Rattle.fact_specs.specs.State.{apart_from, pairwise_apart}
 use Rattle.refutation_check.specs.Open.{knowing}
 use Rattle.refutation_check.proofs.Grown.{know_step}
 use Rattle.refutation_check.proofs.Ranges.{next_pairs}
-use Rattle.refutation_check.proofs.open.OpenBranches.keep_apart.Goals as goal
+use Rattle.refutation_check.proofs.open_branches.OpenBranches.keep_apart.Goals as goal
 
 pub loop-place-preserved : goal.loop-place-preserved
 loop-place-preserved c =

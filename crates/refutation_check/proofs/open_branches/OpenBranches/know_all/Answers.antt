@@ -3,7 +3,7 @@ use Rattle.std.specs.List.{range_with_len}
 use Rattle.refutation_check.specs.Open.{Open, knowing_nodes}
 use Rattle.refutation_check.proofs.Grown.{node_step}
 use Rattle.refutation_check.proofs.Ranges.{next_node, new_left}
-use Rattle.refutation_check.proofs.open.OpenBranches.know_all.Goals as goal
+use Rattle.refutation_check.proofs.open_branches.OpenBranches.know_all.Goals as goal
 
 pub loop-place-preserved : goal.loop-place-preserved
 loop-place-preserved c =
