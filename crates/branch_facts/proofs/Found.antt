@@ -12,7 +12,7 @@ use Rattle.fact_specs.specs.Joins.{rep}
 use Rattle.fact_specs.proofs.Joined.{by_last, rep-snoc}
 use Rattle.branch_facts.specs.declared.seen.Seen.{Seen}
 use Rattle.branch_facts.specs.declared.seen.Seen.TheVariants.{Has, Edge, Apart}
-use Rattle.branch_facts.specs.Seen.{Index, renamed, through, is_same, is_seen, with_seen, mentions, seen_renamed, copied_one, copied, linked, joined, seeing, after, index_of}
+use Rattle.branch_facts.specs.Seen.{Index, renamed, through, is_same, is_seen, with_seen, mentions, seen_renamed, copied_one, copied, index_linked, index_joined, seeing, index_after, index_of}
 use Rattle.branch_facts.proofs.Grown.{index_of-snoc}
 use Rattle.branch_facts.proofs.Reps.{merged_is, merged_one, when_equal, unless_equal, through_is_rep, rep_twice}
 
@@ -141,7 +141,7 @@ abbrev pub AreFound : List (Fact ℕ) → Type 0
 AreFound fs = (g : Seen) → IsFixed (rep fs) g → is_seen (index_of fs).seen g ≡ list_any (is_placed (rep fs) g) fs
 
 -- a fact that joins no nodes
-seen_more : (fs : List (Fact ℕ)) (f : Fact ℕ) (s : Seen) → placed (rep fs) f ≡ Some s → after (index_of fs) f ≡ seeing (index_of fs) s → rep (fs ++ f ∷ []) ≡ rep fs → AreFound fs → AreFound (fs ++ f ∷ [])
+seen_more : (fs : List (Fact ℕ)) (f : Fact ℕ) (s : Seen) → placed (rep fs) f ≡ Some s → index_after (index_of fs) f ≡ seeing (index_of fs) s → rep (fs ++ f ∷ []) ≡ rep fs → AreFound fs → AreFound (fs ++ f ∷ [])
 seen_more fs f s is put same ih g fixed =
     ap (λ (i : Index). is_seen i.seen g) (index_of-snoc fs f ∙ put)
     ∙ with_seen_has (index_of fs).seen s g
@@ -260,8 +260,8 @@ module _ (m : ℕ → ℕ) (twice : (x : ℕ) → m (m x) ≡ m x) (high low : �
 
 -- ---- all facts
 
-index_joined : (fs : List (Fact ℕ)) (v w : ℕ) → index_of (fs ++ F.Same v w ∷ []) ≡ joined (index_of fs) (rep fs v) (rep fs w)
-index_joined fs v w = index_of-snoc fs (F.Same v w) ∙ ap (λ (m : ℕ → ℕ). joined (index_of fs) (m v) (m w)) (reached fs)
+index_of_same : (fs : List (Fact ℕ)) (v w : ℕ) → index_of (fs ++ F.Same v w ∷ []) ≡ index_joined (index_of fs) (rep fs v) (rep fs w)
+index_of_same fs v w = index_of-snoc fs (F.Same v w) ∙ ap (λ (m : ℕ → ℕ). index_joined (index_of fs) (m v) (m w)) (reached fs)
 
 nothing_placed : (m : ℕ → ℕ) (fs : List (Fact ℕ)) (v w : ℕ) (g : Seen) → list_any (is_placed m g) (fs ++ F.Same v w ∷ []) ≡ list_any (is_placed m g) fs
 nothing_placed m fs v w g = any-snoc (is_placed m g) fs (F.Same v w) ∙ or_false (list_any (is_placed m g) fs)
@@ -283,7 +283,7 @@ join_more fs v w ih g fixed =
     elim (cases_eq y z) [
       | inl same ↦
           let one : rep (fs ++ F.Same v w ∷ []) ≡ m = λ i x. (rep-snoc fs (F.Same v w) x ∙ merged_one y z (m x) same) i in
-          let index : index_of (fs ++ F.Same v w ∷ []) ≡ index_of fs = index_joined fs v w ∙ when_equal y z (index_of fs) (linked (index_of fs) (max y z) (min y z)) same in
+          let index : index_of (fs ++ F.Same v w ∷ []) ≡ index_of fs = index_of_same fs v w ∙ when_equal y z (index_of fs) (index_linked (index_of fs) (max y z) (min y z)) same in
           ap (λ (i : Index). is_seen i.seen g) index
           ∙ ih g (subst (λ (n : ℕ → ℕ). IsFixed n g) one fixed)
           ∙ sym (nothing_placed m fs v w g)
@@ -291,7 +291,7 @@ join_more fs v w ih g fixed =
       | inr differ ↦
           let fix = max_fixed m y z (rep_twice fs v) (rep_twice fs w) in
           let to : rep (fs ++ F.Same v w ∷ []) ≡ (λ x. renamed (max y z) (min y z) (m x)) = λ i x. (rep-snoc fs (F.Same v w) x ∙ merged_is y z (m x) differ) i in
-          let index : index_of (fs ++ F.Same v w ∷ []) ≡ linked (index_of fs) (max y z) (min y z) = index_joined fs v w ∙ unless_equal y z (index_of fs) (linked (index_of fs) (max y z) (min y z)) differ in
+          let index : index_of (fs ++ F.Same v w ∷ []) ≡ index_linked (index_of fs) (max y z) (min y z) = index_of_same fs v w ∙ unless_equal y z (index_of fs) (index_linked (index_of fs) (max y z) (min y z)) differ in
           ap (λ (i : Index). is_seen i.seen g) index
           ∙ linked_found m (rep_twice fs) (max y z) (min y z) (max_min y z differ) fix.0 fix.1 fs (index_of fs).seen ih g (subst (λ (n : ℕ → ℕ). IsFixed n g) to fixed)
           ∙ sym (nothing_placed (λ x. renamed (max y z) (min y z) (m x)) fs v w g)

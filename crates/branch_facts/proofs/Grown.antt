@@ -8,7 +8,7 @@ use Rattle.fact_specs.specs.declared.Fact.{Fact}
 use Rattle.fact_specs.specs.declared.Fact.TheVariants as F
 use Rattle.branch_facts.specs.declared.seen.Seen.{Seen}
 use Rattle.branch_facts.specs.declared.seen.Seen.TheVariants.{Has, Edge, Apart}
-use Rattle.branch_facts.specs.Seen.{Index, through, is_seen, with_seen, mentions, seen_renamed, copied_one, copied, copied_at, linked, joined, seeing, after, index_from, index_of, Begins}
+use Rattle.branch_facts.specs.Seen.{Index, through, is_seen, with_seen, mentions, seen_renamed, copied_one, copied, copied_at, index_linked, index_joined, seeing, index_after, index_from, index_of, Begins}
 
 -- ---- lists that grow
 
@@ -62,14 +62,14 @@ begins i j g = record { seen = longer_taken i.seen j.seen g.seen; links = longer
 seeing_grows : (i : Index) (f : Seen) → Grows i (seeing i f)
 seeing_grows i f = record { seen = with_seen_longer i.seen f; links = longer_itself i.links }
 
-joined_grows : (i : Index) (y z : ℕ) → Grows i (joined i y z)
+joined_grows : (i : Index) (y z : ℕ) → Grows i (index_joined i y z)
 joined_grows i y z = by (y == z)
   where
-    by : (b : Bool) → Grows i (if b then i else linked i (max y z) (min y z))
+    by : (b : Bool) → Grows i (if b then i else index_linked i (max y z) (min y z))
     by true = grows_itself i
     by false = record { seen = copied_longer (max y z) (min y z) i.seen i.seen; links = ((max y z, min y z) ∷ [], refl) }
 
-after_grows : (i : Index) (f : Fact ℕ) → Grows i (after i f)
+after_grows : (i : Index) (f : Fact ℕ) → Grows i (index_after i f)
 after_grows i (F.Has x c) = seeing_grows i (Has (through i.links x) c)
 after_grows i (F.Edge r x y) = seeing_grows i (Edge r (through i.links x) (through i.links y))
 after_grows i (F.Apart x y) = seeing_grows i (Apart (through i.links x) (through i.links y))
@@ -77,13 +77,13 @@ after_grows i (F.Same x y) = joined_grows i (through i.links x) (through i.links
 
 pub index_from_grows : (i : Index) (fs : List (Fact ℕ)) → Grows i (index_from i fs)
 index_from_grows i [] = grows_itself i
-index_from_grows i (f ∷ fs) = grows_twice i (after i f) (index_from (after i f) fs) (after_grows i f) (index_from_grows (after i f) fs)
+index_from_grows i (f ∷ fs) = grows_twice i (index_after i f) (index_from (index_after i f) fs) (after_grows i f) (index_from_grows (index_after i f) fs)
 
 pub index_from-append : (i : Index) (fs gs : List (Fact ℕ)) → index_from i (fs ++ gs) ≡ index_from (index_from i fs) gs
 index_from-append i [] gs = refl
-index_from-append i (f ∷ fs) gs = index_from-append (after i f) fs gs
+index_from-append i (f ∷ fs) gs = index_from-append (index_after i f) fs gs
 
-pub index_of-snoc : (fs : List (Fact ℕ)) (f : Fact ℕ) → index_of (fs ++ f ∷ []) ≡ after (index_of fs) f
+pub index_of-snoc : (fs : List (Fact ℕ)) (f : Fact ℕ) → index_of (fs ++ f ∷ []) ≡ index_after (index_of fs) f
 index_of-snoc fs f = index_from-append (record { seen = []; links = [] }) fs (f ∷ [])
 
 -- what was kept of the first facts is what is left when the index is cut
@@ -141,8 +141,8 @@ place_within high low p i j lt (links, (more, e), so_far) = let n = ap length e 
 pub copying_begins : (high low p : ℕ) (i j : Index) → IsCopying high low p i j → Begins i j
 copying_begins high low p i j (links, longer, so_far) = record { seen = longer_taken i.seen j.seen longer; links = ap (take (length i.links)) links ∙ take-length i.links }
 
-pub after_begins : (i j : Index) (f : Fact ℕ) → j ≡ after i f → Begins i j
-after_begins i j f is = subst (Begins i) (sym is) (begins i (after i f) (after_grows i f))
+pub after_begins : (i j : Index) (f : Fact ℕ) → j ≡ index_after i f → Begins i j
+after_begins i j f is = subst (Begins i) (sym is) (begins i (index_after i f) (after_grows i f))
 
 pub copied_begins : (high low : ℕ) (i j : Index) → j ≡ record { seen = copied high low i.seen i.seen; links = i.links } → Begins i j
 copied_begins high low i j is =

@@ -31,8 +31,8 @@ pub one_more_link : (ls : List (ℕ × ℕ)) (l : ℕ × ℕ) → AreLinks ls �
 one_more_link ls l are is = record {
   each = λ p d lt. elim (cases_lt p (length ls)) [
     | inl before ↦ is_link_again (take-append-le p ls (l ∷ []) (omega (arith, before))) (get_or-append ls (l ∷ []) d p before) (are.each p d before)
-    | inr behind ↦
-        let at : p ≡ length ls = omega (arith, lt, behind, length-append ls (l ∷ [])) in
+    | inr last ↦
+        let at : p ≡ length ls = omega (arith, lt, last, length-append ls (l ∷ [])) in
         is_link_again (ap (λ n. take n (ls ++ l ∷ [])) at ∙ take-append_seam ls (l ∷ [])) (ap (λ n. get_or (ls ++ l ∷ []) n d) at ∙ get_or-append_seam ls l [] d) is
   ];
 }

@@ -7,7 +7,7 @@ use Rattle.fact_specs.specs.declared.Fact.{Fact}
 use Rattle.fact_specs.specs.declared.Fact.TheVariants as F
 use Rattle.fact_specs.specs.Joins.{merged, rep_after, rep}
 use Rattle.fact_specs.proofs.Joined.{by_last, rep-snoc, rep-joined, joined-rep}
-use Rattle.branch_facts.specs.Seen.{Index, renamed, through, linked, joined, after, index_of}
+use Rattle.branch_facts.specs.Seen.{Index, renamed, through, index_linked, index_joined, index_after, index_of}
 use Rattle.branch_facts.proofs.Grown.{index_of-snoc}
 
 pub through-snoc : (ls : List (ℕ × ℕ)) (h l x : ℕ) → through (ls ++ (h, l) ∷ []) x ≡ renamed h l (through ls x)
@@ -27,16 +27,16 @@ when_equal y z a b e = ap (λ (t : Bool). if t then a else b) (eq-eqb y z e)
 pub unless_equal : {X : Type 0} (y z : ℕ) (a b : X) → (y ≡ z → ⊥) → (if y == z then a else b) ≡ b
 unless_equal y z a b differ = ap (λ (t : Bool). if t then a else b) (ne_eqb y z differ)
 
-through_joined : (i : Index) (y z x : ℕ) → through (joined i y z).links x ≡ merged y z (through i.links x)
+through_joined : (i : Index) (y z x : ℕ) → through (index_joined i y z).links x ≡ merged y z (through i.links x)
 through_joined i y z x = elim (cases_eq y z) [
-  | inl same ↦ ap (λ (j : Index). through j.links x) (when_equal y z i (linked i (max y z) (min y z)) same) ∙ sym (merged_one y z (through i.links x) same)
+  | inl same ↦ ap (λ (j : Index). through j.links x) (when_equal y z i (index_linked i (max y z) (min y z)) same) ∙ sym (merged_one y z (through i.links x) same)
   | inr differ ↦
-      ap (λ (j : Index). through j.links x) (unless_equal y z i (linked i (max y z) (min y z)) differ)
+      ap (λ (j : Index). through j.links x) (unless_equal y z i (index_linked i (max y z) (min y z)) differ)
       ∙ through-snoc i.links (max y z) (min y z) x
       ∙ sym (merged_is y z (through i.links x) differ)
 ]
 
-through_after : (i : Index) (f : Fact ℕ) (x : ℕ) → through (after i f).links x ≡ rep_after (through i.links) f x
+through_after : (i : Index) (f : Fact ℕ) (x : ℕ) → through (index_after i f).links x ≡ rep_after (through i.links) f x
 through_after i (F.Has y c) x = refl
 through_after i (F.Edge r y z) x = refl
 through_after i (F.Apart y z) x = refl

@@ -6,7 +6,7 @@ use Rattle.fact_specs.specs.declared.Fact.{Fact}
 use Rattle.fact_specs.specs.declared.Fact.TheVariants as F
 use Rattle.branch_facts.specs.declared.seen.Seen.{Seen}
 use Rattle.branch_facts.specs.declared.seen.Seen.TheVariants.{Has, Edge, Apart}
-use Rattle.branch_facts.specs.declared.facts.Entry.{Entry}
+use Rattle.branch_facts.specs.declared.branch_facts.Entry.{Entry}
 
 -- what is kept of some facts
 pub record Index : Type 0 where
@@ -44,6 +44,10 @@ is_same _ _ = false
 abbrev pub is_seen : List Seen → Seen → Bool
 is_seen seen f = list_any (is_same f) seen
 
+-- the representatives of two nodes are apart, in either order
+abbrev pub are_seen_apart : Index → ℕ → ℕ → Bool
+are_seen_apart i x y = is_seen i.seen (Apart (through i.links x) (through i.links y)) || is_seen i.seen (Apart (through i.links y) (through i.links x))
+
 abbrev pub with_seen : List Seen → Seen → List Seen
 with_seen seen f = if is_seen seen f then seen else seen ++ f ∷ []
 
@@ -73,25 +77,32 @@ copied_at high low i (Some f) = record { seen = copied_one high low i.seen f; li
 
 -- ---- one fact more
 
-abbrev pub linked : Index → ℕ → ℕ → Index
-linked i high low = record { seen = copied high low i.seen i.seen; links = i.links ++ (high, low) ∷ [] }
+abbrev pub index_copied : Index → ℕ → ℕ → Index
+index_copied i high low = record { seen = copied high low i.seen i.seen; links = i.links }
+
+abbrev pub index_linked : Index → ℕ → ℕ → Index
+index_linked i high low = record { seen = copied high low i.seen i.seen; links = i.links ++ (high, low) ∷ [] }
 
 -- two representatives become one, the lesser
-abbrev pub joined : Index → ℕ → ℕ → Index
-joined i y z = if y == z then i else linked i (max y z) (min y z)
+abbrev pub index_joined : Index → ℕ → ℕ → Index
+index_joined i y z = if y == z then i else index_linked i (max y z) (min y z)
+
+-- two nodes, by their representatives
+abbrev pub index_joining : Index → ℕ → ℕ → Index
+index_joining i x y = index_joined i (through i.links x) (through i.links y)
 
 abbrev pub seeing : Index → Seen → Index
 seeing i f = record { seen = with_seen i.seen f; links = i.links }
 
-abbrev pub after : Index → Fact ℕ → Index
-after i (F.Has x c) = seeing i (Has (through i.links x) c)
-after i (F.Edge r x y) = seeing i (Edge r (through i.links x) (through i.links y))
-after i (F.Apart x y) = seeing i (Apart (through i.links x) (through i.links y))
-after i (F.Same x y) = joined i (through i.links x) (through i.links y)
+abbrev pub index_after : Index → Fact ℕ → Index
+index_after i (F.Has x c) = seeing i (Has (through i.links x) c)
+index_after i (F.Edge r x y) = seeing i (Edge r (through i.links x) (through i.links y))
+index_after i (F.Apart x y) = seeing i (Apart (through i.links x) (through i.links y))
+index_after i (F.Same x y) = index_joining i x y
 
 abbrev pub index_from : Index → List (Fact ℕ) → Index
 index_from i [] = i
-index_from i (f ∷ fs) = index_from (after i f) fs
+index_from i (f ∷ fs) = index_from (index_after i f) fs
 
 -- what is kept of a list of facts
 abbrev pub index_of : List (Fact ℕ) → Index
@@ -104,10 +115,10 @@ pub record Begins (earlier later : Index) : Type 0 where
 
 -- ---- entries
 
-abbrev pub facts_of : List Entry → List (Fact ℕ)
-facts_of es = map (λ e. e.fact) es
+abbrev pub entry_facts : List Entry → List (Fact ℕ)
+entry_facts es = map (λ e. e.fact) es
 
 -- each entry tells how much was kept before its fact
 pub record AreEntries (es : List Entry) : Type 0 where
-  pub seen_before : (p : ℕ) (d : Entry) → p < length es → (get_or es p d).seen ≡ length (index_of (facts_of (take p es))).seen
-  pub links_before : (p : ℕ) (d : Entry) → p < length es → (get_or es p d).links ≡ length (index_of (facts_of (take p es))).links
+  pub seen_before : (p : ℕ) (d : Entry) → p < length es → (get_or es p d).seen ≡ length (index_of (entry_facts (take p es))).seen
+  pub links_before : (p : ℕ) (d : Entry) → p < length es → (get_or es p d).links ≡ length (index_of (entry_facts (take p es))).links

@@ -1,7 +1,7 @@
 // What is kept of some facts, so that each is found by one look.
-ghost use Rattle.std.specs.Prelude.{◌≡◌, ◌<◌, [], ◌∷◌, ◌++◌, ◌||◌, OnOk, OnErr, length, take, slice_get};
-ghost use Rattle.branch_facts.specs.declared.seen.Seen.TheVariants.{Has, Edge, Apart};
-ghost use Rattle.branch_facts.specs.Seen.{through, is_seen, with_seen, copied, copied_at, linked, joined, seeing, after, Index as Kept, Begins};
+ghost use Rattle.std.specs.Prelude.{◌≡◌, ◌<◌, [], OnOk, OnErr, length, take, slice_get};
+ghost use Rattle.branch_facts.specs.declared.seen.Seen.TheVariants.{Has, Edge};
+ghost use Rattle.branch_facts.specs.Seen.{through, is_seen, are_seen_apart, copied_at, index_copied, index_linked, index_joining, seeing, index_after, Begins};
 
 use crate::NoMemory;
 use crate::seen::Seen;
@@ -22,9 +22,9 @@ pub(crate) struct Index {
 }
 
 impl Model for Index {
-    ghost use Rattle.branch_facts.specs.Seen.{AreLinks, Index as Kept};
+    ghost use Rattle.branch_facts.specs.Seen.{AreLinks, Index as PlainIndex};
 
-    ghost Value = { Kept };
+    ghost Value = { PlainIndex };
 
     ghost view = { λ i. record { seen = i.seen.keys; links = i.links.entries } };
 
@@ -32,7 +32,7 @@ impl Model for Index {
 }
 
 impl Index {
-    ghost use Rattle.branch_facts.specs.Seen.{Index as Kept};
+    ghost use Rattle.branch_facts.specs.Seen.{Index as PlainIndex};
 
     pub(crate) fn new(alloc: Global) -> Index
         ensures { result ≡ record { seen = []; links = [] } }
@@ -95,7 +95,7 @@ impl Index {
 
     /// Whether the representatives of the two nodes are apart, in either order.
     pub(crate) fn are_apart(&self, x: u32, y: u32) -> bool
-        ensures { result ≡ (is_seen self.now.seen (Apart (through self.now.links x) (through self.now.links y)) || is_seen self.now.seen (Apart (through self.now.links y) (through self.now.links x))) }
+        ensures { result ≡ are_seen_apart self.now x y }
     {
         let (x, y) = (self.representative(x), self.representative(y));
         self.contains(Seen::Apart(x, y)) || self.contains(Seen::Apart(y, x))
@@ -105,9 +105,9 @@ impl Index {
     ///
     /// # Errors
     ///
-    /// Want of memory. What is kept begins as before.
+    /// Out of memory. What is kept begins as before.
     pub(crate) fn put(&mut self, fact: &Fact<u32>) -> Result<(), NoMemory>
-        ensures put { OnOk result (self.new ≡ after self.old fact.now) }
+        ensures put { OnOk result (self.new ≡ index_after self.old fact.now) }
         ensures begins { OnErr result (Begins self.old self.new) }
     {
         match *fact {
@@ -134,7 +134,7 @@ impl Index {
     // Makes the representatives of two nodes one.
     #[tactic(auto, using(crate::proofs::Links::greater_is, crate::proofs::Links::lesser_is))]
     fn join(&mut self, x: u32, y: u32) -> Result<(), NoMemory>
-        ensures put { OnOk result (self.new ≡ joined self.old (through self.old.links x) (through self.old.links y)) }
+        ensures put { OnOk result (self.new ≡ index_joining self.old x y) }
         ensures begins { OnErr result (Begins self.old self.new) }
     {
         let (x, y) = (self.representative(x), self.representative(y));
@@ -149,7 +149,7 @@ impl Index {
         requires falls { low < high }
         requires from_representative { through self.old.links high ≡ high }
         requires to_representative { through self.old.links low ≡ low }
-        ensures put { OnOk result (self.new ≡ linked self.old high low) }
+        ensures put { OnOk result (self.new ≡ index_linked self.old high low) }
         ensures begins { OnErr result (Begins self.old self.new) }
     {
         self.copy(high, low)?;
@@ -159,7 +159,7 @@ impl Index {
 
     #[tactic(auto, using(crate::proofs::Grown::copying_on, crate::proofs::Grown::place_within, crate::proofs::Grown::copying_begins))]
     fn copy(&mut self, high: u32, low: u32) -> Result<(), NoMemory>
-        ensures put { OnOk result (self.new ≡ record { seen = copied high low self.old.seen self.old.seen; links = self.old.links }) }
+        ensures put { OnOk result (self.new ≡ index_copied self.old high low) }
         ensures begins { OnErr result (Begins self.old self.new) }
     {
         for place in 0..self.seen.len() {

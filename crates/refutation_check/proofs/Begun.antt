@@ -7,13 +7,13 @@ use Rattle.shape_specs.specs.Shape.{Shape}
 use Rattle.shape_specs.specs.Rows.{Part, Theory, part_at, are_name_positions}
 use Rattle.shape_specs.specs.Rows.Part.{inclusion, range}
 use Rattle.fact_specs.specs.declared.Fact.{Fact}
-use Rattle.branch_facts.specs.Known.{Known as Branch}
+use Rattle.branch_facts.specs.NumberedBranch.{NumberedBranch as Branch}
 use Rattle.refutation_specs.specs.Line.{Line}
 use Rattle.refutation_specs.specs.Line.Line.{start_line, and_line, or_line, all_line, carry_line, row_line, range_line, some_line, least_line, choose_line, pair_line, bottom_line, clash_line, most_line}
 use Rattle.refutation_specs.specs.Rules.{Known, when, at_concept, and_children, or_children, all_children, carry_children, row_children, range_children, some_children, least_children, choose_children, clash_children, most_children, started, children_of}
 use Rattle.refutation_rules.specs.declared.outcome.Outcome.{Outcome}
 use Rattle.refutation_rules.specs.declared.outcome.Outcome.TheVariants.{Closed, Started, More, Nodes, Branches}
-use Rattle.refutation_rules.specs.Outcomes.{known_of, with_facts, children}
+use Rattle.refutation_rules.specs.Outcomes.{known_of, branch_with_facts, branches_after}
 
 -- ---- a branch that knows no node
 
@@ -82,14 +82,14 @@ from_started table sub sup (k ∷ j ∷ ks) h = cc
 not_empty : (k : Branch) (x : ℕ) (xs : List ℕ) → k.nodes ≡ x ∷ xs → IsBegun k
 not_empty k x xs h e = let clash : [] ≡ x ∷ xs = sym e ∙ h in cc
 
-each_more : (k : Branch) (fs : List (Fact ℕ)) → IsBegun k → All IsBegun (map (λ f. with_facts k (f ∷ [])) fs)
+each_more : (k : Branch) (fs : List (Fact ℕ)) → IsBegun k → All IsBegun (map (λ f. branch_with_facts k (f ∷ [])) fs)
 each_more k [] h = All-nil IsBegun
-each_more k (f ∷ fs) h = All-cons IsBegun (with_facts k (f ∷ [])) (map (λ g. with_facts k (g ∷ [])) fs) h (each_more k fs h)
+each_more k (f ∷ fs) h = All-cons IsBegun (branch_with_facts k (f ∷ [])) (map (λ g. branch_with_facts k (g ∷ [])) fs) h (each_more k fs h)
 
 one : (k : Branch) → IsBegun k → All IsBegun (k ∷ [])
 one k h = All-cons IsBegun k [] h (All-nil IsBegun)
 
-from_begun : (x : ℕ) (xs : List ℕ) (facts : List (Fact ℕ)) (o : Outcome) → All IsBegun (children (record { nodes = x ∷ xs; facts = facts }) o)
+from_begun : (x : ℕ) (xs : List ℕ) (facts : List (Fact ℕ)) (o : Outcome) → All IsBegun (branches_after (record { nodes = x ∷ xs; facts = facts }) o)
 from_begun x xs facts Closed = All-nil IsBegun
 from_begun x xs facts (Started c d) = one _ (λ e. cc)
 from_begun x xs facts (More fs) = one _ (λ e. cc)
@@ -97,7 +97,7 @@ from_begun x xs facts (Nodes n) = one _ (λ e. cc)
 from_begun x xs facts (Branches fs) = each_more (record { nodes = x ∷ xs; facts = facts }) fs.items (λ e. cc)
 
 module _ (theory : Theory) (sub sup : Concept) (concept : ℕ → Option Concept) (table : List Shape) (line : Line) (o : Outcome) where
-  pub all_begun : (nodes : List ℕ) (facts : List (Fact ℕ)) → children_of theory sub sup concept (known_of table (record { nodes = nodes; facts = facts })) line ≡ Some (map (known_of table) (children (record { nodes = nodes; facts = facts }) o))
-      → All IsBegun (children (record { nodes = nodes; facts = facts }) o)
+  pub all_begun : (nodes : List ℕ) (facts : List (Fact ℕ)) → children_of theory sub sup concept (known_of table (record { nodes = nodes; facts = facts })) line ≡ Some (map (known_of table) (branches_after (record { nodes = nodes; facts = facts }) o))
+      → All IsBegun (branches_after (record { nodes = nodes; facts = facts }) o)
   all_begun [] facts h = from_started table sub sup _ (only_starts (known_of table (record { nodes = []; facts = facts })).facts theory sub sup concept line _ h)
   all_begun (x ∷ xs) facts h = from_begun x xs facts o

@@ -7,11 +7,11 @@ use Rattle.std.proofs.lemmas.List.Elements.{All-nil, All-cons}
 use Rattle.fact_specs.specs.declared.Fact.{Fact}
 use Rattle.fact_specs.specs.declared.Fact.TheVariants.{Has}
 use Rattle.fact_specs.specs.State.{new_nodes, apart_from, pairwise_apart}
-use Rattle.fact_specs.specs.Reading.{is_listed, are_listed}
-use Rattle.branch_facts.specs.Known.{Known as Branch}
+use Rattle.fact_specs.specs.Reading.{is_fact_listed, are_listed}
+use Rattle.branch_facts.specs.NumberedBranch.{NumberedBranch as Branch}
 use Rattle.refutation_rules.specs.declared.outcome.Outcome.{Outcome}
 use Rattle.refutation_rules.specs.declared.outcome.Outcome.TheVariants.{Closed, Started, More, Nodes, Branches}
-use Rattle.refutation_rules.specs.Outcomes.{with_facts, children, IsFit, IsFitIfSome, IsBranch}
+use Rattle.refutation_rules.specs.Outcomes.{branch_with_facts, branches_after, IsFit, IsFitIfSome, IsBranch}
 use Rattle.refutation_check.specs.Open.{Open}
 use Rattle.refutation_check.specs.Steps.{IsReadyIf}
 use Rattle.refutation_check.proofs.Begun.{IsBegun}
@@ -26,11 +26,11 @@ ready_if n o (Some (Branches fs)) is fit = tt
 
 module _ (n : ℕ) where
   both_listed : (fs gs : List (Fact ℕ)) → are_listed n fs ≡ true → are_listed n gs ≡ true → are_listed n (fs ++ gs) ≡ true
-  both_listed fs gs h k = list_all-append (is_listed n) fs gs ∙ and_from (are_listed n fs) (are_listed n gs) h k
+  both_listed fs gs h k = list_all-append (is_fact_listed n) fs gs ∙ and_from (are_listed n fs) (are_listed n gs) h k
 
   nodes_listed : (x s c : ℕ) → c < n → (count first : ℕ) → are_listed n (new_nodes x s c first count) ≡ true
   nodes_listed x s c l zero first = refl
-  nodes_listed x s c l (suc count) first = and_from (is_listed n (Has first c)) (are_listed n (new_nodes x s c (first + 1) count)) (lt-ltb c n l) (nodes_listed x s c l count (first + 1))
+  nodes_listed x s c l (suc count) first = and_from (is_fact_listed n (Has first c)) (are_listed n (new_nodes x s c (first + 1) count)) (lt-ltb c n l) (nodes_listed x s c l count (first + 1))
 
   aparts_listed : (x count first : ℕ) → are_listed n (apart_from x first count) ≡ true
   aparts_listed x zero first = refl
@@ -46,19 +46,19 @@ module _ (n : ℕ) where
   one : (k : Branch) → IsListed k → All IsListed (k ∷ [])
   one k h = All-cons IsListed k [] h (All-nil IsListed)
 
-  each_listed : (k : Branch) (fs : List (Fact ℕ)) → IsListed k → are_listed n fs ≡ true → All IsListed (map (λ f. with_facts k (f ∷ [])) fs)
+  each_listed : (k : Branch) (fs : List (Fact ℕ)) → IsListed k → are_listed n fs ≡ true → All IsListed (map (λ f. branch_with_facts k (f ∷ [])) fs)
   each_listed k [] h l = All-nil IsListed
   each_listed k (f ∷ fs) h l =
-      let p = and_parts (is_listed n f) (are_listed n fs) l in
-      All-cons IsListed (with_facts k (f ∷ [])) (map (λ g. with_facts k (g ∷ [])) fs) (both_listed k.facts (f ∷ []) h (and_from (is_listed n f) true p.0 refl)) (each_listed k fs h p.1)
+      let p = and_parts (is_fact_listed n f) (are_listed n fs) l in
+      All-cons IsListed (branch_with_facts k (f ∷ [])) (map (λ g. branch_with_facts k (g ∷ [])) fs) (both_listed k.facts (f ∷ []) h (and_from (is_fact_listed n f) true p.0 refl)) (each_listed k fs h p.1)
 
-  all_listed : (k : Branch) (o : Outcome) → IsListed k → IsFit n k o → All IsListed (children k o)
+  all_listed : (k : Branch) (o : Outcome) → IsListed k → IsFit n k o → All IsListed (branches_after k o)
   all_listed k Closed h fit = All-nil IsListed
-  all_listed k (Started c d) h fit = one _ (and_from (is_listed n (Has 0 c)) (is_listed n (Has 0 d) && true) (lt-ltb c n fit.1) (and_from (is_listed n (Has 0 d)) true (lt-ltb d n fit.2) refl))
+  all_listed k (Started c d) h fit = one _ (and_from (is_fact_listed n (Has 0 c)) (is_fact_listed n (Has 0 d) && true) (lt-ltb c n fit.1) (and_from (is_fact_listed n (Has 0 d)) true (lt-ltb d n fit.2) refl))
   all_listed k (More fs) h fit = one _ (both_listed k.facts fs.items h fit)
   all_listed k (Nodes m) h fit =
       one _ (both_listed k.facts _ h (both_listed (new_nodes m.from m.role m.concept m.first m.count) (pairwise_apart m.first m.count) (nodes_listed m.from m.role m.concept fit.0 m.count m.first) (pairs_listed m.count m.first)))
   all_listed k (Branches fs) h fit = each_listed k fs.items h fit
 
-  pub children_are : (k : Branch) (o : Outcome) → IsBranch n k → IsFit n k o → All IsBegun (children k o) → All (IsBranch n) (children k o)
+  pub children_are : (k : Branch) (o : Outcome) → IsBranch n k → IsFit n k o → All IsBegun (branches_after k o) → All (IsBranch n) (branches_after k o)
   children_are k o is fit begun i d l = record { listed = all_listed k o is.listed fit i d l; begun = λ e. absurd (begun i d l e) }

@@ -1,9 +1,8 @@
 -- A branch that grows by some facts, or some nodes, and then by more.
-use Rattle.std.proofs.Common.{◌≡◌, ℕ, suc, ◌+◌, ◌-◌, ◌<◌, List, [], ◌∷◌, ◌++◌, map, drop, length, get_or, ap, ◌∙◌, sym, append_assoc, arith, drop-cons}
+use Rattle.std.proofs.Common.{◌≡◌, ℕ, suc, ◌+◌, ◌-◌, ◌<◌, List, [], ◌∷◌, ◌++◌, drop, length, get_or, ap, ◌∙◌, sym, append_assoc, arith, drop-cons}
 use Rattle.fact_specs.specs.declared.Fact.{Fact}
-use Rattle.branch_facts.specs.Known.{Known as Branch}
-use Rattle.refutation_rules.specs.Outcomes.{with_facts}
-use Rattle.refutation_check.specs.Open.{Open, knowing, knowing_nodes}
+use Rattle.refutation_rules.specs.Outcomes.{branch_with_facts}
+use Rattle.refutation_check.specs.Open.{Open, branches_for, knowing, knowing_nodes}
 
 pub know_step : (o p all : Open) (fs gs rest : List (Fact ℕ)) → p ≡ knowing o fs → rest ≡ fs ++ gs → knowing o rest ≡ all → knowing p gs ≡ all
 know_step o p all fs gs rest e left h =
@@ -17,20 +16,17 @@ node_step o p all x xs rest e left h =
 
 -- ---- branches for facts, put from the last one on
 
-abbrev pub branches_with : Branch → List (Fact ℕ) → List Branch
-branches_with k fs = map (λ f. with_facts k (f ∷ [])) fs
-
-from_behind : (fs : List (Fact ℕ)) (place : ℕ) (d : Fact ℕ) → place < length fs → drop (length fs - (place + 1)) fs ≡ get_or fs (length fs - 1 - place) d ∷ drop (length fs - place) fs
-from_behind fs place d l =
+from_end : (fs : List (Fact ℕ)) (place : ℕ) (d : Fact ℕ) → place < length fs → drop (length fs - (place + 1)) fs ≡ get_or fs (length fs - 1 - place) d ∷ drop (length fs - place) fs
+from_end fs place d l =
     let here : length fs - (place + 1) ≡ length fs - 1 - place = omega arith in
     let next : suc (length fs - 1 - place) ≡ length fs - place = omega arith in
     let within : length fs - 1 - place < length fs = omega arith in
     ap (λ n. drop n fs) here ∙ drop-cons fs (length fs - 1 - place) d within ∙ ap (λ n. get_or fs (length fs - 1 - place) d ∷ drop n fs) next
 
-pub put_step : (o p now : Open) (fs : List (Fact ℕ)) (place : ℕ) (d : Fact ℕ) → place < length fs → p ≡ record o { waiting = with_facts o.branch (get_or fs (length fs - 1 - place) d ∷ []) ∷ o.waiting }
-    → o ≡ record now { waiting = branches_with now.branch (drop (length fs - place) fs) ++ now.waiting }
-    → p ≡ record now { waiting = branches_with now.branch (drop (length fs - (place + 1)) fs) ++ now.waiting }
+pub put_step : (o p now : Open) (fs : List (Fact ℕ)) (place : ℕ) (d : Fact ℕ) → place < length fs → p ≡ record o { waiting = branch_with_facts o.branch (get_or fs (length fs - 1 - place) d ∷ []) ∷ o.waiting }
+    → o ≡ record now { waiting = branches_for now.branch (drop (length fs - place) fs) ++ now.waiting }
+    → p ≡ record now { waiting = branches_for now.branch (drop (length fs - (place + 1)) fs) ++ now.waiting }
 put_step o p now fs place d l e h =
     let f = get_or fs (length fs - 1 - place) d in
-    let add : Open → Open = λ q. record { branch = q.branch; waiting = with_facts q.branch (f ∷ []) ∷ q.waiting; closed = q.closed } in
-    e ∙ ap add h ∙ ap (λ (l : List (Fact ℕ)). record { branch = now.branch; waiting = branches_with now.branch l ++ now.waiting; closed = now.closed }) (sym (from_behind fs place d l))
+    let add : Open → Open = λ q. record { branch = q.branch; waiting = branch_with_facts q.branch (f ∷ []) ∷ q.waiting; closed = q.closed } in
+    e ∙ ap add h ∙ ap (λ (l : List (Fact ℕ)). record { branch = now.branch; waiting = branches_for now.branch l ++ now.waiting; closed = now.closed }) (sym (from_end fs place d l))

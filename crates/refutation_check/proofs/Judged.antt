@@ -10,14 +10,14 @@ use Rattle.refutation_specs.specs.Line.{Line}
 use Rattle.refutation_specs.specs.Valid.{concept_at, IsBrokenAt}
 use Rattle.refutation_specs.proofs.Stack.{run_refutes}
 use Rattle.refutation_tree.specs.RefutationLists.{RefutationLists}
-use Rattle.refutation_rules.specs.Frame.{Frame}
+use Rattle.refutation_rules.specs.RefutationContext.{RefutationContext}
 use Rattle.refutation_check.specs.declared.checking.Verdict.{Verdict}
 use Rattle.refutation_check.specs.declared.checking.Verdict.TheVariants.{Accepted, Rejected}
 use Rattle.refutation_check.specs.Steps.{IsReadAs}
 use Rattle.refutation_check.specs.Verdicts.{named_theory, IsRejectedAt, IsJudgedAs}
 
--- the frame is that of a refutation of a query
-pub record IsFor (axioms : List Numbered) (query : Query) (r : RefutationLists) (f : Frame) : Type 0 where
+-- the context is that of a refutation of a query
+pub record IsFor (axioms : List Numbered) (query : Query) (r : RefutationLists) (f : RefutationContext) : Type 0 where
   pub axioms_are : f.axioms ≡ axioms
   pub named_are : f.named ≡ member_list r.axioms
   pub sub_is : f.sub ≡ query.sub
@@ -25,23 +25,23 @@ pub record IsFor (axioms : List Numbered) (query : Query) (r : RefutationLists) 
   pub shapes_are : f.shapes ≡ r.shapes
 
 module _ (axioms : List Numbered) (set : Limited) (query : Query) (r : RefutationLists) (named : IsPart r.axioms.members set.members) where
-  abbrev frame : Frame → Frame
-  frame f = record { axioms = axioms; named = member_list r.axioms; sub = query.sub; sup = query.sup; shapes = r.shapes; table = f.table }
+  abbrev context : RefutationContext → RefutationContext
+  context f = record { axioms = axioms; named = member_list r.axioms; sub = query.sub; sup = query.sup; shapes = r.shapes; table = f.table }
 
-  same_frame : (f : Frame) → IsFor axioms query r f → f ≡ frame f
-  same_frame f h i = record { axioms = h.axioms_are i; named = h.named_are i; sub = h.sub_is i; sup = h.sup_is i; shapes = h.shapes_are i; table = f.table }
+  same_context : (f : RefutationContext) → IsFor axioms query r f → f ≡ context f
+  same_context f h i = record { axioms = h.axioms_are i; named = h.named_are i; sub = h.sub_is i; sup = h.sup_is i; shapes = h.shapes_are i; table = f.table }
 
   rejected : (place : ℕ) → IsBrokenAt (named_theory axioms r) query.sub query.sup (concept_at r.shapes) r.lines place → IsRejectedAt axioms set query r place
   rejected zero b = absurd (omega (arith, b.counts))
   rejected (suc place) b = record { named = named; breaks = b }
 
-  judged : (f : Frame) (v : Verdict) → IsReadAs (frame f) r.lines v → IsJudgedAs axioms set query r v
+  judged : (f : RefutationContext) (v : Verdict) → IsReadAs (context f) r.lines v → IsJudgedAs axioms set query r v
   judged f Accepted h = record { named = named; refutes = run_refutes (named_theory axioms r) query.sub query.sup r.shapes r.lines h }
   judged f (Rejected place) h = rejected place h
 
-  read_as : (f : Frame) (lines : List Line) (v : Verdict) → IsFor axioms query r f → lines ≡ r.lines → IsReadAs f lines v → IsJudgedAs axioms set query r v
-  read_as f lines v is e h = judged f v (subst (λ (ls : List Line). IsReadAs (frame f) ls v) e (subst (λ (g : Frame). IsReadAs g lines v) (same_frame f is) h))
+  read_as : (f : RefutationContext) (lines : List Line) (v : Verdict) → IsFor axioms query r f → lines ≡ r.lines → IsReadAs f lines v → IsJudgedAs axioms set query r v
+  read_as f lines v is e h = judged f v (subst (λ (ls : List Line). IsReadAs (context f) ls v) e (subst (λ (g : RefutationContext). IsReadAs g lines v) (same_context f is) h))
 
-  pub judged_ok : (f : Frame) (lines : List Line) (result : Result Verdict NoMemory) → IsFor axioms query r f → lines ≡ r.lines → IfOk result (IsReadAs f lines) → IfOk result (IsJudgedAs axioms set query r)
+  pub judged_ok : (f : RefutationContext) (lines : List Line) (result : Result Verdict NoMemory) → IsFor axioms query r f → lines ≡ r.lines → IfOk result (IsReadAs f lines) → IfOk result (IsJudgedAs axioms set query r)
   judged_ok f lines (Ok v) is e h = read_as f lines v is e h
   judged_ok f lines (Err e') is e h = tt

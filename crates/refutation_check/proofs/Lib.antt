@@ -6,3 +6,4 @@ mod Children
 mod Steps
 mod Reading
 mod Judged
+mod Named

@@ -10,10 +10,10 @@ use Rattle.refutation_specs.specs.Line.{Line}
 use Rattle.refutation_specs.specs.Rules.{Known, nothing_known}
 use Rattle.refutation_specs.specs.Valid.{concept_at, open_after, open_after_all, Breaks}
 use Rattle.refutation_truth.specs.Theory.{theory_of}
-use Rattle.refutation_rules.specs.Frame.{Frame, theory, IsSameBut}
+use Rattle.refutation_rules.specs.RefutationContext.{RefutationContext, theory, IsSameButTable}
 use Rattle.refutation_check.specs.declared.checking.Verdict.TheVariants.{Rejected}
-use Rattle.refutation_check.specs.Open.{Open, branches, are_known, AreBranches}
-use Rattle.refutation_check.specs.Steps.{left_by, left_by_all, IsLeftIf, IsReadAs}
+use Rattle.refutation_check.specs.Open.{Open, branches, are_known, AreNumberedBranches}
+use Rattle.refutation_check.specs.Steps.{left_by_line, left_by_lines, IsLeftIf, IsReadAs}
 
 module _ (theory : Theory) (sub sup : Concept) (concept : ℕ → Option Concept) where
   abbrev goes_on : List Line → List Known → Option (List Known)
@@ -39,9 +39,9 @@ module _ (theory : Theory) (sub sup : Concept) (concept : ℕ → Option Concept
   at_line [] line lines e = e
   at_line (k ∷ ks) line lines e = e
 
--- ---- a frame over a longer table
+-- ---- a context over a longer table
 
-pub same_twice : (f g h : Frame) → IsSameBut f g → IsSameBut g h → IsSameBut f h
+pub same_twice : (f g h : RefutationContext) → IsSameButTable f g → IsSameButTable g h → IsSameButTable f h
 same_twice f g h a b = record {
   axioms = b.axioms ∙ a.axioms;
   named = b.named ∙ a.named;
@@ -50,18 +50,18 @@ same_twice f g h a b = record {
   shapes = b.shapes ∙ a.shapes;
 }
 
-same_left : (f g : Frame) (o : Open) (line : Line) → IsSameBut f g → left_by g o line ≡ open_after (theory f) f.sub f.sup (concept_at f.shapes) (are_known g.table (branches o)) line
+same_left : (f g : RefutationContext) (o : Open) (line : Line) → IsSameButTable f g → left_by_line g o line ≡ open_after (theory f) f.sub f.sup (concept_at f.shapes) (are_known g.table (branches o)) line
 same_left f g o line same i = open_after (theory_of (same.axioms i) (same.named i)) (same.sub i) (same.sup i) (concept_at (same.shapes i)) (are_known g.table (branches o)) line
 
 -- ---- lines that were read
 
 -- so many lines of a refutation leave the branches that are open now
-pub record IsRead (f g : Frame) (o : Open) (lines : List Line) (count : ℕ) : Type 0 where
-  pub left : left_by_all f (take count lines) ≡ Some (are_known g.table (branches o))
-  pub are : AreBranches (length g.table) (branches o)
-  pub same : IsSameBut f g
+pub record IsRead (f g : RefutationContext) (o : Open) (lines : List Line) (count : ℕ) : Type 0 where
+  pub left : left_by_lines f (take count lines) ≡ Some (are_known g.table (branches o))
+  pub are : AreNumberedBranches (length g.table) (branches o)
+  pub same : IsSameButTable f g
 
-module _ (f g : Frame) (o : Open) (lines : List Kept) (place : ℕ) (kept : Kept) where
+module _ (f g : RefutationContext) (o : Open) (lines : List Kept) (place : ℕ) (kept : Kept) where
   abbrev all : List Line
   all = map line_of lines
 
@@ -71,22 +71,22 @@ module _ (f g : Frame) (o : Open) (lines : List Kept) (place : ℕ) (kept : Kept
   within : place < length lines → place < length all
   within l = omega (arith, length-map lines line_of)
 
-  pub read_on : (h : Frame) (p : Open) (b : Bool) → kept ≡ get_or lines place kept → place < length lines → IsRead f g o all place → b ≡ true → IsLeftIf b (left_by g o (line_of kept)) h p → IsSameBut g h
+  pub read_on : (h : RefutationContext) (p : Open) (b : Bool) → kept ≡ get_or lines place kept → place < length lines → IsRead f g o all place → b ≡ true → IsLeftIf b (left_by_line g o (line_of kept)) h p → IsSameButTable g h
       → IsRead f h p all (place + 1)
   read_on h p b is l read e moved same =
-      let left = subst (λ (c : Bool). IsLeftIf c (left_by g o (line_of kept)) h p) e moved in
+      let left = subst (λ (c : Bool). IsLeftIf c (left_by_line g o (line_of kept)) h p) e moved in
       let taken = take_more all place (line_of kept) (within l) ∙ ap (λ (m : Line). take place all ++ m ∷ []) (sym (is_here is l)) in
       let more = one_more (theory f) f.sub f.sup (concept_at f.shapes) (take place all) (line_of kept) (nothing_known ∷ []) (are_known g.table (branches o)) read.left in
       record {
-        left = ap (left_by_all f) taken ∙ more ∙ sym (same_left f g o (line_of kept) read.same) ∙ left.are;
+        left = ap (left_by_lines f) taken ∙ more ∙ sym (same_left f g o (line_of kept) read.same) ∙ left.are;
         are = left.listed;
         same = same_twice f g h read.same same;
       }
 
-  pub broken : (h : Frame) (p : Open) (b : Bool) → kept ≡ get_or lines place kept → place < length lines → IsRead f g o all place → b ≡ false → IsLeftIf b (left_by g o (line_of kept)) h p
+  pub broken : (h : RefutationContext) (p : Open) (b : Bool) → kept ≡ get_or lines place kept → place < length lines → IsRead f g o all place → b ≡ false → IsLeftIf b (left_by_line g o (line_of kept)) h p
       → IsReadAs f all (Rejected (place + 1))
   broken h p b is l read e moved =
-      let left = subst (λ (c : Bool). IsLeftIf c (left_by g o (line_of kept)) h p) e moved in
+      let left = subst (λ (c : Bool). IsLeftIf c (left_by_line g o (line_of kept)) h p) e moved in
       let none = sym (same_left f g o (line_of kept) read.same) ∙ left in
       let rest = drop-cons all place (line_of kept) (within l) ∙ ap (λ (m : Line). m ∷ drop (suc place) all) (sym (is_here is l)) in
       let known = are_known g.table (branches o) in

@@ -1,11 +1,11 @@
--- Marks within a branch read the same there, whatever comes behind them.
+-- Marks within a branch read the same there, whatever comes after them.
 use Rattle.std.proofs.Common.{◌≡◌, ℕ, ◌+◌, ◌≤◌, Bool, List, [], ◌∷◌, ◌++◌, map, take, length, reverse, refl, ap, ◌∙◌, sym, subst, arith, length-append}
 use Rattle.std.proofs.lemmas.List.{take-take, take_at, length-take-le, reverse-append}
 use Rattle.std.proofs.Math.Seq.{take-length, take-append_seam}
 use Rattle.fact_specs.specs.declared.Fact.{Fact}
-use Rattle.branch_facts.specs.Known.{Known as Branch}
-use Rattle.refutation_rules.specs.Outcomes.{with_facts}
-use Rattle.refutation_check.specs.declared.open.Pending.{Pending}
+use Rattle.branch_facts.specs.NumberedBranch.{NumberedBranch as Branch}
+use Rattle.refutation_rules.specs.Outcomes.{branch_with_facts}
+use Rattle.refutation_check.specs.declared.open_branches.Pending.{Pending}
 use Rattle.refutation_check.specs.Open.{Open, branch_at, branches_at, knowing, knowing_nodes, AreWithin}
 
 pub within_more : (ps : List Pending) (n m a b : ℕ) → n ≤ a → m ≤ b → AreWithin n m ps → AreWithin a b ps
@@ -27,7 +27,7 @@ read_alike (p ∷ ps) n m k j e f h =
 
 -- ---- the branch that is read grows at its end
 
-pub facts_within : (ps : List Pending) (k j : Branch) (f : Fact ℕ) → j ≡ with_facts k (f ∷ []) → AreWithin (length k.nodes) (length k.facts) ps → AreWithin (length j.nodes) (length j.facts) ps
+pub facts_within : (ps : List Pending) (k j : Branch) (f : Fact ℕ) → j ≡ branch_with_facts k (f ∷ []) → AreWithin (length k.nodes) (length k.facts) ps → AreWithin (length j.nodes) (length j.facts) ps
 facts_within ps k j f e h =
     let nodes : length j.nodes ≡ length k.nodes = ap (λ (b : Branch). length b.nodes) e in
     let facts : length j.facts ≡ length k.facts + 1 = ap (λ (b : Branch). length b.facts) e ∙ length-append k.facts (f ∷ []) in
@@ -39,7 +39,7 @@ nodes_within ps k j x e h =
     let facts : length j.facts ≡ length k.facts = ap (λ (b : Branch). length b.facts) e in
     within_more ps (length k.nodes) (length k.facts) (length j.nodes) (length j.facts) (omega arith) (omega arith) h
 
-facts_wait : (ps : List Pending) (k j : Branch) (f : Fact ℕ) → j ≡ with_facts k (f ∷ []) → AreWithin (length k.nodes) (length k.facts) (reverse ps) → branches_at j ps ≡ branches_at k ps
+facts_wait : (ps : List Pending) (k j : Branch) (f : Fact ℕ) → j ≡ branch_with_facts k (f ∷ []) → AreWithin (length k.nodes) (length k.facts) (reverse ps) → branches_at j ps ≡ branches_at k ps
 facts_wait ps k j f e h =
     let nodes = ap (λ (b : Branch). take (length k.nodes) b.nodes) e in
     let facts = ap (λ (b : Branch). take (length k.facts) b.facts) e ∙ take-append_seam k.facts (f ∷ []) ∙ sym (take-length k.facts) in
@@ -55,7 +55,7 @@ nodes_wait ps k j x e h =
 abbrev open_with : List Pending → Bool → Branch → Open
 open_with ps b k = record { branch = k; waiting = branches_at k ps; closed = b }
 
-pub facts_known : (ps : List Pending) (b : Bool) (k j : Branch) (f : Fact ℕ) (o : Open) → j ≡ with_facts k (f ∷ []) → AreWithin (length k.nodes) (length k.facts) (reverse ps) → open_with ps b k ≡ o
+pub facts_known : (ps : List Pending) (b : Bool) (k j : Branch) (f : Fact ℕ) (o : Open) → j ≡ branch_with_facts k (f ∷ []) → AreWithin (length k.nodes) (length k.facts) (reverse ps) → open_with ps b k ≡ o
     → open_with ps b j ≡ knowing o (f ∷ [])
 facts_known ps b k j f o e h v =
     ap (λ (ks : List Branch). record { branch = j; waiting = ks; closed = b }) (facts_wait ps k j f e h)
@@ -77,12 +77,12 @@ put_within ps p n m e f h =
     subst (λ (qs : List Pending). AreWithin n m qs) (sym (reverse-append ps (p ∷ []))) all
 
 pub put_waits : (ps : List Pending) (p : Pending) (k : Branch) → p.mark.nodes ≡ length k.nodes → p.mark.facts ≡ length k.facts
-    → branches_at k (ps ++ p ∷ []) ≡ with_facts k (p.fact ∷ []) ∷ branches_at k ps
+    → branches_at k (ps ++ p ∷ []) ≡ branch_with_facts k (p.fact ∷ []) ∷ branches_at k ps
 put_waits ps p k e f =
     let turned = ap (map (branch_at k)) (reverse-append ps (p ∷ [])) in
     let nodes : take p.mark.nodes k.nodes ≡ k.nodes = ap (λ (n : ℕ). take n k.nodes) e ∙ take-length k.nodes in
     let facts : take p.mark.facts k.facts ≡ k.facts = ap (λ (n : ℕ). take n k.facts) f ∙ take-length k.facts in
-    let first : branch_at k p ≡ with_facts k (p.fact ∷ []) = cc in
+    let first : branch_at k p ≡ branch_with_facts k (p.fact ∷ []) = cc in
     turned ∙ ap (λ (b : Branch). b ∷ branches_at k ps) first
 
 -- what is left within the mark that was taken

@@ -2,13 +2,15 @@
 use Rattle.std.specs.Prelude.{◌≡◌, ℕ, ◌+◌, ◌^◌, ◌≤◌, Bool, true, false, List, [], ◌∷◌, ◌++◌, map, take, reverse, All}
 use Rattle.std.specs.List.{list_any, range_with_len}
 use Rattle.shape_specs.specs.Shape.{Shape}
-use Rattle.branch_facts.specs.Known.{Known as Branch, knows}
+use Rattle.branch_facts.specs.NumberedBranch.{NumberedBranch as Branch, has_node}
 use Rattle.refutation_specs.specs.Rules.{Known}
 use Rattle.fact_specs.specs.declared.Fact.{Fact}
+use Rattle.fact_specs.specs.State.{new_nodes}
+use Rattle.refutation_rules.specs.declared.outcome.NewNodes.{NewNodes}
 use Rattle.refutation_rules.specs.declared.outcome.Outcome.{Outcome}
 use Rattle.refutation_rules.specs.declared.outcome.Outcome.TheVariants.{Closed, Started, More, Nodes, Branches}
-use Rattle.refutation_rules.specs.Outcomes.{known_of, with_facts, IsBranch}
-use Rattle.refutation_check.specs.declared.open.Pending.{Pending}
+use Rattle.refutation_rules.specs.Outcomes.{known_of, branch_with_facts, branch_with_nodes, IsBranch}
+use Rattle.refutation_check.specs.declared.open_branches.Pending.{Pending}
 
 pub record Open : Type 0 where
   pub branch : Branch
@@ -26,22 +28,36 @@ branches o = branches_of o.closed o.branch o.waiting
 abbrev pub are_known : List Shape → List Branch → List Known
 are_known table ks = map (known_of table) ks
 
-abbrev pub AreBranches : ℕ → List Branch → Type 0
-AreBranches bound ks = All (IsBranch bound) ks
+abbrev pub AreNumberedBranches : ℕ → List Branch → Type 0
+AreNumberedBranches bound ks = All (IsBranch bound) ks
 
 -- the branch that is read with nodes more, and with facts more
 abbrev pub knowing_nodes : Open → List ℕ → Open
 knowing_nodes o xs = record { branch = record { nodes = o.branch.nodes ++ xs; facts = o.branch.facts }; waiting = o.waiting; closed = o.closed }
 
 abbrev pub knowing : Open → List (Fact ℕ) → Open
-knowing o fs = record { branch = with_facts o.branch fs; waiting = o.waiting; closed = o.closed }
+knowing o fs = record { branch = branch_with_facts o.branch fs; waiting = o.waiting; closed = o.closed }
+
+-- the branch that is read with new nodes and what is said of them: of each the edge that leads to it, and its concept
+abbrev pub with_new_nodes : Open → NewNodes → Open
+with_new_nodes o n = record { branch = branch_with_nodes o.branch n.from n.role n.concept n.first n.count; waiting = o.waiting; closed = o.closed }
+
+abbrev pub facts_of_new : NewNodes → List (Fact ℕ)
+facts_of_new n = new_nodes n.from n.role n.concept n.first n.count
+
+-- a branch for each of the facts, and one for a fact that waits as well
+abbrev pub branches_for : Branch → List (Fact ℕ) → List Branch
+branches_for k fs = map (λ f. branch_with_facts k (f ∷ [])) fs
+
+abbrev pub waiting_with : Open → Fact ℕ → Open
+waiting_with o f = record { branch = o.branch; waiting = branch_with_facts o.branch (f ∷ []) ∷ o.waiting; closed = o.closed }
 
 -- what a line leaves can be put in the place of the branch: only one that knows nothing is started, and new nodes are new
 abbrev pub IsReady : Branch → Outcome → Type 0
 IsReady k Closed = Unit {0}
 IsReady k (Started c d) = (k.nodes ≡ []) × (k.facts ≡ [])
 IsReady k (More fs) = Unit {0}
-IsReady k (Nodes n) = (n.first + n.count ≤ 2 ^ 32) × (list_any (knows k) (range_with_len n.first n.count) ≡ false)
+IsReady k (Nodes n) = (n.first + n.count ≤ 2 ^ 32) × (list_any (has_node k) (range_with_len n.first n.count) ≡ false)
 IsReady k (Branches fs) = Unit {0}
 
 -- ---- how those that wait are kept

@@ -4,28 +4,32 @@ use Rattle.refutation_specs.specs.Line.{Line}
 use Rattle.refutation_specs.specs.Rules.{Known, nothing_known}
 use Rattle.refutation_specs.specs.Valid.{concept_at, open_after, open_after_all, IsBrokenAt}
 use Rattle.refutation_rules.specs.declared.outcome.Outcome.{Outcome}
-use Rattle.refutation_rules.specs.Outcomes.{children}
-use Rattle.refutation_rules.specs.Frame.{Frame, theory}
+use Rattle.refutation_rules.specs.Outcomes.{branches_after}
+use Rattle.refutation_rules.specs.RefutationContext.{RefutationContext, theory}
 use Rattle.refutation_check.specs.declared.checking.Verdict.{Verdict}
 use Rattle.refutation_check.specs.declared.checking.Verdict.TheVariants.{Accepted, Rejected}
-use Rattle.refutation_check.specs.Open.{Open, branches, are_known, AreBranches, IsReady}
+use Rattle.refutation_check.specs.Open.{Open, branches, are_known, AreNumberedBranches, IsReady}
 
 -- the branches that a line leaves of those that are open, and several lines of the one that knows nothing
-abbrev pub left_by : Frame → Open → Line → Option (List Known)
-left_by f o line = open_after (theory f) f.sub f.sup (concept_at f.shapes) (are_known f.table (branches o)) line
+abbrev pub left_by_line : RefutationContext → Open → Line → Option (List Known)
+left_by_line f o line = open_after (theory f) f.sub f.sup (concept_at f.shapes) (are_known f.table (branches o)) line
 
-abbrev pub left_by_all : Frame → List Line → Option (List Known)
-left_by_all f lines = open_after_all (theory f) f.sub f.sup (concept_at f.shapes) (nothing_known ∷ []) lines
+abbrev pub left_by_lines : RefutationContext → List Line → Option (List Known)
+left_by_lines f lines = open_after_all (theory f) f.sub f.sup (concept_at f.shapes) (nothing_known ∷ []) lines
 
 -- what a line leaves is open now, and its concepts are numbers of the table
-pub record IsLeft (left : Option (List Known)) (f : Frame) (o : Open) : Type 0 where
+pub record IsLeft (left : Option (List Known)) (f : RefutationContext) (o : Open) : Type 0 where
   pub are : left ≡ Some (are_known f.table (branches o))
-  pub listed : AreBranches (length f.table) (branches o)
+  pub listed : AreNumberedBranches (length f.table) (branches o)
 
 -- or no branch was open, or the premises of the line do not hold in the first one
-abbrev pub IsLeftIf : Bool → Option (List Known) → Frame → Open → Type 0
+abbrev pub IsLeftIf : Bool → Option (List Known) → RefutationContext → Open → Type 0
 IsLeftIf true left f o = IsLeft left f o
 IsLeftIf false left f o = left ≡ None
+
+-- whether the line could be read, of the branches that are open before
+abbrev pub IsStep : RefutationContext → Open → Line → RefutationContext → Open → Bool → Type 0
+IsStep f o line g p taken = IsLeftIf taken (left_by_line f o line) g p
 
 abbrev pub IsReadyIf : Open → Option Outcome → Type 0
 IsReadyIf o None = Unit {0}
@@ -34,11 +38,11 @@ IsReadyIf o (Some outcome) = IsReady o.branch outcome
 -- the outcome, if there is one, has taken the place of the branch
 abbrev pub IsPutIf : Open → Option Outcome → Bool → Open → Type 0
 IsPutIf o None put p = put ≡ false
-IsPutIf o (Some outcome) put p = (put ≡ true) × (branches p ≡ children o.branch outcome ++ o.waiting)
+IsPutIf o (Some outcome) put p = (put ≡ true) × (branches p ≡ branches_after o.branch outcome ++ o.waiting)
 
 -- lines are accepted where they leave no branch open, and rejected where they break the rules
-abbrev pub IsReadAs : Frame → List Line → Verdict → Type 0
-IsReadAs f lines Accepted = left_by_all f lines ≡ Some []
+abbrev pub IsReadAs : RefutationContext → List Line → Verdict → Type 0
+IsReadAs f lines Accepted = left_by_lines f lines ≡ Some []
 IsReadAs f lines (Rejected place) = IsBrokenAt (theory f) f.sub f.sup (concept_at f.shapes) lines place
 
 -- after so many lines, all of which could be read

@@ -1,7 +1,10 @@
 // The verdict on a refutation.
-ghost use Rattle.std.specs.Prelude.{◌≡◌, ◌≤◌, IsTrue, IfOk, length};
-ghost use Rattle.shq_nnf.specs.Counts.{has_counts_within};
-ghost use Rattle.row_cache.specs.Rows.{AreInLimit};
+ghost use Rattle.std.specs.FinSet as sets;
+ghost use Rattle.std.specs.Prelude.{◌≡◌, ◌≤◌, ◌↔◌, IsTrue, IfOk, length};
+ghost use Rattle.std.specs.List.{list_all};
+ghost use Rattle.lane_sieve.specs.Sets.{IsPart};
+ghost use Rattle.axiom_sets.specs.Sets.{member_list};
+ghost use Rattle.ontology_limits.specs.Limits.{IsInLimit};
 ghost use Rattle.refutation_check.specs.Verdicts.{IsJudgedAs};
 
 use crate::NoMemory;
@@ -22,11 +25,12 @@ pub enum Verdict {
     Rejected(u32),
 }
 
-/// Whether the refutation of the query is valid over a set of axioms of the ontology.
+/// Whether the refutation of the query is valid over a set of axioms of the ontology. Whatever axioms the refutation names,
+/// also some that the ontology has not, it gets a verdict.
 ///
 /// # Errors
 ///
-/// Want of memory.
+/// Out of memory.
 pub fn check(
     alloc: Global,
     ontology: &Ontology,
@@ -35,16 +39,43 @@ pub fn check(
     refutation: &Refutation,
 ) -> Result<Verdict, NoMemory>
     requires set { set.now.limit ≡ length ontology.now.axioms }
-    requires named { refutation.now.axioms.limit ≡ length ontology.now.axioms }
-    requires within { AreInLimit ontology.now.axioms }
-    requires sub { IsTrue (has_counts_within 100 query.now.sub) }
-    requires sup { IsTrue (has_counts_within 100 query.now.sup) }
+    requires limits { IsInLimit ontology.now query.now }
     requires lines { length refutation.now.lines ≤ 4294967293 }
     ensures { IfOk result (IsJudgedAs ontology.now.axioms set.now query.now refutation.now) }
 {
-    if !set.contains_all(refutation.axioms_used()) {
+    let _limit = set.limit();
+    if !are_in(refutation.axioms_used(), set) {
         return Ok(Verdict::Rejected(0));
     }
     let mut rules = Rules::new(alloc, ontology, query, refutation)?;
     read(alloc, &mut rules, refutation.lines())
+}
+
+// Whether each axiom that is named is in the set, whatever the greatest numbers of the two may be.
+fn are_in(named: &AxiomSet, set: &AxiomSet) -> bool
+    ensures { IsTrue result ↔ IsPart named.now.members set.now.members }
+{
+    let _limit = named.limit();
+    are_all_in(named, set)
+}
+
+fn are_all_in(named: &AxiomSet, set: &AxiomSet) -> bool
+    ensures { result ≡ list_all (sets.contains set.now.members) (member_list named.now) }
+{
+    let mut all = true;
+    for number in named.numbers() {
+        let here = is_in(set, number);
+        all = all && here;
+    }
+    all
+}
+
+fn is_in(set: &AxiomSet, number: u32) -> bool
+    ensures { result ≡ sets.contains set.now.members number }
+{
+    let limit = set.limit();
+    if number < 1 || number > limit {
+        return false;
+    }
+    set.has(number)
 }

@@ -1,13 +1,13 @@
 // Lines in order.
 ghost use Rattle.std.specs.Prelude.{◌≡◌, ◌≤◌, false, [], ◌∷◌, IfOk, length, map};
 ghost use Rattle.refutation_tree.specs.RuleLine.{line_of};
-ghost use Rattle.refutation_rules.specs.Frame.{IsSameBut};
-ghost use Rattle.refutation_check.specs.Open.{branches, AreBranches};
-ghost use Rattle.refutation_check.specs.Steps.{left_by, IsLeftIf, IsPutIf, IsReadAs, IsReadyIf, IsEnd};
+ghost use Rattle.refutation_rules.specs.RefutationContext.{IsSameButTable};
+ghost use Rattle.refutation_check.specs.Open.{branches, AreNumberedBranches};
+ghost use Rattle.refutation_check.specs.Steps.{IsStep, IsPutIf, IsReadAs, IsReadyIf, IsEnd};
 
 use crate::NoMemory;
 use crate::checking::Verdict;
-use crate::open::OpenBranches;
+use crate::open_branches::OpenBranches;
 use refutation_rules::{Outcome, Rules};
 use refutation_tree::Line;
 use std::alloc::Global;
@@ -16,7 +16,7 @@ use std::alloc::Global;
 ///
 /// # Errors
 ///
-/// Want of memory.
+/// Out of memory.
 pub(crate) fn read(
     alloc: Global,
     rules: &mut Rules<'_>,
@@ -61,9 +61,9 @@ fn at_end(stack: &OpenBranches, count: u32) -> Verdict
 
 // Reads one line more. `false` where no branch is open, or where the premises of the line do not hold in the first one.
 fn step(rules: &mut Rules<'_>, stack: &mut OpenBranches, line: &Line) -> Result<bool, NoMemory>
-    requires { AreBranches (length rules.old.table) (branches stack.old) }
-    ensures left { IfOk result (λ taken. IsLeftIf taken (left_by rules.old stack.old (line_of line.now)) rules.new stack.new) }
-    ensures same { IsSameBut rules.old rules.new }
+    requires { AreNumberedBranches (length rules.old.table) (branches stack.old) }
+    ensures left { IfOk result (IsStep rules.old stack.old (line_of line.now) rules.new stack.new) }
+    ensures same { IsSameButTable rules.old rules.new }
 {
     if stack.is_closed() {
         return Ok(false);

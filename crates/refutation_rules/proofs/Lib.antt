@@ -1,5 +1,5 @@
 pub mod Reading
-pub mod Frames
+pub mod Contexts
 pub mod Held
 pub mod Edges
 pub mod Children

@@ -14,7 +14,7 @@ use Rattle.fact_specs.specs.declared.Fact.{Fact}
 use Rattle.fact_specs.specs.declared.Fact.TheVariants.{Has, Edge, Apart}
 use Rattle.fact_specs.specs.State.{new_nodes, apart_from, pairwise_apart, fresh_facts}
 use Rattle.fact_specs.specs.Reading.{read_fact, read_facts}
-use Rattle.branch_facts.specs.Known.{Known as Branch, knows as branch_knows}
+use Rattle.branch_facts.specs.NumberedBranch.{NumberedBranch as Branch, has_node}
 use Rattle.refutation_specs.specs.Line.{Line}
 use Rattle.refutation_specs.specs.Line.Line.{some_line, least_line}
 use Rattle.refutation_specs.specs.Rules.{Known, when, some_children, least_children}
@@ -22,8 +22,8 @@ use Rattle.refutation_specs.specs.Rules.{with_nodes as known_nodes}
 use Rattle.refutation_rules.specs.declared.outcome.Outcome.{Outcome}
 use Rattle.refutation_rules.specs.declared.outcome.Outcome.TheVariants.{Nodes}
 use Rattle.refutation_rules.specs.declared.outcome.NewNodes.{NewNodes}
-use Rattle.refutation_rules.specs.Outcomes.{known_of, with_nodes, children_after, IsFitIfSome}
-use Rattle.refutation_rules.specs.Frame.{Frame, line_children, IsOutcome, IsHeldShape}
+use Rattle.refutation_rules.specs.Outcomes.{known_of, branch_with_nodes, children_after, IsFitIfSome}
+use Rattle.refutation_rules.specs.RefutationContext.{RefutationContext, line_children, IsOutcome, IsHeldShape}
 use Rattle.refutation_rules.proofs.Edges.{same_tests, range_any, any_range}
 
 -- ---- one number more in a range
@@ -101,7 +101,7 @@ module _ (table : List Shape) (x s e : ℕ) where
       map-append (read_fact (tree_of table)) (new_nodes x s e first n) (pairwise_apart first n)
       ∙ (λ i. nodes_read first n i ++ pairs_read first n i)
 
-  pub nodes_more : (k : Branch) (first n : ℕ) → known_nodes (known_of table k) x s (tree_of table e) first n ≡ known_of table (with_nodes k x s e first n)
+  pub nodes_more : (k : Branch) (first n : ℕ) → known_nodes (known_of table k) x s (tree_of table e) first n ≡ known_of table (branch_with_nodes k x s e first n)
   nodes_more k first n =
       ap (λ (fs : List (Fact Concept)). record { nodes = k.nodes ++ range_with_len first n; facts = fs })
       (ap (λ (l : List (Fact Concept)). read_facts (tree_of table) k.facts ++ l) (sym (fresh_read first n)) ∙ sym (map-append (read_fact (tree_of table)) k.facts (fresh_facts x s e first n)))
@@ -109,31 +109,31 @@ module _ (table : List Shape) (x s e : ℕ) where
 -- ---- lines that make them
 
 abbrev are_free : Branch → ℕ → ℕ → Bool
-are_free k first n = leb (first + n) (2 ^ 32) && not (list_any (branch_knows k) (range_with_len first n))
+are_free k first n = leb (first + n) (2 ^ 32) && not (list_any (has_node k) (range_with_len first n))
 
-made : (f : Frame) (k : Branch) (line : Line) (nodes : NewNodes) (b : Bool) (o : Option Outcome)
+made : (f : RefutationContext) (k : Branch) (line : Line) (nodes : NewNodes) (b : Bool) (o : Option Outcome)
     → line_children f k line ≡ when b (Some (known_nodes (known_of f.table k) nodes.from nodes.role (tree_of f.table nodes.concept) nodes.first nodes.count ∷ []))
     → nodes.concept < length f.table → b ≡ are_free k nodes.first nodes.count → o ≡ when b (Some (Nodes nodes)) → IsOutcome f k line o
 made f k line nodes true o e lt free is =
-    let p = and_parts (leb (nodes.first + nodes.count) (2 ^ 32)) (not (list_any (branch_knows k) (range_with_len nodes.first nodes.count))) (sym free) in
+    let p = and_parts (leb (nodes.first + nodes.count) (2 ^ 32)) (not (list_any (has_node k) (range_with_len nodes.first nodes.count))) (sym free) in
     record {
       children = e ∙ ap (λ (m : Known). Some (m ∷ [])) (nodes_more f.table nodes.from nodes.role nodes.concept k nodes.first nodes.count) ∙ sym (ap (children_after f.table k) is);
       fit = subst (λ (q : Option Outcome). IsFitIfSome (length f.table) k q) (sym is)
-          (lt, leb-true (nodes.first + nodes.count) (2 ^ 32) p.0, not-true (list_any (branch_knows k) (range_with_len nodes.first nodes.count)) p.1);
+          (lt, leb-true (nodes.first + nodes.count) (2 ^ 32) p.0, not-true (list_any (has_node k) (range_with_len nodes.first nodes.count)) p.1);
     }
 made f k line nodes false o e lt free is = record { children = e ∙ sym (ap (children_after f.table k) is); fit = subst (λ (q : Option Outcome). IsFitIfSome (length f.table) k q) (sym is) tt }
 
-pub some_made : (f : Frame) (k : Branch) (x y c s e : ℕ) (o : Option Outcome) → IsHeldShape f k x c (some_shape s e) → y < 2 ^ 32
+pub some_made : (f : RefutationContext) (k : Branch) (x y c s e : ℕ) (o : Option Outcome) → IsHeldShape f k x c (some_shape s e) → y < 2 ^ 32
     → o ≡ when (are_free k y 1) (Some (Nodes (record { from = x; role = s; concept = e; first = y; count = 1 }))) → IsOutcome f k (some_line x y c) o
 some_made f k x y c s e o h small is =
     let fits : leb (y + 1) (2 ^ 32) ≡ true = le-leb (y + 1) (2 ^ 32) (omega arith) in
-    let free : not (branch_knows k y) ≡ are_free k y 1 = ap not (sym (or_false (branch_knows k y))) ∙ ap (λ (b : Bool). b && not (branch_knows k y || false)) (sym fits) in
+    let free : not (has_node k y) ≡ are_free k y 1 = ap not (sym (or_false (has_node k y))) ∙ ap (λ (b : Bool). b && not (has_node k y || false)) (sym fits) in
     made f k (some_line x y c) (record { from = x; role = s; concept = e; first = y; count = 1 }) (are_free k y 1) o
     (h.goes_on (some_children (known_of f.table k) x y)
     ∙ ap (λ (b : Bool). when b (Some (known_nodes (known_of f.table k) x s (tree_of f.table e) y 1 ∷ []))) free)
     (ltb-true e (length f.table) h.parts_below) refl is
 
-pub least_made : (f : Frame) (k : Branch) (x y c n s e : ℕ) (o : Option Outcome) → IsHeldShape f k x c (least_shape n s e)
+pub least_made : (f : RefutationContext) (k : Branch) (x y c n s e : ℕ) (o : Option Outcome) → IsHeldShape f k x c (least_shape n s e)
     → o ≡ when (are_free k y n) (Some (Nodes (record { from = x; role = s; concept = e; first = y; count = n }))) → IsOutcome f k (least_line x y c) o
 least_made f k x y c n s e o h is =
     made f k (least_line x y c) (record { from = x; role = s; concept = e; first = y; count = n }) (are_free k y n) o
@@ -141,10 +141,10 @@ least_made f k x y c n s e o h is =
     ∙ ap (λ (b : Bool). when (leb (y + n) (2 ^ 32) && not b) (Some (known_nodes (known_of f.table k) x s (tree_of f.table e) y n ∷ []))) (some_known y n k.nodes))
     (ltb-true e (length f.table) h.parts_below) refl is
 
-pub some_none : (f : Frame) (k : Branch) (x y c : ℕ) (s : Shown) → IsHeldShape f k x c (form_of s) → ((r e : ℕ) → s ≡ S.SomeOf r e → ⊥) → line_children f k (some_line x y c) ≡ None
+pub some_none : (f : RefutationContext) (k : Branch) (x y c : ℕ) (s : Shown) → IsHeldShape f k x c (form_of s) → ((r e : ℕ) → s ≡ S.SomeOf r e → ⊥) → line_children f k (some_line x y c) ≡ None
 some_none f k x y c (S.SomeOf r e) h other = absurd (other r e refl)
 some_none f k x y c _ h other = h.goes_on (some_children (known_of f.table k) x y)
 
-pub least_none : (f : Frame) (k : Branch) (x y c : ℕ) (s : Shown) → IsHeldShape f k x c (form_of s) → ((n r e : ℕ) → s ≡ S.Min n r e → ⊥) → line_children f k (least_line x y c) ≡ None
+pub least_none : (f : RefutationContext) (k : Branch) (x y c : ℕ) (s : Shown) → IsHeldShape f k x c (form_of s) → ((n r e : ℕ) → s ≡ S.Min n r e → ⊥) → line_children f k (least_line x y c) ≡ None
 least_none f k x y c (S.Min n r e) h other = absurd (other n r e refl)
 least_none f k x y c _ h other = h.goes_on (least_children (known_of f.table k) x y)

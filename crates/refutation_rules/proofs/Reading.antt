@@ -11,9 +11,9 @@ use Rattle.shq_nnf.proofs.Numbers.{tree_stays, length_extends}
 use Rattle.fact_specs.specs.declared.Fact.{Fact}
 use Rattle.fact_specs.specs.declared.Fact.TheVariants.{Has, Edge, Apart, Same}
 use Rattle.fact_specs.specs.State.{has, has_tree, has_edge, are_apart, all_apart}
-use Rattle.fact_specs.specs.Reading.{read_fact, read_facts, is_listed, are_listed}
+use Rattle.fact_specs.specs.Reading.{read_fact, read_facts, is_fact_listed, are_listed}
 use Rattle.fact_specs.proofs.Reading.{keeps_state, has-read}
-use Rattle.branch_facts.specs.Known.{Known as Branch}
+use Rattle.branch_facts.specs.NumberedBranch.{NumberedBranch as Branch}
 use Rattle.refutation_rules.specs.Outcomes.{known_of, IsBranch}
 
 -- ---- a longer table
@@ -33,7 +33,7 @@ facts_stay a b e (Same x y ∷ fs) h = ap (λ (l : List (Fact Concept)). Same x 
 pub known_stays : (a b : List Shape) (k : Branch) → Extends a b → are_listed (length a) k.facts ≡ true → known_of b k ≡ known_of a k
 known_stays a b k e h = ap (λ (fs : List (Fact Concept)). record { nodes = k.nodes; facts = fs }) (facts_stay a b e k.facts h)
 
-fact_listed : (m n : ℕ) → m ≤ n → (f : Fact ℕ) → is_listed m f ≡ true → is_listed n f ≡ true
+fact_listed : (m n : ℕ) → m ≤ n → (f : Fact ℕ) → is_fact_listed m f ≡ true → is_fact_listed n f ≡ true
 fact_listed m n le (Has x c) h = let less = ltb-true c m h in lt-ltb c n (omega arith)
 fact_listed m n le (Edge r x y) h = refl
 fact_listed m n le (Apart x y) h = refl
@@ -42,8 +42,8 @@ fact_listed m n le (Same x y) h = refl
 pub listed_more : (m n : ℕ) → m ≤ n → (fs : List (Fact ℕ)) → are_listed m fs ≡ true → are_listed n fs ≡ true
 listed_more m n le [] h = refl
 listed_more m n le (f ∷ fs) h =
-    let p = and_parts (is_listed m f) (are_listed m fs) h in
-    and_from (is_listed n f) (are_listed n fs) (fact_listed m n le f p.0) (listed_more m n le fs p.1)
+    let p = and_parts (is_fact_listed m f) (are_listed m fs) h in
+    and_from (is_fact_listed n f) (are_listed n fs) (fact_listed m n le f p.0) (listed_more m n le fs p.1)
 
 -- a branch over a table is one over a longer table
 pub branch_stays : (a b : List Shape) (k : Branch) → Extends a b → IsBranch (length a) k → IsBranch (length b) k

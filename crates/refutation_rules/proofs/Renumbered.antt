@@ -256,8 +256,8 @@ first_more shapes a b numbers c n first e is =
 
 -- ---- the numbers of the axioms that are named
 
-pub members_within : (s : Limited) (n : ℕ) (numbers : List ℕ) → numbers ≡ member_list s → s.limit ≡ n → IsWithin s.limit s.members → All (λ k. (1 ≤ k) × (k ≤ n)) numbers
-members_within s n numbers e long within =
+pub members_within : (s : Limited) (n : ℕ) (numbers : List ℕ) → numbers ≡ member_list s → IsWithin n s.members → All (λ k. (1 ≤ k) × (k ≤ n)) numbers
+members_within s n numbers e within =
     subst (λ (ns : List ℕ). All (λ k. (1 ≤ k) × (k ≤ n)) ns) (sym e)
     (All-from_get_or (λ k. (1 ≤ k) × (k ≤ n)) (member_list s) 0
-    (λ i lt. let is = within (get_or (member_list s) i 0) (member_list-at s i lt).0 in (is.0, omega (arith, is.1, long))))
+    (λ i lt. within (get_or (member_list s) i 0) (member_list-at s i lt).0))

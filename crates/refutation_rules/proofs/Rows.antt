@@ -13,17 +13,17 @@ use Rattle.fact_specs.specs.State.{has, has_tree, has_edge}
 use Rattle.fact_specs.specs.Reading.{are_listed}
 use Rattle.fact_specs.proofs.Reading.{has-read}
 use Rattle.row_cache.specs.Rows.{row_for, IsRow, range_for, IsRange}
-use Rattle.row_cache.specs.declared.rows.Row.{Row}
-use Rattle.row_cache.specs.declared.rows.RangeRow.{RangeRow}
-use Rattle.branch_facts.specs.Known.{Known as Branch, knows as branch_knows}
+use Rattle.row_cache.specs.declared.cached_row.CachedRow.{CachedRow}
+use Rattle.row_cache.specs.declared.cached_row.CachedRange.{CachedRange}
+use Rattle.branch_facts.specs.NumberedBranch.{NumberedBranch as Branch, has_node}
 use Rattle.refutation_specs.specs.Rules.{Known, knows, when, row_children, range_children}
 use Rattle.refutation_specs.specs.Rules.{with_facts as known_with}
 use Rattle.refutation_rules.specs.Outcomes.{known_of}
-use Rattle.refutation_rules.specs.Frame.{Frame, theory, Adds, row_used, range_used}
+use Rattle.refutation_rules.specs.RefutationContext.{RefutationContext, theory, AddsConcept, row_used, range_used}
 use Rattle.refutation_rules.proofs.Children.{one_fact}
 
 -- the node is in the concept of a number, where this holds
-adds_when : (table : List Shape) (k : Branch) (b : Bool) (y n : ℕ) (c : Concept) → IsNumber table n c → Adds table k (when b (Some (known_with (known_of table k) (Has y c ∷ []) ∷ []))) y (when b (Some n))
+adds_when : (table : List Shape) (k : Branch) (b : Bool) (y n : ℕ) (c : Concept) → IsNumber table n c → AddsConcept table k (when b (Some (known_with (known_of table k) (Has y c ∷ []) ∷ []))) y (when b (Some n))
 adds_when table k false y n c is = refl
 adds_when table k true y n c is = (
   is.listed,
@@ -47,27 +47,27 @@ module _ (table : List Shape) (good : IsTable table) (k : Branch) (listed : are_
       ∙ list_all-map (has_tree known.facts x) (tree_of table) ns
       ∙ all_had ns are.listed
 
-  inclusion_by : (b : Bool) (cs : List Concept) (d : Concept) (positions : List ℕ) (row : Option Row)
+  inclusion_by : (b : Bool) (cs : List Concept) (d : Concept) (positions : List ℕ) (row : Option CachedRow)
       → IsRow table (cond b (Some (record { premises = map (conjunct_at cs) positions; concept = row_concept cs d positions })) None) row
-      → Adds table k (when (b && knows known x && list_all (λ p. has_tree known.facts x (conjunct_at cs p)) positions) (Some (known_with known (Has x (row_concept cs d positions) ∷ []) ∷ []))) x (row_used k x row)
+      → AddsConcept table k (when (b && knows known x && list_all (λ p. has_tree known.facts x (conjunct_at cs p)) positions) (Some (known_with known (Has x (row_concept cs d positions) ∷ []) ∷ []))) x (row_used k x row)
   inclusion_by false cs d positions None is = refl
   inclusion_by false cs d positions (Some r) is = absurd is
   inclusion_by true cs d positions None is = absurd is
   inclusion_by true cs d positions (Some r) is =
       let C = row_concept cs d positions in
-      let e : (knows known x && list_all (λ p. has_tree known.facts x (conjunct_at cs p)) positions) ≡ (branch_knows k x && list_all (has k.facts x) r.premises) =
+      let e : (knows known x && list_all (λ p. has_tree known.facts x (conjunct_at cs p)) positions) ≡ (has_node k x && list_all (has k.facts x) r.premises) =
       ap (λ (b : Bool). knows known x && b) (premises_had r.premises positions cs is.0) in
-      subst (λ (b : Bool). Adds table k (when b (Some (known_with known (Has x C ∷ []) ∷ []))) x (row_used k x (Some r))) (sym e)
-      (adds_when table k (branch_knows k x && list_all (has k.facts x) r.premises) x r.concept C is.1)
+      subst (λ (b : Bool). AddsConcept table k (when b (Some (known_with known (Has x C ∷ []) ∷ []))) x (row_used k x (Some r))) (sym e)
+      (adds_when table k (has_node k x && list_all (has k.facts x) r.premises) x r.concept C is.1)
 
-  pub row_adds : (part : Option Part) (positions : List ℕ) (row : Option Row) → IsRow table (row_for part positions) row → Adds table k (row_children known x positions part) x (row_used k x row)
+  pub row_adds : (part : Option Part) (positions : List ℕ) (row : Option CachedRow) → IsRow table (row_for part positions) row → AddsConcept table k (row_children known x positions part) x (row_used k x row)
   row_adds None positions None is = refl
   row_adds None positions (Some r) is = absurd is
   row_adds (Some (range s d)) positions None is = refl
   row_adds (Some (range s d)) positions (Some r) is = absurd is
   row_adds (Some (inclusion cs d)) positions row is = inclusion_by (are_name_positions cs positions) cs d positions row is
 
-pub range_adds : (f : Frame) (k : Branch) (x y : ℕ) (part : Option Part) (row : Option RangeRow) → IsRange f.table (range_for part) row → Adds f.table k (range_children (theory f) (known_of f.table k) x y part) y (range_used f k x y row)
+pub range_adds : (f : RefutationContext) (k : Branch) (x y : ℕ) (part : Option Part) (row : Option CachedRange) → IsRange f.table (range_for part) row → AddsConcept f.table k (range_children (theory f) (known_of f.table k) x y part) y (range_used f k x y row)
 range_adds f k x y None None is = refl
 range_adds f k x y None (Some r) is = absurd is
 range_adds f k x y (Some (inclusion cs d)) None is = refl
@@ -76,5 +76,5 @@ range_adds f k x y (Some (range s d)) None is = absurd is
 range_adds f k x y (Some (range s d)) (Some r) is =
     let known = known_of f.table k in
     let test : ℕ → Bool = λ role. knows known x && knows known y && has_edge known.facts (λ q. (theory f).below q role) x y in
-    subst (λ (role : ℕ). Adds f.table k (when (test role) (Some (known_with known (Has y d ∷ []) ∷ []))) y (range_used f k x y (Some r))) is.0
+    subst (λ (role : ℕ). AddsConcept f.table k (when (test role) (Some (known_with known (Has y d ∷ []) ∷ []))) y (range_used f k x y (Some r))) is.0
     (adds_when f.table k (test r.role) y r.concept d is.1)

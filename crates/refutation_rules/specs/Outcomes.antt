@@ -7,7 +7,7 @@ use Rattle.fact_specs.specs.declared.Fact.{Fact}
 use Rattle.fact_specs.specs.declared.Fact.TheVariants.{Has}
 use Rattle.fact_specs.specs.State.{fresh_facts}
 use Rattle.fact_specs.specs.Reading.{read_facts, are_listed}
-use Rattle.branch_facts.specs.Known.{Known as Numbered}
+use Rattle.branch_facts.specs.NumberedBranch.{NumberedBranch as Numbered}
 use Rattle.refutation_specs.specs.Rules.{Known}
 use Rattle.refutation_rules.specs.declared.outcome.Outcome.{Outcome}
 use Rattle.refutation_rules.specs.declared.outcome.Outcome.TheVariants.{Closed, Started, More, Nodes, Branches}
@@ -16,28 +16,28 @@ use Rattle.refutation_rules.specs.declared.outcome.Outcome.TheVariants.{Closed, 
 abbrev pub known_of : List Shape → Numbered → Known
 known_of table k = record { nodes = k.nodes; facts = read_facts (tree_of table) k.facts }
 
-abbrev pub with_facts : Numbered → List (Fact ℕ) → Numbered
-with_facts k fs = record { nodes = k.nodes; facts = k.facts ++ fs }
+abbrev pub branch_with_facts : Numbered → List (Fact ℕ) → Numbered
+branch_with_facts k fs = record { nodes = k.nodes; facts = k.facts ++ fs }
 
 -- n nodes more, with their facts
-abbrev pub with_nodes : Numbered → ℕ → ℕ → ℕ → ℕ → ℕ → Numbered
-with_nodes k x role c first n = record { nodes = k.nodes ++ range_with_len first n; facts = k.facts ++ fresh_facts x role c first n }
+abbrev pub branch_with_nodes : Numbered → ℕ → ℕ → ℕ → ℕ → ℕ → Numbered
+branch_with_nodes k x role c first n = record { nodes = k.nodes ++ range_with_len first n; facts = k.facts ++ fresh_facts x role c first n }
 
-abbrev pub started : ℕ → ℕ → Numbered
-started c d = record { nodes = 0 ∷ []; facts = Has 0 c ∷ Has 0 d ∷ [] }
+abbrev pub started_branch : ℕ → ℕ → Numbered
+started_branch c d = record { nodes = 0 ∷ []; facts = Has 0 c ∷ Has 0 d ∷ [] }
 
 -- the branches that take the place of the one
-abbrev pub children : Numbered → Outcome → List Numbered
-children k Closed = []
-children k (Started c d) = started c d ∷ []
-children k (More fs) = with_facts k fs.items ∷ []
-children k (Nodes n) = with_nodes k n.from n.role n.concept n.first n.count ∷ []
-children k (Branches fs) = map (λ f. with_facts k (f ∷ [])) fs.items
+abbrev pub branches_after : Numbered → Outcome → List Numbered
+branches_after k Closed = []
+branches_after k (Started c d) = started_branch c d ∷ []
+branches_after k (More fs) = branch_with_facts k fs.items ∷ []
+branches_after k (Nodes n) = branch_with_nodes k n.from n.role n.concept n.first n.count ∷ []
+branches_after k (Branches fs) = map (λ f. branch_with_facts k (f ∷ [])) fs.items
 
 -- none where the premises of the line do not hold
 abbrev pub children_after : List Shape → Numbered → Option Outcome → Option (List Known)
 children_after table k None = None
-children_after table k (Some o) = Some (map (known_of table) (children k o))
+children_after table k (Some o) = Some (map (known_of table) (branches_after k o))
 
 -- what new facts and nodes keep to: concepts are numbers below the bound, and new nodes are new
 abbrev pub IsFit : ℕ → Numbered → Outcome → Type 0
@@ -59,12 +59,12 @@ pub record IsBranch (bound : ℕ) (k : Numbered) : Type 0 where
 -- ---- outcomes with few facts
 
 -- the node in the concept and no more, where there is a concept
-abbrev pub IsMoreIf : ℕ → Option ℕ → Option Outcome → Type 0
-IsMoreIf x None o = o ≡ None
-IsMoreIf x (Some c) (Some (More fs)) = fs.items ≡ Has x c ∷ []
-IsMoreIf x (Some c) _ = ⊥
+abbrev pub AddsIfSome : ℕ → Option ℕ → Option Outcome → Type 0
+AddsIfSome x None o = o ≡ None
+AddsIfSome x (Some c) (Some (More fs)) = fs.items ≡ Has x c ∷ []
+AddsIfSome x (Some c) _ = ⊥
 
 -- a branch for each of these facts
-abbrev pub AreBranches : List (Fact ℕ) → Option Outcome → Type 0
-AreBranches facts (Some (Branches fs)) = fs.items ≡ facts
-AreBranches facts _ = ⊥
+abbrev pub BranchesInto : List (Fact ℕ) → Option Outcome → Type 0
+BranchesInto facts (Some (Branches fs)) = fs.items ≡ facts
+BranchesInto facts _ = ⊥

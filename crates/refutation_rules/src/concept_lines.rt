@@ -4,7 +4,7 @@ ghost use Rattle.fact_specs.specs.declared.Fact.TheVariants.{Has};
 ghost use Rattle.shq_nnf.specs.Numbers.{Extends};
 ghost use Rattle.refutation_specs.specs.Line.Line.{start_line, and_line, or_line, choose_line, pair_line, bottom_line, clash_line};
 ghost use Rattle.refutation_rules.specs.Outcomes.{IsBranch};
-ghost use Rattle.refutation_rules.specs.Frame.{IsOutcome, IsSameBut, IsChosen, IsClash};
+ghost use Rattle.refutation_rules.specs.RefutationContext.{IsOutcome, IsSameButTable, LineChooses, LineCloses};
 
 use crate::outcome::either;
 use crate::{NoMemory, Outcome, Rules};
@@ -73,7 +73,7 @@ impl<'a> Rules<'a> {
         requires { IsBranch (length self.old.table) branch.now }
         ensures outcome { IfOk result (λ o. IsOutcome self.new branch.now (choose_line node concept) o) }
         ensures kept { Extends self.old.table self.new.table }
-        ensures same { IsSameBut self.old self.new }
+        ensures same { IsSameButTable self.old self.new }
     {
         let Some(number) = self.chosen(branch, node, concept) else {
             return Ok(None)
@@ -87,7 +87,7 @@ impl<'a> Rules<'a> {
     }
 
     fn chosen(&self, branch: &BranchFacts, node: u32, concept: u32) -> Option<u32>
-        ensures { IsChosen self.now branch.now node concept result }
+        ensures { LineChooses self.now branch.now node concept result }
     {
         let Some(number) = self.number(concept) else {
             return None
@@ -137,7 +137,7 @@ impl<'a> Rules<'a> {
         requires { IsBranch (length self.old.table) branch.now }
         ensures outcome { IfOk result (λ o. IsOutcome self.new branch.now (clash_line node concept) o) }
         ensures kept { Extends self.old.table self.new.table }
-        ensures same { IsSameBut self.old self.new }
+        ensures same { IsSameButTable self.old self.new }
     {
         let Some(class) = self.class(branch, node, concept) else {
             return Ok(None)
@@ -149,7 +149,7 @@ impl<'a> Rules<'a> {
     // The class that the concept is, where the known node has it.
     fn class(&self, branch: &BranchFacts, node: u32, concept: u32) -> Option<u32>
         requires { IsBranch (length self.now.table) branch.now }
-        ensures { IsClash self.now branch.now node concept result }
+        ensures { LineCloses self.now branch.now node concept result }
     {
         let Some(shape) = self.held(branch, node, concept) else {
             return None

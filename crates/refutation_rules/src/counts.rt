@@ -1,12 +1,11 @@
 // The line of more successors than an "at most" restriction allows.
-ghost use Rattle.std.specs.Prelude.{◌≡◌, ◌+◌, ◌<◌, ◌==◌, ◌&&◌, length};
+ghost use Rattle.std.specs.Prelude.{◌≡◌, ◌<◌, length};
 ghost use Rattle.std.specs.List.{list_all};
-ghost use Rattle.shape_specs.specs.Tree.{tree_of};
-ghost use Rattle.fact_specs.specs.State.{has_tree, has_edge, are_apart, all_apart};
+ghost use Rattle.fact_specs.specs.State.{are_apart, all_apart};
 ghost use Rattle.refutation_specs.specs.Line.Line.{most_line};
-ghost use Rattle.refutation_specs.specs.Rules.{knows, are_fillers};
-ghost use Rattle.refutation_rules.specs.Outcomes.{known_of, IsBranch};
-ghost use Rattle.refutation_rules.specs.Frame.{theory, IsOutcome};
+ghost use Rattle.refutation_rules.specs.Outcomes.{IsBranch};
+ghost use Rattle.refutation_rules.specs.RefutationContext.{IsOutcome};
+ghost use Rattle.refutation_rules.specs.Tests.{is_filler, fill, exceed};
 
 use crate::{Outcome, Rules};
 use branch_facts::BranchFacts;
@@ -47,7 +46,7 @@ impl<'a> Rules<'a> {
     ) -> bool
         requires branch { IsBranch (length self.now.table) branch.now }
         requires listed { filler < length self.now.table }
-        ensures { result ≡ (length ends.now == count + 1 && are_fillers (theory self.now) (known_of self.now.table branch.now) node role (tree_of self.now.table filler) ends.now && all_apart branch.now.facts ends.now) }
+        ensures { result ≡ exceed self.now branch.now node count role filler ends.now }
     {
         ends.len() == count as usize + 1
             && self.are_fillers(branch, node, role, filler, ends)
@@ -64,7 +63,7 @@ impl<'a> Rules<'a> {
     ) -> bool
         requires branch { IsBranch (length self.now.table) branch.now }
         requires listed { filler < length self.now.table }
-        ensures { result ≡ are_fillers (theory self.now) (known_of self.now.table branch.now) node role (tree_of self.now.table filler) ends.now }
+        ensures { result ≡ fill self.now branch.now node role filler ends.now }
     {
         let mut fill = true;
         for end in ends {
@@ -78,7 +77,7 @@ impl<'a> Rules<'a> {
     fn is_filler(&self, branch: &BranchFacts, node: u32, role: u32, filler: u32, end: u32) -> bool
         requires branch { IsBranch (length self.now.table) branch.now }
         requires listed { filler < length self.now.table }
-        ensures { result ≡ (knows (known_of self.now.table branch.now) end && has_edge (known_of self.now.table branch.now).facts (λ r. (theory self.now).below r role) node end && has_tree (known_of self.now.table branch.now).facts end (tree_of self.now.table filler)) }
+        ensures { result ≡ is_filler self.now branch.now node role filler end }
     {
         self.leads_to(branch, role, node, end) && self.has(branch, end, filler)
     }

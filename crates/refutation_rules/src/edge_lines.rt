@@ -1,12 +1,10 @@
 // Lines that lead along an edge.
-ghost use Rattle.std.specs.Prelude.{◌≡◌, ◌<◌, ◌==◌, ◌&&◌, ◌||◌, [], ◌∷◌, IfOk, length};
-ghost use Rattle.std.specs.List.{list_any, range_with_len};
+ghost use Rattle.std.specs.Prelude.{◌≡◌, IfOk, length};
 ghost use Rattle.shq_nnf.specs.Numbers.{Extends};
-ghost use Rattle.fact_specs.specs.State.{has_edge};
 ghost use Rattle.refutation_specs.specs.Line.Line.{all_line, carry_line};
-ghost use Rattle.refutation_specs.specs.Rules.{knows};
-ghost use Rattle.refutation_rules.specs.Outcomes.{known_of, IsBranch};
-ghost use Rattle.refutation_rules.specs.Frame.{theory, IsOutcome, IsSameBut, AddsIf, PassesOnIf};
+ghost use Rattle.refutation_rules.specs.Outcomes.{IsBranch};
+ghost use Rattle.refutation_rules.specs.RefutationContext.{IsOutcome, IsSameButTable, LineAdds, LinePassesOn};
+ghost use Rattle.refutation_rules.specs.Tests.{leads, leads_to, leads_within, carries};
 
 use crate::outcome::one_more;
 use crate::{NoMemory, Outcome, Rules};
@@ -16,7 +14,7 @@ use shq_nnf::Shape;
 impl<'a> Rules<'a> {
     // Whether an edge of a role below this one leads from one node to the other.
     pub(crate) fn has_edge(&self, branch: &BranchFacts, role: u32, from: u32, to: u32) -> bool
-        ensures { result ≡ has_edge (known_of self.now.table branch.now).facts (λ r. (theory self.now).below r role) from to }
+        ensures { result ≡ leads self.now branch.now role from to }
     {
         let bound = self.role_bound();
         let own = branch.has_edge(role, from, to);
@@ -32,14 +30,14 @@ impl<'a> Rules<'a> {
         from: u32,
         to: u32,
     ) -> bool
-        ensures { result ≡ list_any (λ lower. (theory self.now).below lower role && has_edge branch.now.facts (λ r. r == lower) from to) (range_with_len 0 bound) }
+        ensures { result ≡ leads_within self.now branch.now bound role from to }
     {
         (0..bound).any(|lower| self.below(lower, role) && branch.has_edge(lower, from, to))
     }
 
     // Whether such an edge leads to a known node.
     pub(crate) fn leads_to(&self, branch: &BranchFacts, role: u32, from: u32, to: u32) -> bool
-        ensures { result ≡ (knows (known_of self.now.table branch.now) to && has_edge (known_of self.now.table branch.now).facts (λ r. (theory self.now).below r role) from to) }
+        ensures { result ≡ leads_to self.now branch.now role from to }
     {
         branch.knows(to) && self.has_edge(branch, role, from, to)
     }
@@ -62,7 +60,7 @@ impl<'a> Rules<'a> {
     // The filler of the restriction, where the successor is one.
     fn said_of(&self, branch: &BranchFacts, node: u32, end: u32, concept: u32) -> Option<u32>
         requires { IsBranch (length self.now.table) branch.now }
-        ensures { AddsIf self.now branch.now (all_line node end concept) end result }
+        ensures { LineAdds self.now branch.now (all_line node end concept) end result }
     {
         let Some(shape) = self.held(branch, node, concept) else {
             return None
@@ -91,7 +89,7 @@ impl<'a> Rules<'a> {
         requires { IsBranch (length self.old.table) branch.now }
         ensures outcome { IfOk result (λ o. IsOutcome self.new branch.now (carry_line node end role concept) o) }
         ensures kept { Extends self.old.table self.new.table }
-        ensures same { IsSameBut self.old self.new }
+        ensures same { IsSameButTable self.old self.new }
     {
         let Some(filler) = self.passed_on(branch, node, end, role, concept) else {
             return Ok(None);
@@ -110,7 +108,7 @@ impl<'a> Rules<'a> {
         concept: u32,
     ) -> Option<u32>
         requires { IsBranch (length self.now.table) branch.now }
-        ensures { PassesOnIf self.now branch.now node end role concept result }
+        ensures { LinePassesOn self.now branch.now node end role concept result }
     {
         let Some(shape) = self.held(branch, node, concept) else {
             return None
@@ -129,7 +127,7 @@ impl<'a> Rules<'a> {
 
     // Whether the role is transitive and below the upper one, and leads from one node to the other.
     fn carries(&self, branch: &BranchFacts, role: u32, upper: u32, from: u32, to: u32) -> bool
-        ensures { result ≡ ((theory self.now).is_transitive role && (theory self.now).below role upper && knows (known_of self.now.table branch.now) to && has_edge (known_of self.now.table branch.now).facts (λ r. (theory self.now).below r role) from to) }
+        ensures { result ≡ carries self.now branch.now role upper from to }
     {
         self.is_transitive(role)
             && self.below(role, upper)

@@ -1,12 +1,11 @@
 // Lines that make new nodes.
-ghost use Rattle.std.specs.Prelude.{◌≡◌, ◌+◌, ◌^◌, ◌≤◌, nat_le, ◌&&◌, not, Some, length};
+ghost use Rattle.std.specs.Prelude.{◌≡◌, ◌+◌, ◌^◌, ◌≤◌, length};
 ghost use Rattle.std.specs.List.{list_any, range_with_len};
-ghost use Rattle.branch_facts.specs.Known.{knows};
+ghost use Rattle.branch_facts.specs.NumberedBranch.{has_node};
 ghost use Rattle.refutation_specs.specs.Line.Line.{some_line, least_line};
-ghost use Rattle.refutation_specs.specs.Rules.{when};
-ghost use Rattle.refutation_rules.specs.declared.outcome.Outcome.TheVariants.{Nodes};
 ghost use Rattle.refutation_rules.specs.Outcomes.{IsBranch};
-ghost use Rattle.refutation_rules.specs.Frame.{IsOutcome};
+ghost use Rattle.refutation_rules.specs.RefutationContext.{IsOutcome};
+ghost use Rattle.refutation_rules.specs.Tests.{made_if_new};
 
 use crate::{NewNodes, Outcome, Rules};
 use branch_facts::BranchFacts;
@@ -78,7 +77,7 @@ impl<'a> Rules<'a> {
 
 // The nodes, where there are numbers for them and none is known.
 fn made(branch: &BranchFacts, nodes: NewNodes) -> Option<Outcome>
-    ensures { result ≡ when (nat_le (nodes.first + nodes.count) (2 ^ 32) && not (list_any (knows branch.now) (range_with_len nodes.first nodes.count))) (Some (Nodes nodes)) }
+    ensures { result ≡ made_if_new branch.now nodes }
 {
     if u64::from(nodes.first) + u64::from(nodes.count) > 1 << 32 {
         return None;
@@ -93,7 +92,7 @@ fn made(branch: &BranchFacts, nodes: NewNodes) -> Option<Outcome>
 #[tactic(auto, using(crate::proofs::Nodes::any_range_more))]
 fn knows_any(branch: &BranchFacts, first: u32, count: u32) -> bool
     requires { first + count ≤ 2 ^ 32 }
-    ensures { result ≡ list_any (knows branch.now) (range_with_len first count) }
+    ensures { result ≡ list_any (has_node branch.now) (range_with_len first count) }
 {
     let mut found = false;
     for offset in 0..count {

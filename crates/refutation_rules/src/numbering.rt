@@ -1,24 +1,20 @@
 // The numbers of a refutation's concepts in a table.
-ghost use Rattle.std.specs.Prelude.{◌≡◌, ◌+◌, ◌<◌, ◌≤◌, true, ◌∷◌, IsTrue, IfOk, length, map, slice_index};
-ghost use Rattle.shq_base.specs.Concept.{complement};
-ghost use Rattle.shape_specs.specs.Normal.{negated_form};
-ghost use Rattle.shape_specs.specs.Shape.{IsTable, has_parts_below, is_normal};
+ghost use Rattle.std.specs.Prelude.{◌≡◌, ◌≤◌, ◌∷◌, IsTrue, IfOk, length, map, slice_index};
+ghost use Rattle.shape_specs.specs.Shape.{has_parts_below, is_normal};
 ghost use Rattle.shape_specs.specs.Shape.Shape.{top as plain_top};
-ghost use Rattle.shape_specs.specs.Tree.{tree_over, trees_of, tree_of};
-ghost use Rattle.shq_nnf.specs.Counts.{has_counts_within};
+ghost use Rattle.shape_specs.specs.Tree.{tree_of};
 ghost use Rattle.shq_nnf.specs.Shapes.{form_of};
 ghost use Rattle.shq_nnf.specs.Numbers.{Extends, IsNumber};
 ghost use Rattle.role_box.specs.RoleAxioms.{role_axioms};
-ghost use Rattle.axiom_sets.specs.Sets.{member_list};
-ghost use Rattle.refutation_rules.specs.Numbers.{AreFirst, renumbered};
+ghost use Rattle.axiom_sets.specs.Sets.{IsWithin, member_list};
+ghost use Rattle.refutation_rules.specs.Numbers.{AreFirst, AreAllNumbered, renumbered, IsRenumbered};
 
 use crate::NoMemory;
-use crate::table::put_shape;
 use axiom_sets::AxiomSet;
 use refutation_tree::Refutation;
 use role_box::RoleBox;
 use shq_nnf::{Concepts, Shape};
-use shq_terms::{Concept, Node, Ontology};
+use shq_terms::Ontology;
 use std::alloc::Global;
 
 // The numbers of top and, after it, of each concept of the refutation.
@@ -27,7 +23,7 @@ pub(crate) fn number_concepts(
     concepts: &mut Concepts,
     refutation: &Refutation,
 ) -> Result<Vec<u32>, NoMemory>
-    ensures numbers { IfOk result (λ ns. AreFirst refutation.now.shapes concepts.new ns.items (length refutation.now.shapes + 1)) }
+    ensures numbers { IfOk result (λ ns. AreAllNumbered refutation.now.shapes concepts.new ns.items) }
 {
     let _count = concepts.len();
     let mut numbers = Vec::new(alloc);
@@ -66,39 +62,33 @@ fn put_renumbered(
 ) -> Result<u32, NoMemory>
     requires parts { IsTrue (has_parts_below (length concepts.old) (renumbered numbers.now (form_of shape))) }
     requires normal { IsTrue (is_normal concepts.old (renumbered numbers.now (form_of shape))) }
-    ensures number { IfOk result (λ n. IsNumber concepts.new n (tree_over (trees_of concepts.old) (renumbered numbers.now (form_of shape.entry)))) }
+    ensures number { IfOk result (IsRenumbered concepts.old concepts.new numbers.now shape.entry) }
     ensures kept { Extends concepts.old concepts.new }
 {
     match shape {
-        Shape::Top => put_shape(concepts, Shape::Top),
-        Shape::Bottom => put_shape(concepts, Shape::Bottom),
-        Shape::Name(class) => put_shape(concepts, Shape::Name(class)),
-        Shape::NotName(class) => put_shape(concepts, Shape::NotName(class)),
+        Shape::Top => concepts.put(Shape::Top),
+        Shape::Bottom => concepts.put(Shape::Bottom),
+        Shape::Name(class) => concepts.put(Shape::Name(class)),
+        Shape::NotName(class) => concepts.put(Shape::NotName(class)),
         Shape::And(parts) => {
             let parts = renumbered(alloc, numbers, parts)?;
-            put_shape(concepts, Shape::And(&parts))
+            concepts.put(Shape::And(&parts))
         }
         Shape::Or(parts) => {
             let parts = renumbered(alloc, numbers, parts)?;
-            put_shape(concepts, Shape::Or(&parts))
+            concepts.put(Shape::Or(&parts))
         }
         Shape::SomeOf(role, filler) => {
-            put_shape(concepts, Shape::SomeOf(role, number_at(numbers, filler)))
+            concepts.put(Shape::SomeOf(role, number_at(numbers, filler)))
         }
         Shape::AllOf(role, filler) => {
-            put_shape(concepts, Shape::AllOf(role, number_at(numbers, filler)))
+            concepts.put(Shape::AllOf(role, number_at(numbers, filler)))
         }
         Shape::Min(count, role, filler) => {
-            put_shape(
-                concepts,
-                Shape::Min(count, role, number_at(numbers, filler)),
-            )
+            concepts.put(Shape::Min(count, role, number_at(numbers, filler)))
         }
         Shape::Max(count, role, filler) => {
-            put_shape(
-                concepts,
-                Shape::Max(count, role, number_at(numbers, filler)),
-            )
+            concepts.put(Shape::Max(count, role, number_at(numbers, filler)))
         }
     }
 }
@@ -123,42 +113,15 @@ fn number_at(numbers: &[u32], concept: u32) -> u32
     }
 }
 
-// The number of the normal form of the complement.
-pub(crate) fn intern_complement(
-    alloc: Global,
-    concepts: &mut Concepts,
-    concept: &Concept,
-) -> Result<u32, NoMemory>
-    requires { IsTrue (has_counts_within 100 concept.now) }
-    ensures number { IfOk result (λ n. IsNumber concepts.new n (negated_form concept.now)) }
-    ensures kept { Extends concepts.old concepts.new }
-{
-    let _count = concepts.len();
-    let complement = complement_of(alloc, concept)?;
-    let number = concepts.intern(&complement);
-    drop(complement);
-    number
-}
-
-fn complement_of(alloc: Global, concept: &Concept) -> Result<Concept, NoMemory>
-    ensures { IfOk result (λ c. c ≡ complement concept.now) }
-{
-    let inner = Box::new(alloc, concept.try_clone(alloc)?)?;
-    Ok(Concept {
-        node: Node::Not(inner),
-    })
-}
-
 // The roles by the axioms that are named.
 pub(crate) fn roles_of(
     alloc: Global,
     ontology: &Ontology,
     named: &AxiomSet,
 ) -> Result<RoleBox, NoMemory>
-    requires { named.now.limit ≡ length ontology.now.axioms }
+    requires { IsWithin (length ontology.now.axioms) named.now.members }
     ensures { IfOk result (λ roles. roles ≡ role_axioms ontology.now.axioms (member_list named.now)) }
 {
-    let _limit = named.limit();
     let numbers = listed(alloc, named)?;
     let roles = RoleBox::build(alloc, ontology, &numbers)?;
     Ok(roles)

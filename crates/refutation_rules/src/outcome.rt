@@ -2,7 +2,7 @@
 ghost use Rattle.std.specs.Prelude.{◌≡◌, [], ◌∷◌, Some, IfOk};
 ghost use Rattle.refutation_specs.specs.Rules.{when};
 ghost use Rattle.refutation_rules.specs.declared.outcome.Outcome.TheVariants.{Closed};
-ghost use Rattle.refutation_rules.specs.Outcomes.{IsMoreIf, AreBranches};
+ghost use Rattle.refutation_rules.specs.Outcomes.{AddsIfSome, BranchesInto};
 
 use crate::NoMemory;
 use fact_specs::Fact;
@@ -56,7 +56,7 @@ pub(crate) fn one_more(
     node: u32,
     concept: Option<u32>,
 ) -> Result<Option<Outcome>, NoMemory>
-    ensures { IfOk result (λ o. IsMoreIf node concept o) }
+    ensures { IfOk result (λ o. AddsIfSome node concept o) }
 {
     match concept {
         None => Ok(None),
@@ -74,7 +74,7 @@ pub(crate) fn either(
     first: Fact<u32>,
     second: Fact<u32>,
 ) -> Result<Option<Outcome>, NoMemory>
-    ensures { IfOk result (λ o. AreBranches (first ∷ second ∷ []) o) }
+    ensures { IfOk result (λ o. BranchesInto (first ∷ second ∷ []) o) }
 {
     let mut facts = Vec::new(alloc);
     facts.push(first)?;

@@ -5,12 +5,12 @@ ghost use Rattle.shq_nnf.specs.Numbers.{Extends};
 ghost use Rattle.fact_specs.specs.State.{has};
 ghost use Rattle.refutation_specs.specs.Line.Line.{row_line, range_line};
 ghost use Rattle.refutation_rules.specs.Outcomes.{IsBranch};
-ghost use Rattle.refutation_rules.specs.Frame.{IsOutcome, IsSameBut, row_used, range_used};
+ghost use Rattle.refutation_rules.specs.RefutationContext.{IsOutcome, IsSameButTable, row_used, range_used};
 
 use crate::outcome::one_more;
 use crate::{NoMemory, Outcome, Rules};
-use row_cache::{RangeRow, Row};
 use branch_facts::BranchFacts;
+use row_cache::{CachedRange, CachedRow};
 
 impl<'a> Rules<'a> {
     // The row of a part of an axiom, for the conjuncts at these positions.
@@ -23,9 +23,9 @@ impl<'a> Rules<'a> {
         positions: &[u32],
     ) -> Result<Option<Outcome>, NoMemory>
         requires { IsBranch (length self.old.table) branch.now }
-        ensures outcome { IfOk result (λ o. IsOutcome self.new branch.now (row_line node «axiom» part positions.now) o) }
+        ensures outcome { IfOk result (IsOutcome self.new branch.now (row_line node «axiom» part positions.now)) }
         ensures kept { Extends self.old.table self.new.table }
-        ensures same { IsSameBut self.old self.new }
+        ensures same { IsSameButTable self.old self.new }
     {
         let row = self.inclusion_row(axiom, part, positions)?;
         let concept = used(branch, node, row);
@@ -43,7 +43,7 @@ impl<'a> Rules<'a> {
         requires { IsBranch (length self.old.table) branch.now }
         ensures outcome { IfOk result (λ o. IsOutcome self.new branch.now (range_line node end «axiom») o) }
         ensures kept { Extends self.old.table self.new.table }
-        ensures same { IsSameBut self.old self.new }
+        ensures same { IsSameButTable self.old self.new }
     {
         let row = self.range_row(axiom)?;
         let concept = self.class_of_end(branch, node, end, row);
@@ -56,7 +56,7 @@ impl<'a> Rules<'a> {
         branch: &BranchFacts,
         node: u32,
         end: u32,
-        row: Option<RangeRow>,
+        row: Option<CachedRange>,
     ) -> Option<u32>
         ensures { result ≡ range_used self.now branch.now node end row }
     {
@@ -70,7 +70,7 @@ impl<'a> Rules<'a> {
 }
 
 // The concept of the row, where the node is known and has each of the premises.
-fn used(branch: &BranchFacts, node: u32, row: Option<Row>) -> Option<u32>
+fn used(branch: &BranchFacts, node: u32, row: Option<CachedRow>) -> Option<u32>
     ensures { result ≡ row_used branch.now node row }
 {
     let Some(row) = row else { return None };

@@ -1,30 +1,27 @@
 // The rules, over one refutation of one query.
-ghost use Rattle.std.specs.Prelude.{◌≡◌, ℕ, ◌≤◌, ◌<◌, ◌==◌, ◌&&◌, [], true, IsTrue, IfOk, length};
+ghost use Rattle.std.specs.Prelude.{◌≡◌, ℕ, ◌≤◌, ◌<◌, ◌==◌, true, IsTrue, IfOk, length};
 ghost use Rattle.shq_base.specs.Concept.{bottom};
 ghost use Rattle.shape_specs.specs.Normal.{normal_form, negated_form};
-ghost use Rattle.shape_specs.specs.Rows.{part_at};
 ghost use Rattle.shape_specs.specs.Shape.{IsTable, has_parts_below, is_normal};
-ghost use Rattle.shape_specs.specs.Tree.{tree_over, trees_of, tree_of};
+ghost use Rattle.shape_specs.specs.Tree.{tree_of};
 ghost use Rattle.shq_nnf.specs.Counts.{has_counts_within};
-ghost use Rattle.shq_nnf.specs.Shapes.{form_of};
+ghost use Rattle.shq_nnf.specs.Shapes.{form_of, concept_of};
 ghost use Rattle.shq_nnf.specs.Numbers.{Extends, IsNumber};
-ghost use Rattle.axiom_sets.specs.Sets.{member_list};
-ghost use Rattle.row_cache.specs.Rows.{AreInLimit, row_for, IsRow, range_for, IsRange};
-ghost use Rattle.fact_specs.specs.State.{has_tree};
-ghost use Rattle.refutation_specs.specs.Rules.{knows};
+ghost use Rattle.axiom_sets.specs.Sets.{IsWithin, member_list};
+ghost use Rattle.row_cache.specs.Rows.{AreInLimit};
 ghost use Rattle.refutation_specs.specs.Valid.{concept_at};
 ghost use Rattle.refutation_tree.specs.RuleLine.{line_of};
-ghost use Rattle.refutation_rules.specs.Outcomes.{known_of, children_after, IsFitIfSome, IsBranch};
-ghost use Rattle.refutation_rules.specs.Frame.{theory, line_children, IsOutcome, IsSameBut, StandsFor, IsHeld};
+ghost use Rattle.refutation_rules.specs.Outcomes.{IsBranch};
+ghost use Rattle.refutation_rules.specs.RefutationContext.{theory, IsOutcome, IsSameButTable, StandsFor, IsHeld, IsUsableRow, IsUsableRange};
+ghost use Rattle.refutation_rules.specs.Tests.{is_in, has_number};
 
-use crate::numbering::{intern_complement, number_concepts, roles_of};
-use crate::table::put_shape;
+use crate::numbering::{number_concepts, roles_of};
 use crate::{NoMemory, Outcome};
-use row_cache::{RangeRow, Row, RowCache};
 use axiom_sets::AxiomSet;
 use branch_facts::BranchFacts;
 use refutation_tree::{Line, Refutation};
 use role_box::RoleBox;
+use row_cache::{CachedRange, CachedRow, RowCache};
 use shq_nnf::{Concepts, Shape};
 use shq_terms::{Ontology, Query};
 use std::alloc::Global;
@@ -48,32 +45,32 @@ pub struct Rules<'a> {
 impl<'a> Model for Rules<'a> {
     ghost use Rattle.std.specs.Coded.{codes};
     ghost use Rattle.shq_base.specs.Code.{concept_code};
-    ghost use Rattle.refutation_rules.specs.Frame.{Frame, IsFrame};
+    ghost use Rattle.refutation_rules.specs.RefutationContext.{RefutationContext, IsRefutationContext};
 
-    ghost Value = { Frame };
+    ghost Value = { RefutationContext };
 
     ghost coded = { Prim.hlevel (codes, concept_code) };
 
     ghost view = { λ r. record { axioms = r.rows.axioms; named = r.rows.named; sub = r.query.now.sub; sup = r.query.now.sup; shapes = r.refutation.now.shapes; table = r.rows.table } };
 
-    ghost invariant = { λ r. IsFrame r.rows r.refutation.now.shapes r.query.now r.roles r.numbers.items r.sub r.not_sup r.bottom };
+    ghost invariant = { λ r. IsRefutationContext r.rows r.refutation.now.shapes r.query.now r.roles r.numbers.items r.sub r.not_sup r.bottom };
 }
 
 impl<'a> Rules<'a> {
-    ghost use Rattle.refutation_rules.specs.Frame.{Frame};
+    ghost use Rattle.refutation_rules.specs.RefutationContext.{RefutationContext};
 
-    /// The rules for a refutation of the query, whose axioms are numbers of the ontology's.
+    /// The rules for a refutation of the query that names axioms of the ontology.
     ///
     /// # Errors
     ///
-    /// Want of memory.
+    /// Out of memory.
     pub fn new(
         alloc: Global,
         ontology: &'a Ontology,
         query: &'a Query,
         refutation: &'a Refutation,
     ) -> Result<Rules<'a>, NoMemory>
-        requires limit { refutation.now.axioms.limit ≡ length ontology.now.axioms }
+        requires numbers { IsWithin (length ontology.now.axioms) refutation.now.axioms.members }
         requires within { AreInLimit ontology.now.axioms }
         requires sub { IsTrue (has_counts_within 100 query.now.sub) }
         requires sup { IsTrue (has_counts_within 100 query.now.sup) }
@@ -86,8 +83,8 @@ impl<'a> Rules<'a> {
         let mut concepts = Concepts::new(alloc)?;
         let numbers = number_concepts(alloc, &mut concepts, refutation)?;
         let sub = concepts.intern(&query.sub)?;
-        let not_sup = intern_complement(alloc, &mut concepts, &query.sup)?;
-        let bottom = put_shape(&mut concepts, Shape::Bottom)?;
+        let not_sup = concepts.intern_complement(&query.sup)?;
+        let bottom = concepts.put(Shape::Bottom)?;
         let named = refutation.axioms_used();
         let roles = roles_of(alloc, ontology, named)?;
         let rows = RowCache::new(alloc, ontology, named, concepts);
@@ -108,17 +105,16 @@ impl<'a> Rules<'a> {
     ///
     /// # Errors
     ///
-    /// Want of memory. The table keeps its numbers, and may have gained some.
+    /// Out of memory. The table keeps its numbers, and may have gained some.
     pub fn outcome(
         &mut self,
         branch: &BranchFacts,
         line: &Line,
     ) -> Result<Option<Outcome>, NoMemory>
         requires { IsBranch (length self.old.table) branch.now }
-        ensures children { IfOk result (λ o. line_children self.new branch.now (line_of line.now) ≡ children_after self.new.table branch.now o) }
-        ensures fit { IfOk result (λ o. IsFitIfSome (length self.new.table) branch.now o) }
+        ensures outcome { IfOk result (IsOutcome self.new branch.now (line_of line.now)) }
         ensures kept { Extends self.old.table self.new.table }
-        ensures same { IsSameBut self.old self.new }
+        ensures same { IsSameButTable self.old self.new }
         ensures table { IsTable self.new.table }
     {
         let outcome = self.left_by(branch, line);
@@ -131,7 +127,7 @@ impl<'a> Rules<'a> {
         requires { IsBranch (length self.old.table) branch.now }
         ensures outcome { IfOk result (λ o. IsOutcome self.new branch.now (line_of line.now) o) }
         ensures kept { Extends self.old.table self.new.table }
-        ensures same { IsSameBut self.old self.new }
+        ensures same { IsSameButTable self.old self.new }
     {
         match line {
             Line::Start => Ok(self.start(branch)),
@@ -170,7 +166,7 @@ impl<'a> Rules<'a> {
     // The shape of a number.
     pub(crate) fn shape(&self, number: u32) -> Shape<'_>
         requires { number < length self.now.table }
-        ensures tree { tree_of self.now.table number ≡ tree_over (trees_of self.now.table) (form_of result) }
+        ensures tree { tree_of self.now.table number ≡ concept_of self.now.table result }
         ensures parts { has_parts_below (length self.now.table) (form_of result) ≡ true }
         ensures normal { is_normal self.now.table (form_of result) ≡ true }
     {
@@ -195,7 +191,7 @@ impl<'a> Rules<'a> {
     pub(crate) fn is_in(&self, branch: &BranchFacts, node: u32, number: u32) -> bool
         requires branch { IsBranch (length self.now.table) branch.now }
         requires listed { number < length self.now.table }
-        ensures { result ≡ (knows (known_of self.now.table branch.now) node && has_tree (known_of self.now.table branch.now).facts node (tree_of self.now.table number)) }
+        ensures { result ≡ is_in self.now branch.now node number }
     {
         branch.knows(node) && self.has(branch, node, number)
     }
@@ -204,7 +200,7 @@ impl<'a> Rules<'a> {
     pub(crate) fn has(&self, branch: &BranchFacts, node: u32, number: u32) -> bool
         requires branch { IsBranch (length self.now.table) branch.now }
         requires listed { number < length self.now.table }
-        ensures { result ≡ has_tree (known_of self.now.table branch.now).facts node (tree_of self.now.table number) }
+        ensures { result ≡ has_number self.now branch.now node number }
     {
         let _count = self.len();
         branch.has(node, number)
@@ -255,9 +251,9 @@ impl<'a> Rules<'a> {
     pub(crate) fn put(&mut self, shape: Shape<'_>) -> Result<u32, NoMemory>
         requires parts { IsTrue (has_parts_below (length self.old.table) (form_of shape)) }
         requires normal { IsTrue (is_normal self.old.table (form_of shape)) }
-        ensures number { IfOk result (λ n. IsNumber self.new.table n (tree_over (trees_of self.old.table) (form_of shape.entry))) }
+        ensures number { IfOk result (λ n. IsNumber self.new.table n (concept_of self.old.table shape.entry)) }
         ensures kept { Extends self.old.table self.new.table }
-        ensures same { IsSameBut self.old self.new }
+        ensures same { IsSameButTable self.old self.new }
         ensures table { IsTable self.new.table }
     {
         self.rows.put(shape)
@@ -268,7 +264,7 @@ impl<'a> Rules<'a> {
         requires { number < length self.old.table }
         ensures number { IfOk result (λ n. IsNumber self.new.table n (negated_form (tree_of self.old.table number))) }
         ensures kept { Extends self.old.table self.new.table }
-        ensures same { IsSameBut self.old self.new }
+        ensures same { IsSameButTable self.old self.new }
     {
         self.rows.negated(number)
     }
@@ -279,20 +275,20 @@ impl<'a> Rules<'a> {
         axiom: u32,
         part: u32,
         positions: &[u32],
-    ) -> Result<Option<Row>, NoMemory>
-        ensures row { IfOk result (λ r. IsRow self.new.table (row_for (part_at (theory self.new) «axiom» part) positions.now) r) }
+    ) -> Result<Option<CachedRow>, NoMemory>
+        ensures row { IfOk result (IsUsableRow self.new «axiom» part positions.now) }
         ensures kept { Extends self.old.table self.new.table }
-        ensures same { IsSameBut self.old self.new }
+        ensures same { IsSameButTable self.old self.new }
         ensures table { IsTable self.new.table }
     {
         self.rows.inclusion_row(axiom, part, positions)
     }
 
     // The row of a range axiom.
-    pub(crate) fn range_row(&mut self, axiom: u32) -> Result<Option<RangeRow>, NoMemory>
-        ensures row { IfOk result (λ r. IsRange self.new.table (range_for (part_at (theory self.new) «axiom» 1)) r) }
+    pub(crate) fn range_row(&mut self, axiom: u32) -> Result<Option<CachedRange>, NoMemory>
+        ensures row { IfOk result (IsUsableRange self.new «axiom») }
         ensures kept { Extends self.old.table self.new.table }
-        ensures same { IsSameBut self.old self.new }
+        ensures same { IsSameButTable self.old self.new }
         ensures table { IsTable self.new.table }
     {
         self.rows.range_row(axiom)

@@ -1,0 +1,2 @@
+mod InLimit
+mod Within

@@ -1,10 +1,10 @@
 // Refutations that were written by hand, whole and with a line changed.
-ghost use Rattle.std.specs.Prelude.{◌≡◌, ◌<◌, ◌≤◌, [], IfOk, IsTrue, OnOk, length};
-ghost use Rattle.shq_base.specs.Concept.{name, bottom};
+ghost use Rattle.std.specs.Prelude.{◌≡◌, ◌++◌, [], ◌∷◌, IfOk, IsTrue, OnOk, length};
+ghost use Rattle.shq_base.specs.Concept.{name, top, bottom, some_of, at_most};
 ghost use Rattle.shq_terms.specs.Uses.{axiom_uses_listed};
-ghost use Rattle.shq_nnf.specs.Counts.{has_counts_within};
-ghost use Rattle.shq_nnf.specs.Parts.{axiom_parts, axiom_has_counts_within};
-ghost use Rattle.row_cache.specs.Rows.{AreInLimit};
+ghost use Rattle.shq_terms.specs.declared.axioms.Axiom.TheVariants.{SubClassOf as PlainSubClassOf, DisjointClasses as PlainDisjointClasses};
+ghost use Rattle.ontology_limits.specs.Limits.{IsInLimit};
+ghost use Rattle.refutation_tests.specs.Ontologies.{numbered, chain, one_successor, HasAxioms};
 
 use refutation_check::{NoMemory, Verdict, check};
 use axiom_sets::AxiomSet;
@@ -30,10 +30,7 @@ fn nothing() -> Concept
 
 // What is in class 0 has a successor in the class.
 fn has_successor(alloc: Global, filler: u32) -> Result<Axiom, NoMemory>
-    requires { filler < 3 }
-    ensures uses { IfOk result (λ a. IsTrue (axiom_uses_listed 3 1 a)) }
-    ensures counts { IfOk result (λ a. IsTrue (axiom_has_counts_within 100 a)) }
-    ensures parts { IfOk result (λ a. length (axiom_parts a) ≤ 500000) }
+    ensures { IfOk result (λ a. a ≡ PlainSubClassOf (name 0) (some_of 0 (name filler))) }
 {
     let filler = Box::new(alloc, class(filler))?;
     let sup = Concept {
@@ -44,9 +41,7 @@ fn has_successor(alloc: Global, filler: u32) -> Result<Axiom, NoMemory>
 
 // What is in class 0 has at most one successor.
 fn has_one_successor(alloc: Global) -> Result<Axiom, NoMemory>
-    ensures uses { IfOk result (λ a. IsTrue (axiom_uses_listed 3 1 a)) }
-    ensures counts { IfOk result (λ a. IsTrue (axiom_has_counts_within 100 a)) }
-    ensures parts { IfOk result (λ a. length (axiom_parts a) ≤ 500000) }
+    ensures { IfOk result (λ a. a ≡ PlainSubClassOf (name 0) (at_most 1 0 top)) }
 {
     let filler = Box::new(alloc, Concept { node: Node::Top })?;
     let sup = Concept {
@@ -57,9 +52,7 @@ fn has_one_successor(alloc: Global) -> Result<Axiom, NoMemory>
 
 // No element is in classes 1 and 2.
 fn disjoint(alloc: Global) -> Result<Axiom, NoMemory>
-    ensures uses { IfOk result (λ a. IsTrue (axiom_uses_listed 3 1 a)) }
-    ensures counts { IfOk result (λ a. IsTrue (axiom_has_counts_within 100 a)) }
-    ensures parts { IfOk result (λ a. length (axiom_parts a) ≤ 500000) }
+    ensures { IfOk result (λ a. a ≡ PlainDisjointClasses (name 1 ∷ name 2 ∷ [])) }
 {
     let mut classes = ConceptList::new(alloc);
     classes.push(class(1))?;
@@ -69,9 +62,7 @@ fn disjoint(alloc: Global) -> Result<Axiom, NoMemory>
 
 // Three classes and a role.
 fn names(alloc: Global) -> Result<Ontology, Fail>
-    ensures classes { IfOk result (λ o. length o.classes ≡ 3) }
-    ensures roles { IfOk result (λ o. length o.roles ≡ 1) }
-    ensures axioms { IfOk result (λ o. o.axioms ≡ []) }
+    ensures { IfOk result (λ o. HasAxioms o []) }
 {
     let mut ontology = Ontology::new(alloc);
     ontology.add_class("A")?;
@@ -84,16 +75,14 @@ fn names(alloc: Global) -> Result<Ontology, Fail>
     Ok(ontology)
 }
 
+// Puts an axiom whose names are listed last.
 fn push(ontology: &mut Ontology, axiom: Axiom) -> Result<(), Fail>
     requires classes { length ontology.old.classes ≡ 3 }
     requires roles { length ontology.old.roles ≡ 1 }
-    requires within { AreInLimit ontology.old.axioms }
     requires uses { IsTrue (axiom_uses_listed 3 1 «axiom») }
-    requires counts { IsTrue (axiom_has_counts_within 100 «axiom») }
-    requires parts { length (axiom_parts «axiom») ≤ 500000 }
     ensures classes { OnOk result (length ontology.new.classes ≡ 3) }
     ensures roles { OnOk result (length ontology.new.roles ≡ 1) }
-    ensures within { OnOk result (AreInLimit ontology.new.axioms) }
+    ensures axioms { OnOk result (ontology.new.axioms ≡ ontology.old.axioms ++ numbered («axiom» ∷ [])) }
 {
     ontology.add_axiom(axiom, 1)?;
     Ok(())
@@ -101,7 +90,7 @@ fn push(ontology: &mut Ontology, axiom: Axiom) -> Result<(), Fail>
 
 // Class 0 is part of class 1, and this of class 2.
 fn chain(alloc: Global) -> Result<Ontology, Fail>
-    ensures { IfOk result (λ o. AreInLimit o.axioms) }
+    ensures { IfOk result (λ o. HasAxioms o chain) }
 {
     let mut ontology = names(alloc)?;
     push(&mut ontology, Axiom::SubClassOf(class(0), class(1)))?;
@@ -111,7 +100,7 @@ fn chain(alloc: Global) -> Result<Ontology, Fail>
 
 // Class 0 is empty, since its elements have one successor at most, and one in each of two disjoint classes.
 fn one_successor(alloc: Global) -> Result<Ontology, Fail>
-    ensures { IfOk result (λ o. AreInLimit o.axioms) }
+    ensures { IfOk result (λ o. HasAxioms o one_successor) }
 {
     let mut ontology = names(alloc)?;
     push(&mut ontology, has_successor(alloc, 1)?)?;
@@ -138,23 +127,23 @@ fn changed(
     Ok(text)
 }
 
-// The verdict on a text over all axioms of the ontology, or over none.
+// The verdict on a text over all axioms of the ontology, or over none. The text is read with the names of another one, and
+// may name the axioms of that one.
 fn verdict_of(
     alloc: Global,
     ontology: &Ontology,
+    other: &Ontology,
     all: bool,
     query: &Query,
     text: &[&[u8]],
 ) -> Result<Verdict, Fail>
-    requires within { AreInLimit ontology.now.axioms }
-    requires sub { IsTrue (has_counts_within 100 query.now.sub) }
-    requires sup { IsTrue (has_counts_within 100 query.now.sup) }
+    requires { IsInLimit ontology.now query.now }
 {
-    let refutation = read_text(alloc, text, ontology)?;
-    let count = ontology.axiom_count();
-    if refutation.axioms_used().limit() != count || refutation.lines().len() > 100 {
+    let refutation = read_text(alloc, text, other)?;
+    if refutation.lines().len() > 100 {
         return Err(Fail::from(NoMemory));
     }
+    let count = ontology.axiom_count();
     let set = if all {
         AxiomSet::full(alloc, count)?
     } else {
@@ -164,6 +153,7 @@ fn verdict_of(
 }
 
 #[test]
+#[tactic(auto, using(crate::proofs::InLimit::chain_in_limit))]
 fn along_a_chain(rt: HostRuntime) -> Result<(), Fail> {
     let ontology = chain(rt.alloc())?;
     let query = Query {
@@ -190,7 +180,43 @@ fn along_a_chain(rt: HostRuntime) -> Result<(), Fail> {
     ] {
         let text = changed(rt.alloc(), &lines, place, line)?;
         assert_eq!(rt;
-            verdict_of(rt.alloc(), &ontology, all, &query, &text)?,
+            verdict_of(rt.alloc(), &ontology, &ontology, all, &query, &text)?,
+            wanted,
+            "{line}"
+        );
+    }
+    Ok(())
+}
+
+// Where the text may name more axioms than the ontology has, it is judged by those that it names.
+#[test]
+#[tactic(auto, using(crate::proofs::InLimit::chain_in_limit))]
+fn by_axioms_of_another_ontology(rt: HostRuntime) -> Result<(), Fail> {
+    let ontology = chain(rt.alloc())?;
+    let other = one_successor(rt.alloc())?;
+    let query = Query {
+        sub: class(0),
+        sup: class(2),
+    };
+    let lines = [
+        "refutation",
+        "axioms 1 2",
+        "concept 1 name <C>",
+        "start",
+        "row 0 1 1 1",
+        "row 0 2 1 1",
+        "clash 0 1",
+        "end",
+    ];
+    for (line, wanted) in [
+        ("axioms 1 2", Verdict::Accepted),
+        ("axioms 2", Verdict::Rejected(2)),
+        ("axioms 1 2 3", Verdict::Rejected(0)),
+        ("axioms 4", Verdict::Rejected(0)),
+    ] {
+        let text = changed(rt.alloc(), &lines, 1, line)?;
+        assert_eq!(rt;
+            verdict_of(rt.alloc(), &ontology, &other, true, &query, &text)?,
             wanted,
             "{line}"
         );
@@ -199,6 +225,7 @@ fn along_a_chain(rt: HostRuntime) -> Result<(), Fail> {
 }
 
 #[test]
+#[tactic(auto, using(crate::proofs::InLimit::one_successor_in_limit))]
 fn through_two_branches(rt: HostRuntime) -> Result<(), Fail> {
     let ontology = one_successor(rt.alloc())?;
     let query = Query {
@@ -235,7 +262,7 @@ fn through_two_branches(rt: HostRuntime) -> Result<(), Fail> {
     ] {
         let text = changed(rt.alloc(), &lines, place, line)?;
         assert_eq!(rt;
-            verdict_of(rt.alloc(), &ontology, true, &query, &text)?,
+            verdict_of(rt.alloc(), &ontology, &ontology, true, &query, &text)?,
             wanted,
             "{line}"
         );

@@ -9,7 +9,7 @@ use shq_terms::{Axiom, Concept, ConceptList, Node};
 use std::alloc::Global;
 use std::test::Fail;
 
-// Puts a shape of the kinds that these tests use. One that may not be put counts as want of memory.
+// Puts a shape of the kinds that these tests use. One that may not be put counts as out of memory.
 fn put(concepts: &mut Concepts, shape: Shape<'_>) -> Result<u32, NoMemory> {
     match shape {
         Shape::Bottom | Shape::Name(_) | Shape::NotName(_) => concepts.put(shape),

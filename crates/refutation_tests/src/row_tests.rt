@@ -3,9 +3,10 @@ ghost use Rattle.std.specs.Prelude.{◌≡◌, ◌≤◌, IfOk, IsTrue, length};
 ghost use Rattle.shq_base.specs.Concept.{name};
 ghost use Rattle.shq_terms.specs.Uses.{axiom_uses_listed};
 ghost use Rattle.shq_nnf.specs.Parts.{axiom_parts, axiom_has_counts_within};
+ghost use Rattle.axiom_sets.specs.Sets.{IsWithin};
 ghost use Rattle.row_cache.specs.Rows.{AreInLimit};
 
-use row_cache::{NoMemory, RangeRow, Row, RowCache};
+use row_cache::{NoMemory, CachedRange, CachedRow, RowCache};
 use axiom_sets::AxiomSet;
 use shq_nnf::{Concepts, Shape};
 use shq_terms::{Axiom, Concept, ConceptList, Node, Ontology};
@@ -112,14 +113,18 @@ fn ontology_of(alloc: Global, kind: Kind) -> Result<Ontology, Fail>
 }
 
 // All axioms of the ontology, or none.
+#[tactic(auto, using(crate::proofs::Within::within_count))]
 fn named_of(alloc: Global, ontology: &Ontology, named: bool) -> Result<AxiomSet, NoMemory>
-    ensures { IfOk result (λ s. s.limit ≡ length ontology.now.axioms) }
+    ensures { IfOk result (λ s. IsWithin (length ontology.now.axioms) s.members) }
 {
-    if named {
-        AxiomSet::full(alloc, ontology.axiom_count())
+    let count = ontology.axiom_count();
+    let set = if named {
+        AxiomSet::full(alloc, count)?
     } else {
-        AxiomSet::empty(alloc, ontology.axiom_count())
-    }
+        AxiomSet::empty(alloc, count)?
+    };
+    let _limit = set.limit();
+    Ok(set)
 }
 
 // The shapes that the rows of the tests are made of, with the numbers 1 to 8.
@@ -140,7 +145,7 @@ fn table(alloc: Global) -> Result<Concepts, NoMemory> {
     Ok(concepts)
 }
 
-// Puts a shape of the kinds that these tests use. One that may not be put counts as want of memory.
+// Puts a shape of the kinds that these tests use. One that may not be put counts as out of memory.
 fn put(concepts: &mut Concepts, shape: Shape<'_>) -> Result<u32, NoMemory> {
     match shape {
         Shape::Name(_) | Shape::NotName(_) => concepts.put(shape),
@@ -152,14 +157,14 @@ fn put(concepts: &mut Concepts, shape: Shape<'_>) -> Result<u32, NoMemory> {
 }
 
 // Whether the row has these premises and a concept of this shape.
-fn is_wanted(concepts: &Concepts, row: &Row, premises: &[u32], shape: Shape<'_>) -> bool {
+fn is_wanted(concepts: &Concepts, row: &CachedRow, premises: &[u32], shape: Shape<'_>) -> bool {
     row.premises.items() == premises
         && row.concept < concepts.len()
         && concepts.shape(row.concept) == shape
 }
 
 // Whether the row is as it should be, or there is none where none should be.
-fn is_right(concepts: &Concepts, row: &Option<Row>, wanted: Option<(&[u32], Shape<'_>)>) -> bool {
+fn is_right(concepts: &Concepts, row: &Option<CachedRow>, wanted: Option<(&[u32], Shape<'_>)>) -> bool {
     match (row, wanted) {
         (Some(row), Some((premises, shape))) => is_wanted(concepts, row, premises, shape),
         (None, None) => true,
@@ -289,7 +294,7 @@ fn rows_in_turn(rt: HostRuntime) -> Result<(), Fail> {
 fn tell_range(
     rows: &mut RowCache<'_>,
     number: u32,
-) -> Result<(Option<RangeRow>, Option<RangeRow>), NoMemory> {
+) -> Result<(Option<CachedRange>, Option<CachedRange>), NoMemory> {
     let first = rows.range_row(number)?;
     let second = rows.range_row(number)?;
     Ok((first, second))
@@ -301,7 +306,7 @@ fn ask_range(
     kind: Kind,
     named: bool,
     number: u32,
-) -> Result<(Option<RangeRow>, Option<RangeRow>), Fail> {
+) -> Result<(Option<CachedRange>, Option<CachedRange>), Fail> {
     let ontology = ontology_of(alloc, kind)?;
     let named = named_of(alloc, &ontology, named)?;
     let mut rows = RowCache::new(alloc, &ontology, &named, table(alloc)?);
@@ -310,7 +315,7 @@ fn ask_range(
 
 #[test]
 fn rows_of_ranges(rt: HostRuntime) -> Result<(), Fail> {
-    let row = RangeRow {
+    let row = CachedRange {
         role: 0,
         concept: 4,
     };

@@ -4,8 +4,9 @@ ghost use Rattle.shq_base.specs.Concept.{name};
 ghost use Rattle.shq_terms.specs.Uses.{axiom_uses_listed};
 ghost use Rattle.shq_nnf.specs.Counts.{has_counts_within};
 ghost use Rattle.shq_nnf.specs.Parts.{axiom_parts, axiom_has_counts_within};
+ghost use Rattle.axiom_sets.specs.Sets.{IsWithin};
 ghost use Rattle.row_cache.specs.Rows.{AreInLimit};
-ghost use Rattle.fact_specs.specs.Reading.{is_listed};
+ghost use Rattle.fact_specs.specs.Reading.{is_fact_listed};
 ghost use Rattle.refutation_rules.specs.Outcomes.{IsBranch};
 
 use refutation_rules::{NewNodes, NoMemory, Outcome, Rules};
@@ -87,8 +88,9 @@ fn ontology(alloc: Global) -> Result<Ontology, Fail>
 
 // A refutation with one line of a rule. Its concepts have the numbers 1 to 10 in the table of the rules too; the complement
 // of class 1 gets 11 there, and bottom 12.
+#[tactic(auto, using(crate::proofs::Within::within_count))]
 fn refutation(alloc: Global, ontology: &Ontology, rule: &'static str) -> Result<Refutation, Fail>
-    ensures { IfOk result (λ r. r.axioms.limit ≡ length ontology.now.axioms) }
+    ensures { IfOk result (λ r. IsWithin (length ontology.now.axioms) r.axioms.members) }
 {
     let mut lines = Vec::new(alloc);
     for line in [
@@ -117,7 +119,7 @@ fn refutation(alloc: Global, ontology: &Ontology, rule: &'static str) -> Result<
 }
 
 fn is_listed(fact: &Fact<u32>, len: u32) -> bool
-    ensures { result ≡ is_listed len fact.now }
+    ensures { result ≡ is_fact_listed len fact.now }
 {
     match fact {
         Fact::Has(_, concept) => *concept < len,

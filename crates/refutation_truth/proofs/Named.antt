@@ -18,7 +18,7 @@ use Rattle.shq_nnf.proofs.Meeting.{axiom_is_parts}
 use Rattle.role_box.specs.RoleAxioms.{role_part, role_part_at, role_axioms}
 use Rattle.role_box.specs.Steps.{is_among, leads_by, leads, Leads, is_transitive_by, is_transitive}
 use Rattle.role_box.proofs.Limits.{test_is_below}
-use Rattle.refutation_truth.specs.Theory.{axiom_in, named_axioms, all_axioms, parts_in, parts_at, numbered_parts, named_parts, theory_of}
+use Rattle.refutation_truth.specs.Theory.{axioms_in, named_axioms, all_axioms, parts_in, parts_at, numbered_parts, named_parts, theory_of}
 use Rattle.refutation_truth.proofs.Below.{all_at}
 use Rattle.refutation_truth.proofs.Models.{found}
 use Rattle.refutation_truth.proofs.Lines.{implied, MeetsTheory}
@@ -78,21 +78,21 @@ module _ (i : Interpretation) where
   step_on (EquivalentRoles rs) t h m = cc
   step_on _ t h m = cc
 
-  up_at : (o : Option Numbered) (r s : ℕ) → leads (role_part_at o) r s ≡ true → list_all (meets i) (axiom_in o) ≡ true → Upward r s
+  up_at : (o : Option Numbered) (r s : ℕ) → leads (role_part_at o) r s ≡ true → list_all (meets i) (axioms_in o) ≡ true → Upward r s
   up_at None r s h m = cc
   up_at (Some n) r s h m = step_up n.axiom r s h (and_parts (meets i n.axiom) true m).0
 
-  on_at : (o : Option Numbered) (t : ℕ) → is_transitive (role_part_at o) t ≡ true → list_all (meets i) (axiom_in o) ≡ true → Onward t
+  on_at : (o : Option Numbered) (t : ℕ) → is_transitive (role_part_at o) t ≡ true → list_all (meets i) (axioms_in o) ≡ true → Onward t
   on_at None t h m = cc
   on_at (Some n) t h m = step_on n.axiom t h (and_parts (meets i n.axiom) true m).0
 
   module _ (axioms : List Numbered) where
     -- what the interpretation meets of the first of some numbers, and of the others
     met_parts : (k : ℕ) (ks : List ℕ) → meets_all i (named_axioms axioms (k ∷ ks)) ≡ true
-        → (list_all (meets i) (axiom_in (slice_get axioms (k - 1))) ≡ true) × (meets_all i (named_axioms axioms ks) ≡ true)
+        → (list_all (meets i) (axioms_in (slice_get axioms (k - 1))) ≡ true) × (meets_all i (named_axioms axioms ks) ≡ true)
     met_parts k ks m =
-        and_parts (list_all (meets i) (axiom_in (slice_get axioms (k - 1)))) (meets_all i (named_axioms axioms ks))
-        (sym (list_all-append (meets i) (axiom_in (slice_get axioms (k - 1))) (named_axioms axioms ks)) ∙ m)
+        and_parts (list_all (meets i) (axioms_in (slice_get axioms (k - 1)))) (meets_all i (named_axioms axioms ks))
+        (sym (list_all-append (meets i) (axioms_in (slice_get axioms (k - 1))) (named_axioms axioms ks)) ∙ m)
 
     leads_up : (ks : List ℕ) (r s : ℕ) → leads (role_axioms axioms ks) r s ≡ true → meets_all i (named_axioms axioms ks) ≡ true → Upward r s
     leads_up [] r s h m = cc
@@ -135,7 +135,7 @@ module _ (i : Interpretation) where
       let b = and_parts (meets_part i q) (meets_parts i qs) h in
       and_from (meets_part i q) (are_met (numbered_parts k (first + 1) qs)) b.0 (numbered_met k qs (first + 1) b.1)
 
-  in_met : (o : Option Numbered) → list_all (meets i) (axiom_in o) ≡ true → meets_parts i (parts_in o) ≡ true
+  in_met : (o : Option Numbered) → list_all (meets i) (axioms_in o) ≡ true → meets_parts i (parts_in o) ≡ true
   in_met None m = refl
   in_met (Some n) m = axiom_met n.axiom (and_parts (meets i n.axiom) true m).0
 
@@ -169,7 +169,7 @@ module _ (i : Interpretation) where
 
   -- ---- all axioms
 
-  got_met : (axioms : List Numbered) (n : ℕ) → meets_all i (all_axioms axioms) ≡ true → list_all (meets i) (axiom_in (slice_get axioms n)) ≡ true
+  got_met : (axioms : List Numbered) (n : ℕ) → meets_all i (all_axioms axioms) ≡ true → list_all (meets i) (axioms_in (slice_get axioms n)) ≡ true
   got_met [] n m = refl
   got_met (a ∷ axioms) zero m = and_from (meets i a.axiom) true (and_parts (meets i a.axiom) (meets_all i (all_axioms axioms)) m).0 refl
   got_met (a ∷ axioms) (suc n) m = got_met axioms n (and_parts (meets i a.axiom) (meets_all i (all_axioms axioms)) m).1
@@ -178,5 +178,5 @@ module _ (i : Interpretation) where
   meets_named axioms [] m = refl
   meets_named axioms (k ∷ ks) m =
       let head = got_met axioms (k - 1) m in
-      list_all-append (meets i) (axiom_in (slice_get axioms (k - 1))) (named_axioms axioms ks)
-      ∙ and_from (list_all (meets i) (axiom_in (slice_get axioms (k - 1)))) (meets_all i (named_axioms axioms ks)) head (meets_named axioms ks m)
+      list_all-append (meets i) (axioms_in (slice_get axioms (k - 1))) (named_axioms axioms ks)
+      ∙ and_from (list_all (meets i) (axioms_in (slice_get axioms (k - 1)))) (meets_all i (named_axioms axioms ks)) head (meets_named axioms ks m)

@@ -9,14 +9,14 @@ use Rattle.role_box.specs.Steps.{is_transitive}
 use Rattle.role_box.specs.Paths.{is_below}
 
 -- the axiom of a number, in a list of one; none where there is no such axiom
-abbrev pub axiom_in : Option Numbered → List Axiom
-axiom_in None = []
-axiom_in (Some n) = n.axiom ∷ []
+abbrev pub axioms_in : Option Numbered → List Axiom
+axioms_in None = []
+axioms_in (Some n) = n.axiom ∷ []
 
 -- the axioms of these numbers
 abbrev pub named_axioms : List Numbered → List ℕ → List Axiom
 named_axioms axioms [] = []
-named_axioms axioms (k ∷ ks) = axiom_in (slice_get axioms (k - 1)) ++ named_axioms axioms ks
+named_axioms axioms (k ∷ ks) = axioms_in (slice_get axioms (k - 1)) ++ named_axioms axioms ks
 
 -- all of the axioms
 abbrev pub all_axioms : List Numbered → List Axiom

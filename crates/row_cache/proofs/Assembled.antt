@@ -10,18 +10,18 @@ use Rattle.shape_specs.specs.Rows.{Part, inclusion, range, conjunct_at, are_name
 use Rattle.shq_nnf.specs.declared.parts.Part.TheVariants as K
 use Rattle.shq_nnf.specs.Numbers.{Extends, IsNumber, AreNumbers}
 use Rattle.shq_nnf.proofs.Numbers.{number_stays, numbers_stay, numbers_push}
-use Rattle.row_cache.specs.declared.rows.Row.{Row}
-use Rattle.row_cache.specs.Rows.{PlainRow, row_for, IsRow, IsPartFound, number_at, other_numbers}
+use Rattle.row_cache.specs.declared.cached_row.CachedRow.{CachedRow}
+use Rattle.row_cache.specs.Rows.{PlainRow, row_for, IsRow, IsPartFound, conjunct_number_at, other_numbers}
 use Rattle.row_cache.proofs.Places.{tree_at, number_listed, other_trees}
 
-pub premises_are : (t : List Shape) → IsTable t → (cs ps : List ℕ) → list_all (λ c. ltb c (length t)) cs ≡ true → AreNumbers t (map (number_at cs) ps) (map (conjunct_at (map (tree_of t) cs)) ps)
+pub premises_are : (t : List Shape) → IsTable t → (cs ps : List ℕ) → list_all (λ c. ltb c (length t)) cs ≡ true → AreNumbers t (map (conjunct_number_at cs) ps) (map (conjunct_at (map (tree_of t) cs)) ps)
 premises_are t good cs ps h = record { listed = each ps; stand_for = trees ps }
   where
-    each : (ps : List ℕ) → list_all (λ n. ltb n (length t)) (map (number_at cs) ps) ≡ true
+    each : (ps : List ℕ) → list_all (λ n. ltb n (length t)) (map (conjunct_number_at cs) ps) ≡ true
     each [] = refl
-    each (p ∷ ps) = and_from (ltb (number_at cs p) (length t)) (list_all (λ n. ltb n (length t)) (map (number_at cs) ps)) (lt-ltb (number_at cs p) (length t) (number_listed t good cs p h)) (each ps)
+    each (p ∷ ps) = and_from (ltb (conjunct_number_at cs p) (length t)) (list_all (λ n. ltb n (length t)) (map (conjunct_number_at cs) ps)) (lt-ltb (conjunct_number_at cs p) (length t) (number_listed t good cs p h)) (each ps)
 
-    trees : (ps : List ℕ) → map (tree_of t) (map (number_at cs) ps) ≡ map (conjunct_at (map (tree_of t) cs)) ps
+    trees : (ps : List ℕ) → map (tree_of t) (map (conjunct_number_at cs) ps) ≡ map (conjunct_at (map (tree_of t) cs)) ps
     trees [] = refl
     trees (p ∷ ps) =
         let head = tree_at t good cs p in
@@ -39,14 +39,14 @@ concept_is t u cs ps ms right e lt are = ap or_of ((members_are t u cs ps ms rig
 
 -- ---- the row of a part that was found
 
-pub row_is : (t u : List Shape) → IsTable t → (cs ps : List ℕ) (right : ℕ) (k : Row) → Extends t u → list_all (λ c. ltb c (length t)) cs ≡ true → are_name_positions (map (tree_of t) cs) ps ≡ true → k.premises ≡ map (number_at cs) ps
+pub row_is : (t u : List Shape) → IsTable t → (cs ps : List ℕ) (right : ℕ) (k : CachedRow) → Extends t u → list_all (λ c. ltb c (length t)) cs ≡ true → are_name_positions (map (tree_of t) cs) ps ≡ true → k.premises ≡ map (conjunct_number_at cs) ps
     → IsNumber u k.concept (row_concept (map (tree_of t) cs) (tree_of t right) ps) → IsRow u (row_for (Some (inclusion (map (tree_of t) cs) (tree_of t right))) ps) (Some k)
 row_is t u good cs ps right k e listed test premises concept =
     let row : PlainRow = record { premises = map (conjunct_at (map (tree_of t) cs)) ps; concept = row_concept (map (tree_of t) cs) (tree_of t right) ps } in
-    let are : AreNumbers u k.premises row.premises = subst (λ (l : List ℕ). AreNumbers u l row.premises) (sym premises) (numbers_stay t u (map (number_at cs) ps) row.premises e (premises_are t good cs ps listed)) in
+    let are : AreNumbers u k.premises row.premises = subst (λ (l : List ℕ). AreNumbers u l row.premises) (sym premises) (numbers_stay t u (map (conjunct_number_at cs) ps) row.premises e (premises_are t good cs ps listed)) in
     subst (λ (b : Bool). IsRow u (cond b (Some row) None) (Some k)) (sym test) (are, concept)
 
-pub row_of_inclusion : (t u : List Shape) (o : Option Part) (ns : List ℕ) (n : ℕ) (ps : List ℕ) (r : Option Row) → IsPartFound t o (Some (K.Inclusion ns n)) → IsRow u (row_for (Some (inclusion (map (tree_of t) ns) (tree_of t n))) ps) r → IsRow u (row_for o ps) r
+pub row_of_inclusion : (t u : List Shape) (o : Option Part) (ns : List ℕ) (n : ℕ) (ps : List ℕ) (r : Option CachedRow) → IsPartFound t o (Some (K.Inclusion ns n)) → IsRow u (row_for (Some (inclusion (map (tree_of t) ns) (tree_of t n))) ps) r → IsRow u (row_for o ps) r
 row_of_inclusion t u None ns n ps r found h = absurd found
 row_of_inclusion t u (Some (inclusion cs d)) ns n ps r found h =
     subst (λ (p : Part). IsRow u (row_for (Some p) ps) r) (λ i. inclusion (found.0.stand_for i) (found.1.stands_for i)) h

@@ -1,4 +1,4 @@
 pub mod Named
 pub mod Places
 pub mod Assembled
-pub mod Kept
+pub mod Cache

@@ -11,7 +11,7 @@ use Rattle.shq_terms.specs.declared.axioms.Numbered.{Numbered}
 use Rattle.shape_specs.specs.Shape.{Shape}
 use Rattle.shape_specs.specs.Rows.{Part, is_among, part_at}
 use Rattle.shq_nnf.specs.declared.parts.Part.{Part as Kept}
-use Rattle.shq_nnf.specs.Parts.{IsPart, axiom_parts, axiom_has_counts_within, part_in}
+use Rattle.shq_nnf.specs.Parts.{StandsForPart, axiom_parts, axiom_has_counts_within, part_in}
 use Rattle.refutation_truth.specs.Theory.{theory_of, parts_in, parts_at}
 use Rattle.refutation_truth.proofs.Numbered.{numbered}
 use Rattle.row_cache.specs.Rows.{AreInLimit, IsPartFound}
@@ -69,7 +69,7 @@ module _ (axioms : List Numbered) (ks : List ℕ) (a p : ℕ) (table : List Shap
       let none : found ≡ None = numbered axioms ks a p ∙ ap (by_tests (is_among ks a) (leb 1 p)) parts ∙ ap (λ (b : Bool). cond b (Some (part_in (axiom_parts n.axiom) (p - 1))) None) test in
       subst (λ (o : Option Part). IsPartFound table o None) (sym none) tt
 
-  pub part_there : (n : Numbered) (k : Kept) → Some n ≡ slice_get axioms (a - 1) → true ≡ is_among ks a → 1 ≤ p → p ≤ length (axiom_parts n.axiom) → IsPart table k (part_in (axiom_parts n.axiom) (p - 1)) → IsPartFound table found (Some k)
+  pub part_there : (n : Numbered) (k : Kept) → Some n ≡ slice_get axioms (a - 1) → true ≡ is_among ks a → 1 ≤ p → p ≤ length (axiom_parts n.axiom) → StandsForPart table k (part_in (axiom_parts n.axiom) (p - 1)) → IsPartFound table found (Some k)
   part_there n k at named low high is =
       let parts : parts_at axioms a ≡ axiom_parts n.axiom = ap parts_in (sym at) in
       let test : (is_among ks a && leb 1 p && leb p (length (axiom_parts n.axiom))) ≡ true = rw (sym named, le-leb 1 p low, le-leb p (length (axiom_parts n.axiom)) high) refl in

@@ -10,7 +10,7 @@ use Rattle.shape_specs.specs.Shape.Shape.{top as top_shape, bottom as bottom_sha
 use Rattle.shape_specs.specs.Tree.{tree_over, trees_of, tree_of}
 use Rattle.shape_specs.specs.Rows.{is_among, is_ascending, is_name, conjunct_at, others_from}
 use Rattle.shq_nnf.proofs.Numbers.{shape_tree, top_number}
-use Rattle.row_cache.specs.Rows.{is_name_shape, number_at, other_numbers}
+use Rattle.row_cache.specs.Rows.{is_name_shape, conjunct_number_at, other_numbers}
 
 -- ---- the conjunct at a position
 
@@ -20,7 +20,7 @@ module _ (t : List Shape) (good : IsTable t) where
   at_place (c ∷ cs) zero = refl
   at_place (c ∷ cs) (suc i) = at_place cs i
 
-  pub tree_at : (cs : List ℕ) (p : ℕ) → tree_of t (number_at cs p) ≡ conjunct_at (map (tree_of t) cs) p
+  pub tree_at : (cs : List ℕ) (p : ℕ) → tree_of t (conjunct_number_at cs p) ≡ conjunct_at (map (tree_of t) cs) p
   tree_at cs zero = (top_number t good).stands_for
   tree_at cs (suc i) = at_place cs i
 
@@ -29,7 +29,7 @@ module _ (t : List Shape) (good : IsTable t) where
   place_listed (c ∷ cs) zero h = ltb-true c (length t) (and_parts (ltb c (length t)) (list_all (λ d. ltb d (length t)) cs) h).0
   place_listed (c ∷ cs) (suc i) h = place_listed cs i (and_parts (ltb c (length t)) (list_all (λ d. ltb d (length t)) cs) h).1
 
-  pub number_listed : (cs : List ℕ) (p : ℕ) → list_all (λ c. ltb c (length t)) cs ≡ true → number_at cs p < length t
+  pub number_listed : (cs : List ℕ) (p : ℕ) → list_all (λ c. ltb c (length t)) cs ≡ true → conjunct_number_at cs p < length t
   number_listed cs zero h = good.has_top
   number_listed cs (suc i) h = place_listed cs i h
 

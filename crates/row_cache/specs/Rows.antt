@@ -1,15 +1,19 @@
 -- The rows of the parts of axioms, as a refutation uses them, and by the numbers of a table.
 use Rattle.std.specs.Prelude.{◌≡◌, ℕ, Bool, true, false, zero, suc, ◌+◌, ◌≤◌, List, [], ◌∷◌, map, length, slice_index_or, Option, Some, None, IsTrue, All, if◌then◌else◌}
+use Rattle.std.specs.List.{list_all}
 use Rattle.shq_base.specs.Concept.{Concept}
 use Rattle.shq_terms.specs.declared.axioms.Numbered.{Numbered}
 use Rattle.shape_specs.specs.Shape.{Shape}
 use Rattle.shape_specs.specs.Shape.Shape.{name}
-use Rattle.shape_specs.specs.Rows.{Part, inclusion, range, is_among, conjunct_at, are_name_positions, row_concept}
-use Rattle.shq_nnf.specs.declared.parts.Part.{Part as Kept}
-use Rattle.shq_nnf.specs.Parts.{IsPart, axiom_parts, axiom_has_counts_within}
-use Rattle.shq_nnf.specs.Numbers.{IsNumber, AreNumbers}
-use Rattle.row_cache.specs.declared.rows.Row.{Row}
-use Rattle.row_cache.specs.declared.rows.RangeRow.{RangeRow}
+use Rattle.shape_specs.specs.Rows.{Part, inclusion, range, part_at, is_among, is_name, conjunct_at, are_name_positions, row_concept}
+use Rattle.shape_specs.specs.Tree.{tree_of}
+use Rattle.axiom_sets.specs.Sets.{Limited, member_list}
+use Rattle.refutation_truth.specs.Theory.{theory_of}
+use Rattle.shq_nnf.specs.declared.parts.Part.{Part as PartByNumber}
+use Rattle.shq_nnf.specs.Parts.{StandsForPart, axiom_parts, axiom_has_counts_within}
+use Rattle.shq_nnf.specs.Numbers.{IsNumber, AreNumbers, trees_at}
+use Rattle.row_cache.specs.declared.cached_row.CachedRow.{CachedRow}
+use Rattle.row_cache.specs.declared.cached_row.CachedRange.{CachedRange}
 
 -- the cardinalities of each axiom are within the limit, and so are its parts
 abbrev pub AreInLimit : List Numbered → Type 0
@@ -27,10 +31,17 @@ row_for (Some (range r d)) positions = None
 row_for (Some (inclusion cs d)) positions = if are_name_positions cs positions then Some (record { premises = map (conjunct_at cs) positions; concept = row_concept cs d positions }) else None
 
 -- the numbers of the table stand for the row; where there is none, none is told
-abbrev pub IsRow : List Shape → Option PlainRow → Option Row → Type 0
+abbrev pub IsRow : List Shape → Option PlainRow → Option CachedRow → Type 0
 IsRow table None None = Unit {0}
 IsRow table (Some r) (Some k) = AreNumbers table k.premises r.premises × IsNumber table k.concept r.concept
 IsRow table _ _ = ⊥
+
+-- the same of a part of an axiom, by the numbers of the axiom and the part and by a set that names axioms
+abbrev pub part_in_set : List Numbered → Limited → ℕ → ℕ → Option Part
+part_in_set axioms named a p = part_at (theory_of axioms (member_list named)) a p
+
+abbrev pub IsRowIn : List Shape → List Numbered → Limited → ℕ → ℕ → List ℕ → Option CachedRow → Type 0
+IsRowIn table axioms named a p positions row = IsRow table (row_for (part_in_set axioms named a p) positions) row
 
 -- the role and the class of a range
 pub record PlainRange : Type 0 where
@@ -42,27 +53,47 @@ range_for None = None
 range_for (Some (range r d)) = Some (record { role = r; concept = d })
 range_for (Some (inclusion cs d)) = None
 
-abbrev pub IsRange : List Shape → Option PlainRange → Option RangeRow → Type 0
+abbrev pub IsRange : List Shape → Option PlainRange → Option CachedRange → Type 0
 IsRange table None None = Unit {0}
 IsRange table (Some r) (Some k) = (k.role ≡ r.role) × IsNumber table k.concept r.concept
 IsRange table _ _ = ⊥
 
+abbrev pub IsRangeIn : List Shape → List Numbered → Limited → ℕ → Option CachedRange → Type 0
+IsRangeIn table axioms named a row = IsRange table (range_for (part_in_set axioms named a 1)) row
+
 -- ---- parts and conjuncts by number
 
 -- the numbers of the table stand for the part; where there is none, none is told
-abbrev pub IsPartFound : List Shape → Option Part → Option Kept → Type 0
+abbrev pub IsPartFound : List Shape → Option Part → Option PartByNumber → Type 0
 IsPartFound table None None = Unit {0}
-IsPartFound table (Some p) (Some k) = IsPart table k p
+IsPartFound table (Some p) (Some k) = StandsForPart table k p
 IsPartFound table _ _ = ⊥
+
+abbrev pub IsPartIn : List Shape → List Numbered → Limited → ℕ → ℕ → Option PartByNumber → Type 0
+IsPartIn table axioms named a p found = IsPartFound table (part_in_set axioms named a p) found
+
+-- the row of an inclusion whose conjuncts and right side are numbers of the table, and the number of its concept in a later one
+abbrev pub row_at : List Shape → List ℕ → ℕ → List ℕ → Option PlainRow
+row_at table conjuncts right positions = row_for (Some (inclusion (trees_at table conjuncts) (tree_of table right))) positions
+
+abbrev pub IsRowConcept : List Shape → List Shape → List ℕ → ℕ → List ℕ → ℕ → Type 0
+IsRowConcept earlier later conjuncts right positions number = IsNumber later number (row_concept (trees_at earlier conjuncts) (tree_of earlier right) positions)
+
+-- whether the conjuncts at these positions are names
+abbrev pub is_name_at : List Shape → List ℕ → ℕ → Bool
+is_name_at table conjuncts position = is_name (conjunct_at (trees_at table conjuncts) position)
+
+abbrev pub are_names_at : List Shape → List ℕ → List ℕ → Bool
+are_names_at table conjuncts positions = list_all (is_name_at table conjuncts) positions
 
 abbrev pub is_name_shape : Shape → Bool
 is_name_shape (name a) = true
 is_name_shape _ = false
 
 -- the number of the conjunct at a position, from 1; that of top where there is none
-abbrev pub number_at : List ℕ → ℕ → ℕ
-number_at conjuncts zero = 0
-number_at conjuncts (suc i) = slice_index_or conjuncts i 0
+abbrev pub conjunct_number_at : List ℕ → ℕ → ℕ
+conjunct_number_at conjuncts zero = 0
+conjunct_number_at conjuncts (suc i) = slice_index_or conjuncts i 0
 
 -- the numbers of the conjuncts whose positions, counted from `first`, are not in the list
 abbrev pub other_numbers : ℕ → List ℕ → List ℕ → List ℕ

@@ -1,11 +1,18 @@
-//! The rows of axioms, as refutations use them: what an element is in that is in some conjuncts of an axiom's part, in
-//! numbers of a table of concepts. The rows are kept with the table.
+//! Rows of axioms, as lines of refutations use them, made once each.
+//!
+//! The parts of an axiom are inclusions of an intersection in a concept. For some conjuncts that are names, a part has a row:
+//! what is in these conjuncts is in the union of the other conjuncts' complements and the right side. This is how absorption
+//! reads an inclusion, in any of the ways that its names admit (I. Horrocks and S. Tobies, *Reasoning with Axioms: Theory and
+//! Practice*, Principles of Knowledge Representation and Reasoning, 2000), and not in one way that is fixed beforehand.
+//!
+//! A [`RowCache`] keeps the table of concepts in whose numbers rows are made, and the last row that was made of each part: a
+//! refutation mostly uses a part in one way.
 #![tactic(auto)]
 
-mod kept_rows;
+mod cache_entry;
+mod cached_row;
 mod row_cache;
-mod rows;
 
+pub use cached_row::{CachedRange, CachedRow};
 pub use row_cache::RowCache;
-pub use rows::{RangeRow, Row};
 pub use shq_base::NoMemory;

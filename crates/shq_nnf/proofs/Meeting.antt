@@ -11,7 +11,7 @@ use Rattle.shape_specs.specs.Normal.{normal_form}
 use Rattle.shape_specs.specs.Rows.{Part, inclusion, range, conjuncts_in, inclusion_of, range_of}
 use Rattle.shq_meaning.specs.Below.{all_below, count_below}
 use Rattle.shq_meaning.specs.Truth.{Interpretation, implies, same, each_successor, holds, hold_all, hold_any, all_same, none_twice, out_degree, meets}
-use Rattle.shq_nnf.specs.Parts.{apart, disjoint_parts, chain_parts, equivalent_parts, union_parts, axiom_parts}
+use Rattle.shq_nnf.specs.Parts.{disjoint_pair, disjoint_parts, chain_parts, equivalent_parts, union_parts, axiom_parts}
 use Rattle.shq_nnf.specs.Meeting.{meets_part, meets_parts, is_role_axiom}
 use Rattle.shq_nnf.proofs.Truth.{and_assoc, and_end, or_end, and_false, or_true, some_is_some, some_cond, normal_truth}
 
@@ -30,7 +30,7 @@ all_below_both : (n : ℕ) (p q : ℕ → Bool) → all_below n (λ x. p x && q 
 all_below_both zero p q = refl
 all_below_both (suc n) p q = ap (λ b. b && (p n && q n)) (all_below_both n p q) ∙ exchange (all_below n p) (all_below n q) (p n) (q n)
 
--- at most one in all: none behind the first that counts, and at most one behind it
+-- at most one in all: none after the first that counts, and at most one after it
 one_more : (b : Bool) (k : ℕ) → leb (cond b 1 0 + k) 1 ≡ (implies b (not (leb 1 k)) && leb k 1)
 one_more false k = ap (λ n. leb n 1) (omega arith)
 one_more true zero = refl
@@ -130,7 +130,7 @@ module _ (i : Interpretation) where
         by true e = chain_inside c e c cs e ∙ ap (λ b. b && in_all cs) e ∙ sym (ap (λ b. implies (b || in_any cs) (b && in_all cs)) e)
         by false e = chain_outside c e (c ∷ cs) ∙ ap (λ b. not (b || in_any cs)) e ∙ sym (ap (λ b. implies (b || in_any cs) (b && in_all cs)) e ∙ or_end (not (in_any cs)))
 
-    all_apart : (c : Concept) (cs : List Concept) → obeyed (map (apart c) cs) ≡ implies (is_in c) (not (in_any cs))
+    all_apart : (c : Concept) (cs : List Concept) → obeyed (map (disjoint_pair c) cs) ≡ implies (is_in c) (not (in_any cs))
     all_apart c [] = sym (or_true (not (is_in c)))
     all_apart c (d ∷ ds) =
         let head = inclusion_obeyed c (complement d) in
@@ -152,9 +152,9 @@ module _ (i : Interpretation) where
     disjoint_obeyed : (cs : List Concept) → obeyed (disjoint_parts cs) ≡ none_twice i cs x
     disjoint_obeyed [] = refl
     disjoint_obeyed (c ∷ cs) =
-        let first : obeyed (map (apart c) cs) ≡ implies (is_in c) (not (leb 1 (count_by is_in cs))) = all_apart c cs ∙ ap (λ b. implies (is_in c) (not b)) (sym (some_counted cs)) in
+        let first : obeyed (map (disjoint_pair c) cs) ≡ implies (is_in c) (not (leb 1 (count_by is_in cs))) = all_apart c cs ∙ ap (λ b. implies (is_in c) (not b)) (sym (some_counted cs)) in
         let rest = disjoint_obeyed cs in
-        list_all-append (λ p. obeys p x) (map (apart c) cs) (disjoint_parts cs) ∙ (λ j. first j && rest j) ∙ sym (ap (λ n. leb n 1) (one_counted c cs) ∙ one_more (is_in c) (count_by is_in cs))
+        list_all-append (λ p. obeys p x) (map (disjoint_pair c) cs) (disjoint_parts cs) ∙ (λ j. first j && rest j) ∙ sym (ap (λ n. leb n 1) (one_counted c cs) ∙ one_more (is_in c) (count_by is_in cs))
 
     each_inside : (a : Concept) (cs : List Concept) → obeyed (map (λ c. inclusion_of c a) cs) ≡ implies (in_any cs) (is_in a)
     each_inside a [] = refl

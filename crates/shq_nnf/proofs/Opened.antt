@@ -10,12 +10,9 @@ use Rattle.shape_specs.specs.Normal.{is_top, is_bottom, conjuncts_of, conjuncts,
 use Rattle.shape_specs.specs.Shape.{Shape, shape_of, has_parts_below, is_conjunct, is_disjunct, is_normal, IsTable}
 use Rattle.shape_specs.specs.Shape.Shape.{top as top_shape, bottom as bottom_shape, name as name_shape, not_name, intersection as intersection_shape, union as union_shape, some_of as some_shape, all_of as all_shape, at_least as least_shape, at_most as most_shape}
 use Rattle.shape_specs.specs.Tree.{tree_over, trees_of, tree_of}
+use Rattle.shape_specs.proofs.Unique.{part_list-parts_of}
 use Rattle.shq_nnf.specs.Opened.{is_top_shape, is_bottom_shape, conjunct_numbers_of, conjunct_numbers, disjunct_numbers_of, disjunct_numbers, is_open_conjunct, is_open_disjunct, open_intersection, open_union}
 use Rattle.shq_nnf.proofs.Numbers.{shape_tree}
-
-pub part_list-parts_of : (cs : List Concept) → part_list (parts_of cs) ≡ cs
-part_list-parts_of [] = refl
-part_list-parts_of (c ∷ cs) = ap (λ (l : List Concept). c ∷ l) (part_list-parts_of cs)
 
 filter-append : (p : Concept → Bool) (xs ys : List Concept) → filter p (xs ++ ys) ≡ filter p xs ++ filter p ys
 filter-append p [] ys = refl

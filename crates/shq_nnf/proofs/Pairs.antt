@@ -7,30 +7,30 @@ use Rattle.shape_specs.specs.Rows.{Part, inclusion, conjuncts_in, inclusion_of}
 use Rattle.shape_specs.specs.Shape.{Shape}
 use Rattle.shape_specs.specs.Tree.{tree_of}
 use Rattle.shq_nnf.specs.declared.parts.Part.{Part as Kept}
-use Rattle.shq_nnf.specs.Parts.{IsPart, apart, disjoint_parts, chain_parts, equivalent_parts, union_parts, part_in}
+use Rattle.shq_nnf.specs.Parts.{StandsForPart, disjoint_pair, disjoint_parts, chain_parts, equivalent_parts, union_parts, part_in}
 use Rattle.shq_nnf.specs.Numbers.{IsNumber, Extends}
 use Rattle.shq_nnf.proofs.Numbers.{tree_stays}
 
-pub part_along : (t : List Shape) (p : Kept) (a a' b b' : Concept) → a ≡ a' → b ≡ b' → IsPart t p (inclusion (conjuncts_in a) b) → IsPart t p (inclusion (conjuncts_in a') b')
-part_along t p a a' b b' e f h = subst (λ (q : Part). IsPart t p q) (λ i. inclusion (conjuncts_in (e i)) (f i)) h
+pub part_along : (t : List Shape) (p : Kept) (a a' b b' : Concept) → a ≡ a' → b ≡ b' → StandsForPart t p (inclusion (conjuncts_in a) b) → StandsForPart t p (inclusion (conjuncts_in a') b')
+part_along t p a a' b b' e f h = subst (λ (q : Part). StandsForPart t p q) (λ i. inclusion (conjuncts_in (e i)) (f i)) h
 
 -- two numbers that were found one after the other
 pub part_of_numbers : (t u : List Shape) (p : Kept) (first second : ℕ) (a b : Concept) → Extends t u → IsNumber t first a → IsNumber u second b
-    → IsPart u p (inclusion (conjuncts_in (tree_of u first)) (tree_of u second)) → IsPart u p (inclusion (conjuncts_in a) b)
+    → StandsForPart u p (inclusion (conjuncts_in (tree_of u first)) (tree_of u second)) → StandsForPart u p (inclusion (conjuncts_in a) b)
 part_of_numbers t u p first second a b e is two h = part_along u p (tree_of u first) a (tree_of u second) b (tree_stays t u e first is.listed ∙ is.stands_for) two.stands_for h
 
 abbrev nothing : Part
 nothing = inclusion [] top
 
-pub pair_here : (c : Concept) (cs : List Concept) (place : ℕ) (d : Concept) → place < length cs → d ≡ get_or cs place d → apart c d ≡ part_in (disjoint_parts (c ∷ cs)) place
+pub pair_here : (c : Concept) (cs : List Concept) (place : ℕ) (d : Concept) → place < length cs → d ≡ get_or cs place d → disjoint_pair c d ≡ part_in (disjoint_parts (c ∷ cs)) place
 pair_here c cs place d lt is =
-    ap (apart c) is ∙ sym (get_or-map (apart c) cs place d nothing lt) ∙ sym (get_or_append_left (map (apart c) cs) (disjoint_parts cs) nothing place (omega (arith, length-map cs (apart c))))
+    ap (disjoint_pair c) is ∙ sym (get_or-map (disjoint_pair c) cs place d nothing lt) ∙ sym (get_or_append_left (map (disjoint_pair c) cs) (disjoint_parts cs) nothing place (omega (arith, length-map cs (disjoint_pair c))))
 
 pub pair_later : (c : Concept) (cs : List Concept) (place : ℕ) → length cs ≤ place → part_in (disjoint_parts cs) (place - length cs) ≡ part_in (disjoint_parts (c ∷ cs)) place
-pair_later c cs place le = sym (get_or-append_right (map (apart c) cs) (disjoint_parts cs) (length cs) place nothing (length-map cs (apart c)) le)
+pair_later c cs place le = sym (get_or-append_right (map (disjoint_pair c) cs) (disjoint_parts cs) (length cs) place nothing (length-map cs (disjoint_pair c)) le)
 
 pub length_pairs : (c : Concept) (cs : List Concept) → length (disjoint_parts (c ∷ cs)) ≡ length cs + length (disjoint_parts cs)
-length_pairs c cs = omega (arith, length-append (map (apart c) cs) (disjoint_parts cs), length-map cs (apart c))
+length_pairs c cs = omega (arith, length-append (map (disjoint_pair c) cs) (disjoint_parts cs), length-map cs (disjoint_pair c))
 
 times_step : (m : ℕ) → 2 * m + m * (m - 1) ≡ suc m * m
 times_step zero = refl
@@ -88,32 +88,32 @@ union_later a cs i le =
 pub length_union : (a : Concept) (cs : List Concept) → length (union_parts a cs) ≡ 1 + length cs + length (disjoint_parts cs)
 length_union a cs = omega (arith, length-append (map (λ c. inclusion_of c a) cs) (disjoint_parts cs), length-map cs (λ c. inclusion_of c a))
 
--- the pairs of a class with those behind it come before the pairs of these
-pub pair_found : (cs : List Concept) (i place : ℕ) (first second : Concept) → i + 1 + place < length cs → first ≡ get_or cs i first → second ≡ get_or cs (i + 1 + place) second → apart first second ≡ part_in (disjoint_parts (drop i cs)) place
+-- the pairs of a class with those after it come before the pairs of these
+pub pair_found : (cs : List Concept) (i place : ℕ) (first second : Concept) → i + 1 + place < length cs → first ≡ get_or cs i first → second ≡ get_or cs (i + 1 + place) second → disjoint_pair first second ≡ part_in (disjoint_parts (drop i cs)) place
 pair_found [] i place first second lt is there = absurd (omega arith)
 pair_found (c ∷ cs) zero place first second lt is there =
     let next : 0 + 1 + place ≡ suc place = omega arith in
-    ap (λ k. apart k second) is ∙ pair_here c cs place second (omega arith) (there ∙ ap (λ k. get_or (c ∷ cs) k second) next)
+    ap (λ k. disjoint_pair k second) is ∙ pair_here c cs place second (omega arith) (there ∙ ap (λ k. get_or (c ∷ cs) k second) next)
 pair_found (c ∷ cs) (suc i) place first second lt is there =
     let next : suc i + 1 + place ≡ suc (i + 1 + place) = omega arith in
     pair_found cs i place first second (omega arith) is (there ∙ ap (λ k. get_or (c ∷ cs) k second) next)
 
-pub pair_behind : (cs : List Concept) (i place : ℕ) → i < length cs → length cs - i - 1 ≤ place → part_in (disjoint_parts (drop (i + 1) cs)) (place - (length cs - i - 1)) ≡ part_in (disjoint_parts (drop i cs)) place
-pair_behind [] i place lt le = absurd (omega arith)
-pair_behind (c ∷ cs) zero place lt le =
+pub pair_after : (cs : List Concept) (i place : ℕ) → i < length cs → length cs - i - 1 ≤ place → part_in (disjoint_parts (drop (i + 1) cs)) (place - (length cs - i - 1)) ≡ part_in (disjoint_parts (drop i cs)) place
+pair_after [] i place lt le = absurd (omega arith)
+pair_after (c ∷ cs) zero place lt le =
     let later : length (c ∷ cs) - 0 - 1 ≡ length cs = omega arith in
     ap (λ k. part_in (disjoint_parts cs) (place - k)) later ∙ pair_later c cs place (omega arith)
-pair_behind (c ∷ cs) (suc i) place lt le =
+pair_after (c ∷ cs) (suc i) place lt le =
     let later : length (c ∷ cs) - suc i - 1 ≡ length cs - i - 1 = omega arith in
     let next : suc i + 1 ≡ suc (i + 1) = omega arith in
-    (λ j. part_in (disjoint_parts (drop (next j) (c ∷ cs))) (place - later j)) ∙ pair_behind cs i place (omega arith) (omega arith)
+    (λ j. part_in (disjoint_parts (drop (next j) (c ∷ cs))) (place - later j)) ∙ pair_after cs i place (omega arith) (omega arith)
 
-pub pairs_behind : (cs : List Concept) (i place : ℕ) → i < length cs → length cs - i - 1 ≤ place → place < length (disjoint_parts (drop i cs)) → place - (length cs - i - 1) < length (disjoint_parts (drop (i + 1) cs))
-pairs_behind [] i place lt le listed = absurd (omega arith)
-pairs_behind (c ∷ cs) zero place lt le listed = omega (arith, length_pairs c cs)
-pairs_behind (c ∷ cs) (suc i) place lt le listed =
+pub pairs_after : (cs : List Concept) (i place : ℕ) → i < length cs → length cs - i - 1 ≤ place → place < length (disjoint_parts (drop i cs)) → place - (length cs - i - 1) < length (disjoint_parts (drop (i + 1) cs))
+pairs_after [] i place lt le listed = absurd (omega arith)
+pairs_after (c ∷ cs) zero place lt le listed = omega (arith, length_pairs c cs)
+pairs_after (c ∷ cs) (suc i) place lt le listed =
     let next : suc i + 1 ≡ suc (i + 1) = omega arith in
-    let more : place - (length cs - i - 1) < length (disjoint_parts (drop (i + 1) cs)) = pairs_behind cs i place (omega arith) (omega arith) listed in
+    let more : place - (length cs - i - 1) < length (disjoint_parts (drop (i + 1) cs)) = pairs_after cs i place (omega arith) (omega arith) listed in
     subst (λ k. place - (length (c ∷ cs) - suc i - 1) < length (disjoint_parts (drop k (c ∷ cs)))) (sym next) (omega (arith, more))
 
 pub no_pairs : (cs : List Concept) (i : ℕ) → length cs ≤ i → length (disjoint_parts (drop i cs)) ≡ 0

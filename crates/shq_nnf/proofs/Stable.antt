@@ -14,7 +14,8 @@ use Rattle.shq_nnf.specs.Bounds.{joined_form}
 use Rattle.shq_nnf.specs.Numbers.{Extends, IsNumber, AreNumbers}
 use Rattle.shq_nnf.proofs.Numbers.{shape_tree, tree_stays, numbers_stay, numbers_push}
 use Rattle.shq_nnf.proofs.Bounded.{normal_list, negated_list}
-use Rattle.shq_nnf.proofs.Opened.{part_list-parts_of, conjunct_listed_of, conjunct_trees, disjunct_trees, intersection_without, union_without, intersection_of_many, union_of_many}
+use Rattle.shape_specs.proofs.Unique.{part_list-parts_of}
+use Rattle.shq_nnf.proofs.Opened.{conjunct_listed_of, conjunct_trees, disjunct_trees, intersection_without, union_without, intersection_of_many, union_of_many}
 
 conjunct_alone : (c : ℕ) (s : Shape) → is_conjunct s ≡ true → conjunct_numbers_of c s ≡ c ∷ []
 conjunct_alone c top_shape h = cc

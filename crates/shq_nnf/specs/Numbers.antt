@@ -25,7 +25,11 @@ pub record IsNumberIf (used : Bool) (table : List Shape) (number : ℕ) (concept
   pub listed : number < length table
   pub stands_for : used ≡ true → tree_of table number ≡ concept
 
+-- what the numbers of a table stand for
+abbrev pub trees_at : List Shape → List ℕ → List Concept
+trees_at table numbers = map (tree_of table) numbers
+
 -- the numbers of the table stand for the concepts, in order
 pub record AreNumbers (table : List Shape) (numbers : List ℕ) (concepts : List Concept) : Type 0 where
   pub listed : list_all (λ n. nat_lt n (length table)) numbers ≡ true
-  pub stand_for : map (tree_of table) numbers ≡ concepts
+  pub stand_for : trees_at table numbers ≡ concepts

@@ -25,11 +25,18 @@ disjunct_numbers_of c bottom = []
 disjunct_numbers_of c (union cs) = cs
 disjunct_numbers_of c _ = c ∷ []
 
+-- the same of a number of a table, and of several
+abbrev pub conjunct_numbers_at : List Shape → ℕ → List ℕ
+conjunct_numbers_at table c = conjunct_numbers_of c (shape_of table c)
+
+abbrev pub disjunct_numbers_at : List Shape → ℕ → List ℕ
+disjunct_numbers_at table c = disjunct_numbers_of c (shape_of table c)
+
 abbrev pub conjunct_numbers : List Shape → List ℕ → List ℕ
-conjunct_numbers table cs = flat_map (λ c. conjunct_numbers_of c (shape_of table c)) cs
+conjunct_numbers table cs = flat_map (conjunct_numbers_at table) cs
 
 abbrev pub disjunct_numbers : List Shape → List ℕ → List ℕ
-disjunct_numbers table cs = flat_map (λ c. disjunct_numbers_of c (shape_of table c)) cs
+disjunct_numbers table cs = flat_map (disjunct_numbers_at table) cs
 
 -- a member that may be left once inner intersections are opened and tops left out
 abbrev pub is_open_conjunct : Shape → Bool

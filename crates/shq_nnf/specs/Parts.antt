@@ -4,20 +4,23 @@ use Rattle.shq_base.specs.Concept.{Concept, top, complement, union, some_of, at_
 use Rattle.shq_terms.specs.declared.axioms.Axiom.{Axiom}
 use Rattle.shq_terms.specs.declared.axioms.Axiom.TheVariants.{SubClassOf, EquivalentClasses, DisjointClasses, DisjointUnion, SubRole, EquivalentRoles, Domain, Range, Functional, Transitive}
 use Rattle.shape_specs.specs.Shape.{Shape}
-use Rattle.shape_specs.specs.Rows.{Part, inclusion, range, inclusion_of, range_of}
+use Rattle.shape_specs.specs.Normal.{normal_form}
+use Rattle.shape_specs.specs.Tree.{tree_of}
+use Rattle.shape_specs.specs.Rows.{Part, inclusion, range, conjuncts_in, inclusion_of, range_of}
 use Rattle.shq_nnf.specs.declared.parts.Part.{Part as Kept}
 use Rattle.shq_nnf.specs.declared.parts.Part.TheVariants as K
+use Rattle.shq_nnf.specs.Bounds.{signed_form}
 use Rattle.shq_nnf.specs.Counts.{has_counts_within, have_counts_within}
 use Rattle.shq_nnf.specs.Numbers.{IsNumber, AreNumbers}
 
 -- what is in c is not in d
-abbrev pub apart : Concept → Concept → Part
-apart c d = inclusion_of c (complement d)
+abbrev pub disjoint_pair : Concept → Concept → Part
+disjoint_pair c d = inclusion_of c (complement d)
 
 -- each before each that stands after it
 abbrev pub disjoint_parts : List Concept → List Part
 disjoint_parts [] = []
-disjoint_parts (c ∷ cs) = map (apart c) cs ++ disjoint_parts cs
+disjoint_parts (c ∷ cs) = map (disjoint_pair c) cs ++ disjoint_parts cs
 
 -- each in the next, and the last in the first
 abbrev pub chain_parts : Concept → List Concept → List Part
@@ -29,9 +32,13 @@ abbrev pub equivalent_parts : List Concept → List Part
 equivalent_parts [] = []
 equivalent_parts (c ∷ cs) = chain_parts c (c ∷ cs)
 
+-- what is in the class is in one of the classes
+abbrev pub covering : Concept → List Concept → Part
+covering a cs = inclusion_of a (union (parts_of cs))
+
 -- the class is in their union, each of them is in the class, and no two have a common element
 abbrev pub union_parts : Concept → List Concept → List Part
-union_parts a cs = inclusion_of a (union (parts_of cs)) ∷ (map (λ c. inclusion_of c a) cs ++ disjoint_parts cs)
+union_parts a cs = covering a cs ∷ (map (λ c. inclusion_of c a) cs ++ disjoint_parts cs)
 
 -- a role axiom has none
 abbrev pub axiom_parts : Axiom → List Part
@@ -46,15 +53,23 @@ axiom_parts (Range r c) = range_of r c ∷ []
 axiom_parts (Functional r) = inclusion_of top (at_most 1 r top) ∷ []
 axiom_parts (Transitive r) = []
 
+-- what is in the left side is in the right side, or in its complement
+abbrev pub signed_inclusion : Concept → Bool → Concept → Part
+signed_inclusion left negated right = inclusion (conjuncts_in (normal_form left)) (signed_form negated right)
+
+-- the inclusion of what a number stands for in what another does
+abbrev pub inclusion_at : List Shape → ℕ → ℕ → Part
+inclusion_at table left right = inclusion (conjuncts_in (tree_of table left)) (tree_of table right)
+
 -- the part at a place from 0; one that is not there reads as 'nothing is asked'
 abbrev pub part_in : List Part → ℕ → Part
 part_in parts place = slice_index_or parts place (inclusion [] top)
 
 -- the numbers of the table stand for the part
-abbrev pub IsPart : List Shape → Kept → Part → Type 0
-IsPart table (K.Inclusion ns n) (inclusion cs d) = AreNumbers table ns cs × IsNumber table n d
-IsPart table (K.Range r n) (range s d) = (r ≡ s) × IsNumber table n d
-IsPart table _ _ = ⊥
+abbrev pub StandsForPart : List Shape → Kept → Part → Type 0
+StandsForPart table (K.Inclusion ns n) (inclusion cs d) = AreNumbers table ns cs × IsNumber table n d
+StandsForPart table (K.Range r n) (range s d) = (r ≡ s) × IsNumber table n d
+StandsForPart table _ _ = ⊥
 
 -- the cardinalities of an axiom's class expressions are within a limit
 abbrev pub axiom_has_counts_within : ℕ → Axiom → Bool

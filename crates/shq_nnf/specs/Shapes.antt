@@ -1,4 +1,7 @@
 -- The shapes that the code shows and keeps, as plain shapes.
+use Rattle.std.specs.Prelude.{List}
+use Rattle.shq_base.specs.Concept.{Concept}
+use Rattle.shape_specs.specs.Tree.{tree_over, trees_of}
 use Rattle.shape_specs.specs.Shape.{Shape, top, bottom, name, not_name, intersection, union, some_of, all_of, at_least, at_most}
 use Rattle.shq_nnf.specs.declared.shapes.OwnedShape.{OwnedShape}
 use Rattle.shq_nnf.specs.declared.shapes.OwnedShape.TheVariants as K
@@ -16,6 +19,10 @@ form_of (S.SomeOf r c) = some_of r c
 form_of (S.AllOf r c) = all_of r c
 form_of (S.Min n r c) = at_least n r c
 form_of (S.Max n r c) = at_most n r c
+
+-- the concept that a shape stands for, whose parts are numbers of the table
+abbrev pub concept_of : List Shape → Shown → Concept
+concept_of table s = tree_over (trees_of table) (form_of s)
 
 abbrev pub form_of_owned : OwnedShape → Shape
 form_of_owned K.Top = top

@@ -1,10 +1,8 @@
 // The complements of numbers.
-ghost use Rattle.std.specs.Prelude.{◌≡◌, ◌<◌, ◌≤◌, nat_lt, IsTrue, IfOk, length, map};
+ghost use Rattle.std.specs.Prelude.{◌≡◌, ◌<◌, ◌≤◌, nat_lt, IsTrue, IfOk, length};
 ghost use Rattle.std.specs.List.{list_all};
-ghost use Rattle.shape_specs.specs.Normal.{negated_form};
 ghost use Rattle.shape_specs.specs.Shape.{shape_of, IsTable};
-ghost use Rattle.shape_specs.specs.Tree.{tree_of};
-ghost use Rattle.shq_nnf.specs.Bounds.{joined_form, quantified_form};
+ghost use Rattle.shq_nnf.specs.Bounds.{joined_form, complement_quantifier, negated_tree, negated_trees};
 ghost use Rattle.shq_nnf.specs.Shapes.{form_of_owned};
 ghost use Rattle.shq_nnf.specs.Numbers.{Extends, IsNumber, AreNumbers};
 
@@ -16,7 +14,7 @@ impl Concepts {
     #[cycle(complements)]
     pub(crate) fn complement_of(&mut self, concept: u32) -> Result<u32, NoMemory>
         requires { concept < length self.old }
-        ensures number { IfOk result (λ n. IsNumber self.new n (negated_form (tree_of self.old concept))) }
+        ensures number { IfOk result (λ n. IsNumber self.new n (negated_tree self.old concept)) }
         ensures kept { Extends self.old self.new }
     {
         let shape = self.copied(concept)?;
@@ -47,7 +45,7 @@ impl Concepts {
     fn joined_complement(&mut self, union: bool, parts: &[u32], above: u32) -> Result<u32, NoMemory>
         requires listed { above ≤ length self.old }
         requires below { IsTrue (list_all (λ c. nat_lt c above) parts.now) }
-        ensures number { IfOk result (λ n. IsNumber self.new n (joined_form union (map (λ c. negated_form (tree_of self.old c)) parts.now))) }
+        ensures number { IfOk result (λ n. IsNumber self.new n (joined_form union (negated_trees self.old parts.now))) }
         ensures kept { Extends self.old self.new }
     {
         let numbers = self.complements(parts, above)?;
@@ -59,7 +57,7 @@ impl Concepts {
     fn complements(&mut self, parts: &[u32], above: u32) -> Result<Vec<u32>, NoMemory>
         requires listed { above ≤ length self.old }
         requires below { IsTrue (list_all (λ c. nat_lt c above) parts.now) }
-        ensures numbers { IfOk result (λ ns. AreNumbers self.new ns.items (map (λ c. negated_form (tree_of self.old c)) parts.now)) }
+        ensures numbers { IfOk result (λ ns. AreNumbers self.new ns.items (negated_trees self.old parts.now)) }
         ensures kept { Extends self.old self.new }
     {
         let mut numbers = Vec::new(self.alloc);
@@ -73,7 +71,7 @@ impl Concepts {
     #[cycle(complements)]
     fn quantified_complement(&mut self, all: bool, role: u32, filler: u32) -> Result<u32, NoMemory>
         requires { filler < length self.old }
-        ensures number { IfOk result (λ n. IsNumber self.new n (quantified_form all role (negated_form (tree_of self.old filler)))) }
+        ensures number { IfOk result (λ n. IsNumber self.new n (complement_quantifier self.old all role filler)) }
         ensures kept { Extends self.old self.new }
     {
         let inner = self.complement_of(filler)?;

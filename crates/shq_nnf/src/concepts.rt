@@ -2,8 +2,8 @@
 ghost use Rattle.std.specs.Prelude.{◌≡◌, ◌+◌, ◌<◌, ◌≤◌, [], ◌∷◌, ◌++◌, IsTrue, IfOk, OnOk, OnErr, length, take};
 ghost use Rattle.shape_specs.specs.Shape.{shape_of, has_parts_below, is_normal, IsTable};
 ghost use Rattle.shape_specs.specs.Shape.Shape.{top as plain_top};
-ghost use Rattle.shq_nnf.specs.Shapes.{form_of, form_of_owned};
-ghost use Rattle.shq_nnf.specs.Numbers.{IsPut};
+ghost use Rattle.shq_nnf.specs.Shapes.{form_of, form_of_owned, concept_of};
+ghost use Rattle.shq_nnf.specs.Numbers.{Extends, IsPut, IsNumber};
 
 use crate::NoMemory;
 use crate::shapes::{OwnedShape, Shape, owned};
@@ -36,7 +36,7 @@ impl Concepts {
     ///
     /// # Errors
     ///
-    /// Want of memory.
+    /// Out of memory.
     pub fn new(alloc: Global) -> Result<Concepts, NoMemory>
         ensures { IfOk result (λ table. table ≡ plain_top ∷ []) }
     {
@@ -69,11 +69,25 @@ impl Concepts {
     ///
     /// # Errors
     ///
-    /// Want of memory, or of numbers: a table has fewer than 2^32 of them.
+    /// Out of memory, or out of numbers: a table has fewer than 2^32 of them.
     pub fn put(&mut self, shape: Shape<'_>) -> Result<u32, NoMemory>
         requires parts { IsTrue (has_parts_below (length self.old) (form_of shape)) }
         requires normal { IsTrue (is_normal self.old (form_of shape)) }
-        ensures number { IfOk result (λ n. IsPut self.old (form_of shape.entry) self.new n) }
+        ensures put { IfOk result (λ n. IsPut self.old (form_of shape.entry) self.new n) }
+        ensures number { IfOk result (λ n. IsNumber self.new n (concept_of self.old shape.entry)) }
+        ensures kept { Extends self.old self.new }
+        ensures table { IsTable self.new }
+        ensures unchanged { OnErr result (self.new ≡ self.old) }
+    {
+        let _count = self.len();
+        let number = self.put_shape(shape)?;
+        Ok(number)
+    }
+
+    fn put_shape(&mut self, shape: Shape<'_>) -> Result<u32, NoMemory>
+        requires parts { IsTrue (has_parts_below (length self.old) (form_of shape)) }
+        requires normal { IsTrue (is_normal self.old (form_of shape)) }
+        ensures put { IfOk result (λ n. IsPut self.old (form_of shape.entry) self.new n) }
         ensures table { IsTable self.new }
         ensures unchanged { OnErr result (self.new ≡ self.old) }
     {

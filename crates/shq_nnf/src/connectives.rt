@@ -1,35 +1,20 @@
 // Intersections and unions of numbers.
-ghost use Rattle.std.specs.Prelude.{◌≡◌, ◌<◌, nat_lt, IsTrue, IfOk, OnOk, OnErr, ◌++◌, length, map};
+ghost use Rattle.std.specs.Prelude.{◌≡◌, ◌<◌, nat_lt, IsTrue, IfOk, OnOk, OnErr, ◌++◌, length};
 ghost use Rattle.std.specs.List.{list_all, list_any};
-ghost use Rattle.shape_specs.specs.Shape.{shape_of, has_parts_below, is_normal};
+ghost use Rattle.shape_specs.specs.Shape.{shape_of};
 ghost use Rattle.shape_specs.specs.Normal.{and_of, or_of};
-ghost use Rattle.shape_specs.specs.Tree.{tree_over, trees_of, tree_of};
-ghost use Rattle.shq_nnf.specs.Shapes.{form_of};
-ghost use Rattle.shq_nnf.specs.Numbers.{Extends, IsNumber};
+ghost use Rattle.shq_nnf.specs.Numbers.{Extends, IsNumber, trees_at};
 ghost use Rattle.shq_nnf.specs.Bounds.{joined_form};
-ghost use Rattle.shq_nnf.specs.Opened.{is_top_shape, is_bottom_shape, conjunct_numbers_of, disjunct_numbers_of, conjunct_numbers, disjunct_numbers, is_open_conjunct, is_open_disjunct, open_intersection, open_union};
+ghost use Rattle.shq_nnf.specs.Opened.{is_top_shape, is_bottom_shape, conjunct_numbers_at, disjunct_numbers_at, conjunct_numbers, disjunct_numbers, is_open_conjunct, is_open_disjunct, open_intersection, open_union};
 
 use crate::shapes::Shape;
 use crate::{Concepts, NoMemory};
 
 impl Concepts {
-    // Puts a shape, of which the caller needs the tree.
-    pub(crate) fn add(&mut self, shape: Shape<'_>) -> Result<u32, NoMemory>
-        requires parts { IsTrue (has_parts_below (length self.old) (form_of shape)) }
-        requires normal { IsTrue (is_normal self.old (form_of shape)) }
-        ensures number { IfOk result (λ n. IsNumber self.new n (tree_over (trees_of self.old) (form_of shape.entry))) }
-        ensures kept { Extends self.old self.new }
-        ensures unchanged { OnErr result (self.new ≡ self.old) }
-    {
-        let _count = self.len();
-        let number = self.put(shape)?;
-        Ok(number)
-    }
-
     // The number of an intersection in normal form.
     pub(crate) fn intersection_of(&mut self, parts: &[u32]) -> Result<u32, NoMemory>
         requires { IsTrue (list_all (λ c. nat_lt c (length self.old)) parts.now) }
-        ensures number { IfOk result (λ n. IsNumber self.new n (and_of (map (tree_of self.old) parts.now))) }
+        ensures number { IfOk result (λ n. IsNumber self.new n (and_of (trees_at self.old parts.now))) }
         ensures kept { Extends self.old self.new }
         ensures unchanged { OnErr result (self.new ≡ self.old) }
     {
@@ -52,7 +37,7 @@ impl Concepts {
 
     pub(crate) fn push_conjuncts(&self, members: &mut Vec<u32>, part: u32) -> Result<(), NoMemory>
         requires { part < length self.now }
-        ensures { OnOk result (members.new.items ≡ members.old.items ++ conjunct_numbers_of part (shape_of self.now part)) }
+        ensures { OnOk result (members.new.items ≡ members.old.items ++ conjunct_numbers_at self.now part) }
     {
         match self.shape(part) {
             Shape::Top => {}
@@ -66,18 +51,18 @@ impl Concepts {
     fn intersect(&mut self, members: &[u32]) -> Result<u32, NoMemory>
         requires listed { IsTrue (list_all (λ c. nat_lt c (length self.old)) members.now) }
         requires opened { IsTrue (list_all (λ c. is_open_conjunct (shape_of self.old c)) members.now) }
-        ensures number { IfOk result (λ n. IsNumber self.new n (open_intersection (map (tree_of self.old) members.now))) }
+        ensures number { IfOk result (λ n. IsNumber self.new n (open_intersection (trees_at self.old members.now))) }
         ensures kept { Extends self.old self.new }
         ensures unchanged { OnErr result (self.new ≡ self.old) }
     {
         let _count = self.len();
         if self.any_bottom(members) {
-            return self.add(Shape::Bottom);
+            return self.put(Shape::Bottom);
         }
         match members {
             [] => Ok(0),
             [member] => Ok(*member),
-            _ => self.add(Shape::And(members)),
+            _ => self.put(Shape::And(members)),
         }
     }
 
@@ -105,10 +90,10 @@ impl Concepts {
     ///
     /// # Errors
     ///
-    /// Want of memory.
+    /// Out of memory.
     pub fn union_of(&mut self, parts: &[u32]) -> Result<u32, NoMemory>
         requires { IsTrue (list_all (λ c. nat_lt c (length self.old)) parts.now) }
-        ensures number { IfOk result (λ n. IsNumber self.new n (or_of (map (tree_of self.old) parts.now))) }
+        ensures number { IfOk result (λ n. IsNumber self.new n (or_of (trees_at self.old parts.now))) }
         ensures kept { Extends self.old self.new }
         ensures unchanged { OnErr result (self.new ≡ self.old) }
     {
@@ -131,7 +116,7 @@ impl Concepts {
 
     fn push_disjuncts(&self, members: &mut Vec<u32>, part: u32) -> Result<(), NoMemory>
         requires { part < length self.now }
-        ensures { OnOk result (members.new.items ≡ members.old.items ++ disjunct_numbers_of part (shape_of self.now part)) }
+        ensures { OnOk result (members.new.items ≡ members.old.items ++ disjunct_numbers_at self.now part) }
     {
         match self.shape(part) {
             Shape::Bottom => {}
@@ -145,7 +130,7 @@ impl Concepts {
     fn unite(&mut self, members: &[u32]) -> Result<u32, NoMemory>
         requires listed { IsTrue (list_all (λ c. nat_lt c (length self.old)) members.now) }
         requires opened { IsTrue (list_all (λ c. is_open_disjunct (shape_of self.old c)) members.now) }
-        ensures number { IfOk result (λ n. IsNumber self.new n (open_union (map (tree_of self.old) members.now))) }
+        ensures number { IfOk result (λ n. IsNumber self.new n (open_union (trees_at self.old members.now))) }
         ensures kept { Extends self.old self.new }
         ensures unchanged { OnErr result (self.new ≡ self.old) }
     {
@@ -154,9 +139,9 @@ impl Concepts {
             return Ok(0);
         }
         match members {
-            [] => self.add(Shape::Bottom),
+            [] => self.put(Shape::Bottom),
             [member] => Ok(*member),
-            _ => self.add(Shape::Or(members)),
+            _ => self.put(Shape::Or(members)),
         }
     }
 
@@ -182,7 +167,7 @@ impl Concepts {
     // A union, or an intersection.
     pub(crate) fn joined(&mut self, union: bool, parts: &[u32]) -> Result<u32, NoMemory>
         requires { IsTrue (list_all (λ c. nat_lt c (length self.old)) parts.now) }
-        ensures number { IfOk result (λ n. IsNumber self.new n (joined_form union (map (tree_of self.old) parts.now))) }
+        ensures number { IfOk result (λ n. IsNumber self.new n (joined_form union (trees_at self.old parts.now))) }
         ensures kept { Extends self.old self.new }
     {
         if union {

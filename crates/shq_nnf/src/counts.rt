@@ -3,8 +3,9 @@ ghost use Rattle.std.specs.Prelude.{◌≡◌, ◌<◌, ◌≤◌, IfOk, OnErr, 
 ghost use Rattle.shq_base.specs.Concept.{at_most, top, bottom, name, complement};
 ghost use Rattle.shape_specs.specs.Normal.{least_form};
 ghost use Rattle.shape_specs.specs.Tree.{tree_of};
+ghost use Rattle.shq_nnf.specs.declared.counts.Bound.TheVariants.{AtLeast, AtMost};
 ghost use Rattle.shq_nnf.specs.Numbers.{Extends, IsNumber};
-ghost use Rattle.shq_nnf.specs.Bounds.{signed_form, quantified_form, bound_form, uses_plain, uses_negated};
+ghost use Rattle.shq_nnf.specs.Bounds.{signed_form, quantified_form, IsBounded, uses_plain, uses_negated};
 
 use crate::shapes::Shape;
 use crate::{Concepts, NoMemory};
@@ -56,7 +57,7 @@ impl Concepts {
         ensures kept { Extends self.old self.new }
     {
         if negated {
-            return self.add(Shape::Bottom);
+            return self.put(Shape::Bottom);
         }
         Ok(self.top())
     }
@@ -67,9 +68,9 @@ impl Concepts {
         ensures kept { Extends self.old self.new }
     {
         if negated {
-            return self.add(Shape::NotName(class));
+            return self.put(Shape::NotName(class));
         }
-        self.add(Shape::Name(class))
+        self.put(Shape::Name(class))
     }
 
     // All successors, or some of them.
@@ -79,9 +80,9 @@ impl Concepts {
         ensures kept { Extends self.old self.new }
     {
         if all {
-            return self.add(Shape::AllOf(role, filler));
+            return self.put(Shape::AllOf(role, filler));
         }
-        self.add(Shape::SomeOf(role, filler))
+        self.put(Shape::SomeOf(role, filler))
     }
 
     pub(crate) fn at_least(&mut self, count: u32, role: u32, filler: u32) -> Result<u32, NoMemory>
@@ -94,9 +95,9 @@ impl Concepts {
             return Ok(self.top());
         }
         if count == 1 {
-            return self.add(Shape::SomeOf(role, filler));
+            return self.put(Shape::SomeOf(role, filler));
         }
-        self.add(Shape::Min(count, role, filler))
+        self.put(Shape::Min(count, role, filler))
     }
 
     pub(crate) fn at_most(&mut self, count: u32, role: u32, filler: u32) -> Result<u32, NoMemory>
@@ -106,7 +107,7 @@ impl Concepts {
         ensures number { IfOk result (λ n. IsNumber self.new n (at_most count role (tree_of self.old filler))) }
         ensures kept { Extends self.old self.new }
     {
-        self.add(Shape::Max(count, role, filler))
+        self.put(Shape::Max(count, role, filler))
     }
 
     // A cardinality or its complement, over the numbers of the filler and of the filler's complement.
@@ -122,7 +123,7 @@ impl Concepts {
         requires plain_listed { plain < length self.old }
         requires complement_listed { complement < length self.old }
         requires within { count ≤ 100 }
-        ensures number { IfOk result (λ n. IsNumber self.new n (bound_form bound negated count role (tree_of self.old plain) (tree_of self.old complement))) }
+        ensures number { IfOk result (IsBounded self.old self.new bound negated count role plain complement) }
         ensures kept { Extends self.old self.new }
     {
         match bound {
@@ -149,17 +150,17 @@ impl Concepts {
         requires plain_listed { plain < length self.old }
         requires complement_listed { complement < length self.old }
         requires within { count ≤ 100 }
-        ensures number { IfOk result (λ n. IsNumber self.new n (bound_form Bound.AtLeast negated count role (tree_of self.old plain) (tree_of self.old complement))) }
+        ensures number { IfOk result (IsBounded self.old self.new AtLeast negated count role plain complement) }
         ensures kept { Extends self.old self.new }
     {
         if !negated {
             return self.at_least(count, role, plain);
         }
         if count == 0 {
-            return self.add(Shape::Bottom);
+            return self.put(Shape::Bottom);
         }
         if count == 1 {
-            return self.add(Shape::AllOf(role, complement));
+            return self.put(Shape::AllOf(role, complement));
         }
         self.at_most(count - 1, role, plain)
     }
@@ -176,14 +177,14 @@ impl Concepts {
         requires plain_listed { plain < length self.old }
         requires complement_listed { complement < length self.old }
         requires within { count ≤ 100 }
-        ensures number { IfOk result (λ n. IsNumber self.new n (bound_form Bound.AtMost negated count role (tree_of self.old plain) (tree_of self.old complement))) }
+        ensures number { IfOk result (IsBounded self.old self.new AtMost negated count role plain complement) }
         ensures kept { Extends self.old self.new }
     {
         if negated {
             return self.at_least(count + 1, role, plain);
         }
         if count == 0 {
-            return self.add(Shape::AllOf(role, complement));
+            return self.put(Shape::AllOf(role, complement));
         }
         self.at_most(count, role, plain)
     }

@@ -1,11 +1,11 @@
 // Normal forms of class expressions and of their complements.
-ghost use Rattle.std.specs.Prelude.{◌≡◌, ◌<◌, ◌≤◌, IsTrue, IfOk, OnOk, OnErr, length, map, take, true};
+ghost use Rattle.std.specs.Prelude.{◌≡◌, ◌<◌, ◌≤◌, IsTrue, IfOk, OnOk, OnErr, length, take, true};
 ghost use Rattle.shq_base.specs.Concept.{parts_of};
 ghost use Rattle.shape_specs.specs.Normal.{normal_form, negated_form};
 ghost use Rattle.shape_specs.specs.Tree.{tree_of};
 ghost use Rattle.shq_nnf.specs.Numbers.{Extends, IsNumber, IsNumberIf, AreNumbers};
 ghost use Rattle.shq_nnf.specs.Counts.{has_counts_within, have_counts_within};
-ghost use Rattle.shq_nnf.specs.Bounds.{signed_form, joined_form, quantified_form, bound_form};
+ghost use Rattle.shq_nnf.specs.Bounds.{signed_form, signed_forms, joined_form, quantifier_form, bounded_form};
 
 use crate::counts::Bound;
 use crate::{Concepts, NoMemory};
@@ -16,7 +16,7 @@ impl Concepts {
     ///
     /// # Errors
     ///
-    /// Want of memory.
+    /// Out of memory.
     pub fn intern(&mut self, concept: &Concept) -> Result<u32, NoMemory>
         requires { IsTrue (has_counts_within 100 concept.now) }
         ensures number { IfOk result (λ n. IsNumber self.new n (normal_form concept.now)) }
@@ -28,11 +28,27 @@ impl Concepts {
         self.settled(len, outcome)
     }
 
+    /// The number of the normal form of the complement of a class expression whose cardinalities are at most 100.
+    ///
+    /// # Errors
+    ///
+    /// Out of memory.
+    pub fn intern_complement(&mut self, concept: &Concept) -> Result<u32, NoMemory>
+        requires { IsTrue (has_counts_within 100 concept.now) }
+        ensures number { IfOk result (λ n. IsNumber self.new n (negated_form concept.now)) }
+        ensures kept { Extends self.old self.new }
+        ensures unchanged { OnErr result (self.new ≡ self.old) }
+    {
+        let len = self.len();
+        let outcome = self.form(concept, true);
+        self.settled(len, outcome)
+    }
+
     /// The number of the normal form of the complement of a number.
     ///
     /// # Errors
     ///
-    /// Want of memory.
+    /// Out of memory.
     pub fn negated(&mut self, concept: u32) -> Result<u32, NoMemory>
         requires { concept < length self.old }
         ensures number { IfOk result (λ n. IsNumber self.new n (negated_form (tree_of self.old concept))) }
@@ -44,7 +60,7 @@ impl Concepts {
         self.settled(len, outcome)
     }
 
-    // The outcome of steps that began at a length: after want of memory the table is cut back to it.
+    // The outcome of steps that began at a length: where memory ran out, the table is cut back to it.
     pub(crate) fn settled<T>(
         &mut self,
         len: u32,
@@ -109,7 +125,7 @@ impl Concepts {
         negated: bool,
     ) -> Result<u32, NoMemory>
         requires { IsTrue (have_counts_within 100 (parts_of parts.now)) }
-        ensures number { IfOk result (λ n. IsNumber self.new n (joined_form union (map (signed_form negated) parts.now))) }
+        ensures number { IfOk result (λ n. IsNumber self.new n (joined_form union (signed_forms negated parts.now))) }
         ensures kept { Extends self.old self.new }
     {
         let numbers = self.forms(parts, negated)?;
@@ -120,7 +136,7 @@ impl Concepts {
     #[cycle(forms)]
     fn forms(&mut self, concepts: &[Concept], negated: bool) -> Result<Vec<u32>, NoMemory>
         requires { IsTrue (have_counts_within 100 (parts_of concepts.now)) }
-        ensures numbers { IfOk result (λ ns. AreNumbers self.new ns.items (map (signed_form negated) concepts.now)) }
+        ensures numbers { IfOk result (λ ns. AreNumbers self.new ns.items (signed_forms negated concepts.now)) }
         ensures kept { Extends self.old self.new }
     {
         let mut numbers = Vec::new(self.alloc);
@@ -140,7 +156,7 @@ impl Concepts {
         negated: bool,
     ) -> Result<u32, NoMemory>
         requires { IsTrue (has_counts_within 100 filler.now) }
-        ensures number { IfOk result (λ n. IsNumber self.new n (quantified_form all role (signed_form negated filler.now))) }
+        ensures number { IfOk result (λ n. IsNumber self.new n (quantifier_form all role negated filler.now)) }
         ensures kept { Extends self.old self.new }
     {
         let inner = self.form(filler, negated)?;
@@ -159,7 +175,7 @@ impl Concepts {
     ) -> Result<u32, NoMemory>
         requires counts { IsTrue (has_counts_within 100 filler.now) }
         requires within { count ≤ 100 }
-        ensures number { IfOk result (λ n. IsNumber self.new n (bound_form bound negated count role (normal_form filler.now) (negated_form filler.now))) }
+        ensures number { IfOk result (λ n. IsNumber self.new n (bounded_form bound negated count role filler.now)) }
         ensures kept { Extends self.old self.new }
     {
         let uses_plain = bound.uses_plain(negated, count);

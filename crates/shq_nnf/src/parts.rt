@@ -1,14 +1,11 @@
-// The parts of axioms, of which searches make their rows.
+// The parts of axioms, in numbers of a table.
 ghost use Rattle.std.specs.Prelude.{◌≡◌, ◌+◌, ◌-◌, ◌<◌, ◌≤◌, IsTrue, IfOk, OnErr, length, slice_index_or};
-ghost use Rattle.shq_base.specs.Concept.{parts_of, union as plain_union, some_of, at_most, top};
+ghost use Rattle.shq_base.specs.Concept.{parts_of, some_of, at_most, top};
 ghost use Rattle.shape_specs.specs.Rows.{conjuncts_in, inclusion_of, range_of};
-ghost use Rattle.shape_specs.specs.Rows.Part.{inclusion as plain_inclusion};
-ghost use Rattle.shape_specs.specs.Normal.{normal_form};
 ghost use Rattle.shape_specs.specs.Tree.{tree_of};
-ghost use Rattle.shq_nnf.specs.Bounds.{signed_form};
 ghost use Rattle.shq_nnf.specs.Counts.{has_counts_within, have_counts_within};
 ghost use Rattle.shq_nnf.specs.Numbers.{Extends, IsNumber, AreNumbers};
-ghost use Rattle.shq_nnf.specs.Parts.{IsPart, apart, disjoint_parts, equivalent_parts, union_parts, part_in, axiom_parts, axiom_has_counts_within};
+ghost use Rattle.shq_nnf.specs.Parts.{StandsForPart, covering, signed_inclusion, inclusion_at, disjoint_pair, disjoint_parts, equivalent_parts, union_parts, part_in, axiom_parts, axiom_has_counts_within};
 
 use crate::shapes::Shape;
 use crate::{Concepts, NoMemory};
@@ -29,12 +26,12 @@ impl Concepts {
     ///
     /// # Errors
     ///
-    /// Want of memory.
+    /// Out of memory.
     pub fn part(&mut self, axiom: &Axiom, part: u32) -> Result<Part, NoMemory>
         requires first { 1 ≤ part }
         requires last { part ≤ length (axiom_parts «axiom».now) }
         requires counts { IsTrue (axiom_has_counts_within 100 «axiom».now) }
-        ensures part { IfOk result (λ p. IsPart self.new p (part_in (axiom_parts «axiom».now) (part - 1))) }
+        ensures part { IfOk result (λ p. StandsForPart self.new p (part_in (axiom_parts «axiom».now) (part - 1))) }
         ensures kept { Extends self.old self.new }
         ensures unchanged { OnErr result (self.new ≡ self.old) }
     {
@@ -46,7 +43,7 @@ impl Concepts {
     fn part_at(&mut self, axiom: &Axiom, place: u32) -> Result<Part, NoMemory>
         requires listed { place < length (axiom_parts «axiom».now) }
         requires counts { IsTrue (axiom_has_counts_within 100 «axiom».now) }
-        ensures part { IfOk result (λ p. IsPart self.new p (part_in (axiom_parts «axiom».now) place)) }
+        ensures part { IfOk result (λ p. StandsForPart self.new p (part_in (axiom_parts «axiom».now) place)) }
         ensures kept { Extends self.old self.new }
     {
         match axiom {
@@ -67,7 +64,7 @@ impl Concepts {
     fn equivalent_part(&mut self, classes: &[Concept], place: u32) -> Result<Part, NoMemory>
         requires listed { place < length classes.now }
         requires counts { IsTrue (have_counts_within 100 (parts_of classes.now)) }
-        ensures part { IfOk result (λ p. IsPart self.new p (part_in (equivalent_parts classes.now) place)) }
+        ensures part { IfOk result (λ p. StandsForPart self.new p (part_in (equivalent_parts classes.now) place)) }
         ensures kept { Extends self.old self.new }
     {
         let place = place as usize;
@@ -80,7 +77,7 @@ impl Concepts {
     fn disjoint_part(&mut self, classes: &[Concept], place: u32) -> Result<Part, NoMemory>
         requires listed { place < length (disjoint_parts classes.now) }
         requires counts { IsTrue (have_counts_within 100 (parts_of classes.now)) }
-        ensures part { IfOk result (λ p. IsPart self.new p (part_in (disjoint_parts classes.now) place)) }
+        ensures part { IfOk result (λ p. StandsForPart self.new p (part_in (disjoint_parts classes.now) place)) }
         ensures kept { Extends self.old self.new }
     {
         let (first, second) = pair_at(classes, place as usize);
@@ -97,7 +94,7 @@ impl Concepts {
         requires listed { place < 1 + length classes.now + length (disjoint_parts classes.now) }
         requires class_counts { IsTrue (has_counts_within 100 class.now) }
         requires counts { IsTrue (have_counts_within 100 (parts_of classes.now)) }
-        ensures part { IfOk result (λ p. IsPart self.new p (part_in (union_parts class.now classes.now) place)) }
+        ensures part { IfOk result (λ p. StandsForPart self.new p (part_in (union_parts class.now classes.now) place)) }
         ensures kept { Extends self.old self.new }
     {
         if place == 0 {
@@ -115,7 +112,7 @@ impl Concepts {
     fn covering_part(&mut self, class: &Concept, classes: &[Concept]) -> Result<Part, NoMemory>
         requires class_counts { IsTrue (has_counts_within 100 class.now) }
         requires counts { IsTrue (have_counts_within 100 (parts_of classes.now)) }
-        ensures part { IfOk result (λ p. IsPart self.new p (inclusion_of class.now (plain_union (parts_of classes.now)))) }
+        ensures part { IfOk result (λ p. StandsForPart self.new p (covering class.now classes.now)) }
         ensures kept { Extends self.old self.new }
     {
         let first = self.form(class, false)?;
@@ -126,7 +123,7 @@ impl Concepts {
 
     fn domain_part(&mut self, role: u32, class: &Concept) -> Result<Part, NoMemory>
         requires { IsTrue (has_counts_within 100 class.now) }
-        ensures part { IfOk result (λ p. IsPart self.new p (inclusion_of (some_of role top) class.now)) }
+        ensures part { IfOk result (λ p. StandsForPart self.new p (inclusion_of (some_of role top) class.now)) }
         ensures kept { Extends self.old self.new }
     {
         let any = self.top();
@@ -138,7 +135,7 @@ impl Concepts {
 
     fn range_part(&mut self, role: u32, class: &Concept) -> Result<Part, NoMemory>
         requires { IsTrue (has_counts_within 100 class.now) }
-        ensures part { IfOk result (λ p. IsPart self.new p (range_of role class.now)) }
+        ensures part { IfOk result (λ p. StandsForPart self.new p (range_of role class.now)) }
         ensures kept { Extends self.old self.new }
     {
         let class = self.form(class, false)?;
@@ -146,7 +143,7 @@ impl Concepts {
     }
 
     fn functional_part(&mut self, role: u32) -> Result<Part, NoMemory>
-        ensures part { IfOk result (λ p. IsPart self.new p (inclusion_of top (at_most 1 role top))) }
+        ensures part { IfOk result (λ p. StandsForPart self.new p (inclusion_of top (at_most 1 role top))) }
         ensures kept { Extends self.old self.new }
     {
         let any = self.top();
@@ -164,7 +161,7 @@ impl Concepts {
     ) -> Result<Part, NoMemory>
         requires left_counts { IsTrue (has_counts_within 100 left.now) }
         requires right_counts { IsTrue (has_counts_within 100 right.now) }
-        ensures part { IfOk result (λ p. IsPart self.new p (plain_inclusion (conjuncts_in (normal_form left.now)) (signed_form negated right.now))) }
+        ensures part { IfOk result (λ p. StandsForPart self.new p (signed_inclusion left.now negated right.now)) }
         ensures kept { Extends self.old self.new }
     {
         let first = self.form(left, false)?;
@@ -176,7 +173,7 @@ impl Concepts {
     fn inclusion(&self, left: u32, right: u32) -> Result<Part, NoMemory>
         requires left_listed { left < length self.now }
         requires right_listed { right < length self.now }
-        ensures { IfOk result (λ p. IsPart self.now p (plain_inclusion (conjuncts_in (tree_of self.now left)) (tree_of self.now right))) }
+        ensures { IfOk result (λ p. StandsForPart self.now p (inclusion_at self.now left right)) }
     {
         let conjuncts = self.conjunct_list(left)?;
         Ok(Part::Inclusion(conjuncts, right))
@@ -218,7 +215,7 @@ fn next_place(place: usize, len: usize) -> usize
 fn pair_at(classes: &[Concept], place: usize) -> (&Concept, &Concept)
     requires listed { place < length (disjoint_parts classes.now) }
     requires counts { IsTrue (have_counts_within 100 (parts_of classes.now)) }
-    ensures pair { apart result.0.now result.1.now ≡ part_in (disjoint_parts classes.now) place }
+    ensures pair { disjoint_pair result.0.now result.1.now ≡ part_in (disjoint_parts classes.now) place }
     ensures first_counts { IsTrue (has_counts_within 100 result.0.now) }
     ensures second_counts { IsTrue (has_counts_within 100 result.1.now) }
 {

@@ -1,7 +1,7 @@
 use Rattle.std.proofs.Common.{◌+◌, ap, arith, ◌∙◌}
 use Rattle.shq_nnf.specs.Counts.{has_counts_within}
 use Rattle.shq_nnf.proofs.Bounded.{counts_at}
-use Rattle.shq_nnf.proofs.Pairs.{pair_behind, pairs_behind}
+use Rattle.shq_nnf.proofs.Pairs.{pair_after, pairs_after}
 use Rattle.shq_nnf.proofs.parts.pair_at.Goals as goal
 
 pub returns-then-rest-later-clause-first_counts : goal.returns-then-rest-later-clause-first_counts
@@ -14,6 +14,6 @@ returns-then-rest-later-clause-second_counts c =
 
 pub loop-first-preserved : goal.loop-first-preserved
 loop-first-preserved c = record {
-  listed = pairs_behind c.args.classes.now c.loop-first.first c.loop-first.rest c.loop-first-test.true c.if-rest-later.false c.loop-first.invariant.listed;
-  same = pair_behind c.args.classes.now c.loop-first.first c.loop-first.rest c.loop-first-test.true c.if-rest-later.false ∙ c.loop-first.invariant.same;
+  listed = pairs_after c.args.classes.now c.loop-first.first c.loop-first.rest c.loop-first-test.true c.if-rest-later.false c.loop-first.invariant.listed;
+  same = pair_after c.args.classes.now c.loop-first.first c.loop-first.rest c.loop-first-test.true c.if-rest-later.false ∙ c.loop-first.invariant.same;
 }

@@ -2,7 +2,7 @@ use Rattle.std.proofs.Common.{ℕ, Option, sym, subst}
 use Rattle.std.proofs.lemmas.Result.{IfOk-weaker}
 use Rattle.shape_specs.specs.Rows.{part_at}
 use Rattle.refutation_specs.specs.Line.Line.{row_line}
-use Rattle.refutation_rules.specs.Frame.{theory, AddsIf}
+use Rattle.refutation_rules.specs.RefutationContext.{theory, LineAdds}
 use Rattle.refutation_rules.proofs.Rows.{row_adds}
 use Rattle.refutation_rules.proofs.Children.{added}
 use Rattle.refutation_rules.proofs.Reading.{branch_stays}
@@ -16,5 +16,5 @@ returns-clause-outcome c =
     let line = row_line a.node a.axiom a.part a.positions.now in
     let listed = (branch_stays a.self.now.table g.table k c.inclusion_row.ensures.kept c.requires).listed in
     let adds = row_adds g.table c.inclusion_row.ensures.table k listed a.node (part_at (theory g) a.axiom a.part) a.positions.now c.in_ok-row.row c.in_ok-row.ensures.row in
-    let found = subst (λ (n : Option ℕ). AddsIf g k line a.node n) (sym c.used-concept.ensures) adds in
+    let found = subst (λ (n : Option ℕ). LineAdds g k line a.node n) (sym c.used-concept.ensures) adds in
     IfOk-weaker c.one_more.result _ _ (λ o is. added g k line a.node c.used-concept.result o found is) c.one_more.ensures

@@ -1,4 +1,4 @@
-use Rattle.row_cache.proofs.Kept.{table_stays}
+use Rattle.row_cache.proofs.Cache.{table_stays}
 use Rattle.row_cache.proofs.row_cache.RowCache.made_row.Goals as goal
 
 pub invariant_of-self : goal.invariant_of-self

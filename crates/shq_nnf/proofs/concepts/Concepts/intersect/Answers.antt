@@ -8,8 +8,8 @@ use Rattle.shq_nnf.proofs.concepts.Concepts.intersect.Goals as goal
 pub returns-then-any_bottom-clause-number : goal.returns-then-any_bottom-clause-number
 returns-then-any_bottom-clause-number c =
     let t = c.args.self.now in
-    subst (λ (k : Concept). IfOk c.add.result (λ n. IsNumber c.add.new.self n k))
-    (intersection_with_bottom t c.len-count.ensures.table c.args.members.now c.requires.listed (sym c.any_bottom.ensures ∙ c.if-any_bottom.true)) c.add.ensures.number
+    subst (λ (k : Concept). IfOk c.put.result (λ n. IsNumber c.put.new.self n k))
+    (intersection_with_bottom t c.len-count.ensures.table c.args.members.now c.requires.listed (sym c.any_bottom.ensures ∙ c.if-any_bottom.true)) c.put.ensures.number
 
 pub returns-in-empty-clause-number : goal.returns-in-empty-clause-number
 returns-in-empty-clause-number c =
@@ -28,14 +28,14 @@ returns-in-len1-clause-number c =
       stands_for = sym (intersection_of_one t good c.args.members.now c.in-len1.len_at_least c.in-len1.len_below) ∙ intersection_without t good c.args.members.now c.requires.listed (sym c.any_bottom.ensures ∙ c.if-any_bottom.false);
     }
 
-pub add-requires-in_default-clause-normal : goal.add-requires-in_default-clause-normal
-add-requires-in_default-clause-normal c =
+pub put-requires-in_default-clause-normal : goal.put-requires-in_default-clause-normal
+put-requires-in_default-clause-normal c =
     intersection_is_normal c.args.self.now c.len-count.ensures.table c.args.members.now c.requires.listed c.requires.opened (sym c.any_bottom.ensures ∙ c.if-any_bottom.false) c.in_default.len_at_least
 
 pub returns-in_default-clause-number : goal.returns-in_default-clause-number
 returns-in_default-clause-number c =
     let t = c.args.self.now in
     let good = c.len-count.ensures.table in
-    subst (λ (k : Concept). IfOk c.add-in_default.result (λ n. IsNumber c.add-in_default.new.self n k))
+    subst (λ (k : Concept). IfOk c.put-in_default.result (λ n. IsNumber c.put-in_default.new.self n k))
     (intersection_of_many t good c.args.members.now c.in_default.len_at_least ∙ intersection_without t good c.args.members.now c.requires.listed (sym c.any_bottom.ensures ∙ c.if-any_bottom.false))
-    c.add-in_default.ensures.number
+    c.put-in_default.ensures.number

@@ -17,9 +17,9 @@ pub returns-in-empty-clause-number : goal.returns-in-empty-clause-number
 returns-in-empty-clause-number c =
     let t = c.args.self.now in
     let good = c.len-count.ensures.table in
-    subst (λ (k : Concept). IfOk c.add.result (λ n. IsNumber c.add.new.self n k))
+    subst (λ (k : Concept). IfOk c.put.result (λ n. IsNumber c.put.new.self n k))
     (sym (union_of_none t good c.args.members.now c.in-empty.len_below) ∙ union_without t good c.args.members.now c.requires.listed (sym c.any_top.ensures ∙ c.if-any_top.false))
-    c.add.ensures.number
+    c.put.ensures.number
 
 pub returns-in-len1-clause-number : goal.returns-in-len1-clause-number
 returns-in-len1-clause-number c =
@@ -30,14 +30,14 @@ returns-in-len1-clause-number c =
       stands_for = sym (union_of_one t good c.args.members.now c.in-len1.len_at_least c.in-len1.len_below) ∙ union_without t good c.args.members.now c.requires.listed (sym c.any_top.ensures ∙ c.if-any_top.false);
     }
 
-pub add-requires-in_default-clause-normal : goal.add-requires-in_default-clause-normal
-add-requires-in_default-clause-normal c =
+pub put-requires-in_default-clause-normal : goal.put-requires-in_default-clause-normal
+put-requires-in_default-clause-normal c =
     union_is_normal c.args.self.now c.len-count.ensures.table c.args.members.now c.requires.listed c.requires.opened (sym c.any_top.ensures ∙ c.if-any_top.false) c.in_default.len_at_least
 
 pub returns-in_default-clause-number : goal.returns-in_default-clause-number
 returns-in_default-clause-number c =
     let t = c.args.self.now in
     let good = c.len-count.ensures.table in
-    subst (λ (k : Concept). IfOk c.add-in_default.result (λ n. IsNumber c.add-in_default.new.self n k))
+    subst (λ (k : Concept). IfOk c.put-in_default.result (λ n. IsNumber c.put-in_default.new.self n k))
     (union_of_many t good c.args.members.now c.in_default.len_at_least ∙ union_without t good c.args.members.now c.requires.listed (sym c.any_top.ensures ∙ c.if-any_top.false))
-    c.add-in_default.ensures.number
+    c.put-in_default.ensures.number

@@ -1,0 +1,11 @@
+-- What a branch knows: nodes, and facts on them over concepts by number.
+use Rattle.std.specs.Prelude.{ℕ, ◌==◌, Bool, List}
+use Rattle.std.specs.List.{list_any}
+use Rattle.fact_specs.specs.declared.Fact.{Fact}
+
+pub record NumberedBranch : Type 0 where
+  pub nodes : List ℕ
+  pub facts : List (Fact ℕ)
+
+abbrev pub has_node : NumberedBranch → ℕ → Bool
+has_node k x = list_any (λ y. y == x) k.nodes

@@ -1,6 +1,0 @@
-use Rattle.std.proofs.Common.{◌≡◌, ◌-◌, drop}
-use Rattle.shape_specs.specs.Rows.{is_ascending}
-use Rattle.row_cache.proofs.rows.is_ascending.Given as goal
-
-abbrev pub invariant-loop-index : goal.invariant-loop-index
-invariant-loop-index l = is_ascending (drop (l.index - 1) l.positions) ≡ is_ascending l.positions

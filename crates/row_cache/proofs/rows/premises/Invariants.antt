@@ -1,6 +1,0 @@
-use Rattle.std.proofs.Common.{◌≡◌, map, take}
-use Rattle.row_cache.specs.Rows.{number_at}
-use Rattle.row_cache.proofs.rows.premises.Given as goal
-
-abbrev pub invariant-loop-position : goal.invariant-loop-position
-invariant-loop-position l = l.numbers ≡ map (number_at l.conjuncts) (take l.position-index l.positions)
