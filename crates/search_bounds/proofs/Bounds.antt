@@ -50,8 +50,8 @@ use Rattle.search_bounds.proofs.Asked.{is_met}
 use Rattle.search_bounds.proofs.Children.{born}
 use Rattle.search_bounds.proofs.Computed.{closure_is_computed}
 use Rattle.search_bounds.specs.ComputedClosure.{transitive_roles, closure_of}
-use Rattle.role_box.specs.declared.axioms.RoleAxiom.{RoleAxiom}
-use Rattle.role_box.specs.declared.axioms.RoleAxiom.TheVariants.{Inclusion, Equivalence, Transitivity}
+use Rattle.role_box.specs.declared.role_axiom.RoleAxiom.{RoleAxiom}
+use Rattle.role_box.specs.declared.role_axiom.RoleAxiom.TheVariants.{Inclusion, Equivalence, Transitivity}
 use Rattle.role_box.specs.RoleAxioms.{role_axioms}
 use Rattle.role_box.specs.Steps.{is_transitive}
 use Rattle.refutation_truth.specs.Theory.{theory_of}

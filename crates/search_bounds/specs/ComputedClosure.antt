@@ -9,8 +9,8 @@ use Rattle.shape_specs.specs.Rows.Part.{inclusion, range}
 use Rattle.shape_specs.specs.Depth.{role_depth}
 use Rattle.shq_terms.specs.declared.axioms.Numbered.{Numbered}
 use Rattle.shq_terms.specs.declared.axioms.Query.{Query}
-use Rattle.role_box.specs.declared.axioms.RoleAxiom.{RoleAxiom}
-use Rattle.role_box.specs.declared.axioms.RoleAxiom.TheVariants.{Inclusion, Equivalence, Transitivity}
+use Rattle.role_box.specs.declared.role_axiom.RoleAxiom.{RoleAxiom}
+use Rattle.role_box.specs.declared.role_axiom.RoleAxiom.TheVariants.{Inclusion, Equivalence, Transitivity}
 use Rattle.role_box.specs.RoleAxioms.{role_axioms}
 use Rattle.refutation_truth.specs.Theory.{theory_of}
 use Rattle.search_bounds.specs.Closure.{IsClosure}
