@@ -6,9 +6,9 @@ use Rattle.certificate_lines.specs.Lines.{lines, is_blank}
 use Rattle.certificate_lines.specs.Malformed.{clamped_line}
 use Rattle.shq_terms.specs.Listed.{Listed}
 use Rattle.finite_model.specs.ModelText.{model_of}
-use Rattle.finite_model.specs.Malformed as model
+use Rattle.finite_model.specs.Malformed.{malformed_model_line}
 use Rattle.refutation_tree.specs.RefutationText.{refutation_of}
-use Rattle.refutation_tree.specs.Malformed as refutation
+use Rattle.refutation_tree.specs.Malformed.{malformed_refutation_line}
 use Rattle.refutation_tree.specs.ReadBack.{IsWritable}
 use Rattle.ontology_jobs.specs.declared.certificate.Certificate.{Certificate}
 use Rattle.ontology_jobs.specs.declared.certificate.Certificate.TheVariants.{Model, Refutation}
@@ -35,10 +35,10 @@ or_no_line (Some n) = n
 -- What lines after a verdict are: the text of a model, or that of a refutation; or none, with the number of the first
 -- malformed line. Lines of which none is malformed are a text.
 abbrev pub model_after : Listed → List (List ℕ) → Result Certificate ℕ
-model_after o ls = elim (model_of o ls) [ None ↦ Err (or_no_line (option_map clamped_line (model.first_malformed o ls))) | Some k ↦ Ok (Model k) ]
+model_after o ls = elim (model_of o ls) [ None ↦ Err (or_no_line (option_map clamped_line (malformed_model_line o ls))) | Some k ↦ Ok (Model k) ]
 
 abbrev pub refutation_after : Listed → List (List ℕ) → Result Certificate ℕ
-refutation_after o ls = elim (refutation_of o ls) [ None ↦ Err (or_no_line (option_map clamped_line (refutation.first_malformed o ls))) | Some k ↦ Ok (Refutation k) ]
+refutation_after o ls = elim (refutation_of o ls) [ None ↦ Err (or_no_line (option_map clamped_line (malformed_refutation_line o ls))) | Some k ↦ Ok (Refutation k) ]
 
 -- What lines are that begin with a verdict: a certificate, or none, with the number of the first malformed line, from 1.
 abbrev pub certificate_in : Listed → List (List ℕ) → Result Certificate ℕ
