@@ -11,7 +11,8 @@ use Rattle.finite_model.specs.ModelLists.{meaning}
 use Rattle.refutation_truth.proofs.Entailed.{entailed_by_all}
 use Rattle.ontology_jobs.specs.Words.{check}
 use Rattle.ontology_jobs.specs.Certificates.{certificate}
-use Rattle.ontology_jobs.specs.Checking.{with_names, IsVerdictOn, first_unmet, Reply, judged, refused_document, refused_query, malformed_line, Shows, IsReply, no_document, no_query, shown}
+use Rattle.read_limits.specs.Laws.{with_names}
+use Rattle.ontology_jobs.specs.Checking.{IsVerdictOn, first_unmet, Reply, judged, refused_document, refused_query, malformed_line, Shows, IsReply, no_document, no_query, shown}
 use Rattle.ontology_jobs.specs.Complaints.{Complaint, sort_status, complaint}
 use Rattle.ontology_jobs.specs.Answers.{line, Answer, complaint_answer, reply_answer, AnswersJob}
 use Rattle.ontology_jobs.specs.Laws.{HaveRead}

@@ -19,7 +19,8 @@ use Rattle.ofn_reader.proofs.OneReason.{document_refusals, query_refusals}
 use Rattle.ofn_reader.proofs.Unique.{documents, documents_not_refused, queries, queries_not_refused}
 use Rattle.ontology_jobs.specs.Words.{Job, check, job_of}
 use Rattle.ontology_jobs.specs.Certificates.{certificate}
-use Rattle.ontology_jobs.specs.Checking.{with_names, IsAsked, IsNotAsked, IsOfModel, IsOfRefutation, IsVerdictOn, line_of_place, Reply, judged, refused_document, refused_query, malformed_line, Shows, IsReply, no_document, no_query, shown}
+use Rattle.read_limits.specs.Laws.{with_names}
+use Rattle.ontology_jobs.specs.Checking.{IsAsked, IsNotAsked, IsOfModel, IsOfRefutation, IsVerdictOn, line_of_place, Reply, judged, refused_document, refused_query, malformed_line, Shows, IsReply, no_document, no_query, shown}
 use Rattle.ontology_jobs.specs.Answers.{line, Answer, verdict_answer, reply_answer, AnswersJob, Answers}
 use Rattle.ontology_jobs.specs.Laws.{IsDecided}
 use Rattle.ontology_jobs.specs.declared.certificate.Certificate.{Certificate}

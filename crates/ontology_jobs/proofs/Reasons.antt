@@ -8,7 +8,8 @@ use Rattle.ofn_expressions.specs.Counts.{Counts}
 use Rattle.ofn_reader.specs.DocumentContext.{DocumentContext}
 use Rattle.ofn_reader.specs.Documents.{IsDocument}
 use Rattle.ontology_jobs.specs.Certificates.{certificate, IsUnreadBy}
-use Rattle.ontology_jobs.specs.Checking.{with_names, IsAsked, IsInput, IsVerdict, IsVerdictOn, judged, malformed_line, Shows, IsReply, no_document, no_query, shown, IsUndocumented, IsUnasked, IsUnclaimed, IsUnread}
+use Rattle.read_limits.specs.Laws.{with_names}
+use Rattle.ontology_jobs.specs.Checking.{IsAsked, IsInput, IsVerdict, IsVerdictOn, judged, malformed_line, Shows, IsReply, no_document, no_query, shown, IsUndocumented, IsUnasked, IsUnclaimed, IsUnread}
 use Rattle.ontology_jobs.specs.declared.checking.Input.{Input}
 use Rattle.ontology_jobs.specs.declared.judging.Verdict.{Verdict}
 use Rattle.ontology_jobs.specs.declared.unread.Unread.{Unread}

@@ -1,12 +1,11 @@
 -- What is verified, and what the verification says.
-use Rattle.std.specs.Prelude.{◌≡◌, ℕ, ◌+◌, IsTrue, List, [], ◌∷◌, length, Option, Some, None, Result, Ok, Err, drop, if◌then◌else◌}
+use Rattle.std.specs.Prelude.{◌≡◌, ℕ, ◌+◌, List, [], ◌∷◌, length, Option, Some, None, Result, Ok, Err, drop, if◌then◌else◌}
 use Rattle.shq_terms.specs.Listed.{Listed}
 use Rattle.shq_terms.specs.declared.axioms.Numbered.{Numbered}
 use Rattle.shq_terms.specs.declared.axioms.Query.{Query as Asked}
 use Rattle.shq_meaning.specs.Truth.{Interpretation, meets, refutes_at}
 use Rattle.shq_meaning.specs.Least.{IsFirstBelow}
-use Rattle.shq_nnf.specs.Counts.{has_counts_within}
-use Rattle.row_cache.specs.Rows.{AreInLimit}
+use Rattle.ontology_limits.specs.Limits.{IsInLimit}
 use Rattle.finite_model.specs.ModelLists.{ModelLists as Model, meaning}
 use Rattle.refutation_specs.specs.Valid.{concept_at, IsBrokenAt, IsRefutation}
 use Rattle.refutation_tree.specs.RefutationLists.{RefutationLists as Refutation}
@@ -18,6 +17,7 @@ use Rattle.ofn_expressions.specs.declared.refusal.Refusal.{Refusal}
 use Rattle.ofn_reader.specs.DocumentContext.{DocumentContext}
 use Rattle.ofn_reader.specs.Documents.{IsDocument, IsNoDocument}
 use Rattle.ofn_reader.specs.Queries.{IsQuery, IsNoQuery, query_start}
+use Rattle.read_limits.specs.Laws.{with_names}
 use Rattle.ontology_jobs.specs.Certificates.{certificate, Fits}
 use Rattle.ontology_jobs.specs.declared.certificate.Certificate.{Certificate}
 use Rattle.ontology_jobs.specs.declared.certificate.Certificate.TheVariants as C
@@ -27,10 +27,6 @@ use Rattle.ontology_jobs.specs.declared.judging.Verdict.{Verdict}
 use Rattle.ontology_jobs.specs.declared.judging.Verdict.TheVariants.{NotEntailed, Entailed, Axiom, Query, Line}
 use Rattle.ontology_jobs.specs.declared.unread.Unread.{Unread}
 use Rattle.ontology_jobs.specs.declared.unread.Unread.TheVariants as U
-
--- the names that a document and a query on it list together
-abbrev pub with_names : Listed → Counts → Listed
-with_names o counts = record o { classes = counts.classes; roles = counts.roles }
 
 -- the text is this query on a document, and they list these counts together
 abbrev pub IsAsked : Listed → DocumentContext → List ℕ → Counts → Asked → Type 0
@@ -59,11 +55,9 @@ pub record IsInput (query bytes : List ℕ) (input : Input) : Type 0 where
   pub is_document : IsDocument bytes document kept end
   pub is_claim : IsClaim document kept query (drop end bytes) input.ontology (record { asked = input.asked; certificate = input.certificate })
 
--- cardinalities, parts of axioms and lines are few enough to be verified
-pub record IsInLimit (input : Input) : Type 0 where
-  pub axioms : AreInLimit input.ontology.axioms
-  pub sub : IsTrue (has_counts_within 100 input.asked.sub)
-  pub sup : IsTrue (has_counts_within 100 input.asked.sup)
+-- ontology and query are in limit, and the certificate fits them
+pub record CanBeJudged (input : Input) : Type 0 where
+  pub within : IsInLimit input.ontology input.asked
   pub fits : Fits input.ontology input.certificate
 
 -- the number of the first axiom that is not met, where the first of the list has the number k

@@ -3,7 +3,7 @@ ghost use Rattle.std.specs.Prelude.{◌≡◌, ◌≤◌, IfOk, IfErr, length};
 ghost use Rattle.std.specs.Result.{result_map_both};
 ghost use Rattle.ofn_reader.specs.Documents.{IsDocument};
 ghost use Rattle.ontology_jobs.specs.Certificates.{Fits};
-ghost use Rattle.ontology_jobs.specs.Checking.{IsInput, IsInLimit, IsUnread, IsClaim, IsUnclaimed, IsUnasked, IsUndocumented, IsReadQuery, input_with};
+ghost use Rattle.ontology_jobs.specs.Checking.{IsInput, CanBeJudged, IsUnread, IsClaim, IsUnclaimed, IsUnasked, IsUndocumented, IsReadQuery, input_with};
 
 use crate::certificate::{Certificate, read_certificate};
 use crate::unread::Unread;
@@ -23,7 +23,7 @@ pub(crate) struct Input {
 pub(crate) fn read_input(alloc: Global, query: &str, bytes: &[u8]) -> Result<Input, Unread>
     requires { length bytes.now ≤ 4294967293 }
     ensures input { IfOk result (IsInput query.now bytes.now) }
-    ensures within { IfOk result IsInLimit }
+    ensures within { IfOk result CanBeJudged }
     ensures unread { IfErr result (IsUnread query.now bytes.now) }
 {
     let (mut ontology, context, end) = document(alloc, bytes)?;

@@ -1,10 +1,8 @@
 // The verdict on a certificate.
-ghost use Rattle.std.specs.Prelude.{◌≡◌, ◌≤◌, IsTrue, IfOk, length};
-ghost use Rattle.shq_nnf.specs.Counts.{has_counts_within};
-ghost use Rattle.row_cache.specs.Rows.{AreInLimit};
+ghost use Rattle.std.specs.Prelude.{◌≡◌, ◌≤◌, IfOk, length};
+ghost use Rattle.ontology_limits.specs.Limits.{IsInLimit};
 ghost use Rattle.finite_model.specs.ModelLists.{meaning};
-ghost use Rattle.refutation_tree.specs.ReadBack.{IsWritable};
-ghost use Rattle.ontology_jobs.specs.Checking.{IsInLimit, IsVerdict, IsOfModel, IsOfRefutation, first_unmet, line_of_place, verdict_of};
+ghost use Rattle.ontology_jobs.specs.Checking.{CanBeJudged, IsVerdict, IsOfModel, IsOfRefutation, first_unmet, line_of_place, verdict_of};
 
 use crate::certificate::Certificate;
 use crate::checking::Input;
@@ -37,7 +35,7 @@ pub(crate) enum Verdict {
 ///
 /// Out of memory.
 pub(crate) fn judge(alloc: Global, input: &Input) -> Result<Verdict, NoMemory>
-    requires { IsInLimit input.now }
+    requires { CanBeJudged input.now }
     ensures { IfOk result (IsVerdict input.now) }
 {
     match &input.certificate {
@@ -79,10 +77,7 @@ fn judge_refutation(
     ontology: &Ontology,
     asked: &Query,
 ) -> Result<Verdict, NoMemory>
-    requires axioms { AreInLimit ontology.now.axioms }
-    requires sub { IsTrue (has_counts_within 100 asked.now.sub) }
-    requires sup { IsTrue (has_counts_within 100 asked.now.sup) }
-    requires writable { IsWritable ontology.now refutation.now }
+    requires within { IsInLimit ontology.now asked.now }
     requires lines { length refutation.now.lines ≤ 4294967293 }
     ensures { IfOk result (IsOfRefutation ontology.now asked.now refutation.now) }
 {
