@@ -1,6 +1,7 @@
 // The verdict on a certificate.
 ghost use Rattle.std.specs.Prelude.{◌≡◌, ◌≤◌, IfOk, length};
 ghost use Rattle.ontology_limits.specs.Limits.{IsInLimit};
+ghost use Rattle.refutation_tree.specs.ReadBack.{IsWritable};
 ghost use Rattle.finite_model.specs.ModelLists.{meaning};
 ghost use Rattle.ontology_jobs.specs.Checking.{CanBeJudged, IsVerdict, IsOfModel, IsOfRefutation, first_unmet, line_of_place, verdict_of};
 
@@ -78,6 +79,7 @@ fn judge_refutation(
     asked: &Query,
 ) -> Result<Verdict, NoMemory>
     requires within { IsInLimit ontology.now asked.now }
+    requires writable { IsWritable ontology.now refutation.now }
     requires lines { length refutation.now.lines ≤ 4294967293 }
     ensures { IfOk result (IsOfRefutation ontology.now asked.now refutation.now) }
 {
