@@ -5,3 +5,5 @@
 mod role_tests;
 #[cfg(test)]
 mod simple_tests;
+#[cfg(test)]
+mod small_ontologies;

@@ -1,54 +1,20 @@
 // Tests of roles over a small ontology.
 
+use crate::small_ontologies::{add_equivalence, add_inclusions, add_roles, add_transitive};
 use role_box::{NoMemory, RoleBox};
-use shq_terms::{AddFault, Axiom, NumberList, Ontology};
+use shq_terms::{AddFault, Ontology};
 use std::alloc::Global;
+use std::process::Abort;
 use std::test::Fail;
-
-fn add_inclusion(ontology: &mut Ontology, lower: u32, upper: u32) -> Result<(), AddFault> {
-    if lower < ontology.role_count() && upper < ontology.role_count() {
-        ontology.add_axiom(Axiom::SubRole(lower, upper), 1)?;
-    }
-    Ok(())
-}
-
-fn add_equivalence(
-    ontology: &mut Ontology,
-    alloc: Global,
-    one: u32,
-    other: u32,
-) -> Result<(), AddFault> {
-    let mut roles = NumberList::new(alloc);
-    roles.push(one)?;
-    roles.push(other)?;
-    if one < ontology.role_count() && other < ontology.role_count() {
-        ontology.add_axiom(Axiom::EquivalentRoles(roles), 1)?;
-    }
-    Ok(())
-}
-
-fn add_transitive(ontology: &mut Ontology, role: u32) -> Result<(), AddFault> {
-    if role < ontology.role_count() {
-        ontology.add_axiom(Axiom::Transitive(role), 1)?;
-    }
-    Ok(())
-}
 
 // Eight roles. The axioms 1 and 2 lead from 0 by 1 to 2, 3 and 4 are a cycle, 5 makes 2 and 3 equivalent, and 6 and 7 make
 // 1 and 3 transitive.
-fn made_ontology(alloc: Global) -> Result<Ontology, AddFault> {
-    let mut ontology = Ontology::new(alloc);
-    for iri in ["a", "b", "c", "d", "e", "f", "g", "h"] {
-        ontology.add_role(iri)?;
-    }
-    for (lower, upper) in [(0, 1), (1, 2), (4, 5), (5, 4)] {
-        add_inclusion(&mut ontology, lower, upper)?;
-    }
-    add_equivalence(&mut ontology, alloc, 2, 3)?;
-    for role in [1, 3] {
-        add_transitive(&mut ontology, role)?;
-    }
-    Ok(ontology)
+fn fill(alloc: Global, ontology: &mut Ontology) -> Result<(), AddFault> {
+    add_roles(ontology, &["a", "b", "c", "d", "e", "f", "g", "h"])?;
+    add_inclusions(ontology, &[(0, 1), (1, 2), (4, 5), (5, 4)])?;
+    add_equivalence(ontology, alloc, 2, 3)?;
+    add_transitive(ontology, 1)?;
+    add_transitive(ontology, 3)
 }
 
 fn made_box(alloc: Global, ontology: &Ontology, only: &[u32]) -> Result<RoleBox, NoMemory> {
@@ -60,11 +26,7 @@ fn made_box(alloc: Global, ontology: &Ontology, only: &[u32]) -> Result<RoleBox,
     }
 }
 
-#[test]
-fn finds_chains(rt: HostRuntime) -> Result<(), Fail> {
-    let ontology = made_ontology(rt.alloc())?;
-    let all = made_box(rt.alloc(), &ontology, &[1, 2, 3, 4, 5, 6, 7])?;
-    let some = made_box(rt.alloc(), &ontology, &[1, 3, 5])?;
+fn assert_chains(rt: &impl Abort, all: &RoleBox, some: &RoleBox) {
     for (lower, upper, by_all, by_some) in [
         (0, 0, true, true),
         (0, 3, true, false),
@@ -79,13 +41,9 @@ fn finds_chains(rt: HostRuntime) -> Result<(), Fail> {
         assert_eq!(rt; all.below(lower, upper), by_all);
         assert_eq!(rt; some.below(lower, upper), by_some);
     }
-    Ok(())
 }
 
-#[test]
-fn finds_transitive_roles(rt: HostRuntime) -> Result<(), Fail> {
-    let ontology = made_ontology(rt.alloc())?;
-    let all = made_box(rt.alloc(), &ontology, &[1, 2, 3, 4, 5, 6, 7])?;
+fn assert_transitive_roles(rt: &impl Abort, all: &RoleBox) {
     assert_eq!(rt; all.role_bound(), 8);
     for (role, simple, transitive) in [
         (0, true, false),
@@ -102,5 +60,15 @@ fn finds_transitive_roles(rt: HostRuntime) -> Result<(), Fail> {
     for wanted in [Some(1), Some(3), None] {
         assert_eq!(rt; between.next(), wanted);
     }
+}
+
+#[test]
+fn answers_of_two_boxes(rt: HostRuntime) -> Result<(), Fail> {
+    let mut ontology = Ontology::new(rt.alloc());
+    fill(rt.alloc(), &mut ontology)?;
+    let all = made_box(rt.alloc(), &ontology, &[1, 2, 3, 4, 5, 6, 7])?;
+    let some = made_box(rt.alloc(), &ontology, &[1, 3, 5])?;
+    assert_chains(&rt, &all, &some);
+    assert_transitive_roles(&rt, &all);
     Ok(())
 }
