@@ -1,6 +1,8 @@
 // Lines, words and numbers as they are written in certificates.
 
-use certificate_lines::{LineFault, first_unblank, iri, is_blank, lines, number, clamped_line, words};
+use certificate_lines::{
+    LineFault, clamped_line, first_unblank, iri, is_blank, lines, number, words,
+};
 use std::test::Fail;
 
 #[test]

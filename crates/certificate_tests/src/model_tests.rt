@@ -2,8 +2,8 @@
 
 ghost use Rattle.std.specs.Prelude.{◌≤◌};
 
-use finite_model::{Interp, ModelFault, read_text};
 use certificate_lines::lines;
+use finite_model::{Interp, ModelFault, read_text};
 use shq_terms::{Axiom, Concept, Node, Ontology, Query};
 use std::alloc::Global;
 use std::test::Fail;

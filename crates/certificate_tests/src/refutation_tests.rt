@@ -3,8 +3,8 @@
 ghost use Rattle.std.specs.Prelude.{◌≡◌};
 ghost use Rattle.shq_base.specs.Concept.{top};
 
-use refutation_tree::{CertFault, Line, Refutation, read_text};
 use certificate_lines::lines;
+use refutation_tree::{CertFault, Line, Refutation, read_text};
 use shq_nnf::Shape;
 use shq_terms::{Axiom, Concept, Node, Ontology};
 use std::alloc::Global;

@@ -6,8 +6,8 @@ ghost use Rattle.shq_terms.specs.declared.axioms.Axiom.TheVariants.{SubClassOf a
 ghost use Rattle.ontology_limits.specs.Limits.{IsInLimit};
 ghost use Rattle.refutation_tests.specs.Ontologies.{numbered, chain, one_successor, HasAxioms};
 
-use refutation_check::{NoMemory, Verdict, check};
 use axiom_sets::AxiomSet;
+use refutation_check::{NoMemory, Verdict, check};
 use refutation_tree::read_text;
 use shq_terms::{Axiom, Concept, ConceptList, Node, Ontology, Query};
 use std::alloc::Global;

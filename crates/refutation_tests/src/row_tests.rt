@@ -6,8 +6,8 @@ ghost use Rattle.shq_nnf.specs.Parts.{axiom_parts, axiom_has_counts_within};
 ghost use Rattle.axiom_sets.specs.Sets.{IsWithin};
 ghost use Rattle.row_cache.specs.Rows.{AreInLimit};
 
-use row_cache::{NoMemory, CachedRange, CachedRow, RowCache};
 use axiom_sets::AxiomSet;
+use row_cache::{CachedRange, CachedRow, NoMemory, RowCache};
 use shq_nnf::{Concepts, Shape};
 use shq_terms::{Axiom, Concept, ConceptList, Node, Ontology};
 use std::alloc::Global;
@@ -164,7 +164,11 @@ fn is_wanted(concepts: &Concepts, row: &CachedRow, premises: &[u32], shape: Shap
 }
 
 // Whether the row is as it should be, or there is none where none should be.
-fn is_right(concepts: &Concepts, row: &Option<CachedRow>, wanted: Option<(&[u32], Shape<'_>)>) -> bool {
+fn is_right(
+    concepts: &Concepts,
+    row: &Option<CachedRow>,
+    wanted: Option<(&[u32], Shape<'_>)>,
+) -> bool {
     match (row, wanted) {
         (Some(row), Some((premises, shape))) => is_wanted(concepts, row, premises, shape),
         (None, None) => true,

@@ -9,9 +9,9 @@ ghost use Rattle.row_cache.specs.Rows.{AreInLimit};
 ghost use Rattle.fact_specs.specs.Reading.{is_fact_listed};
 ghost use Rattle.refutation_rules.specs.Outcomes.{IsBranch};
 
-use refutation_rules::{NewNodes, NoMemory, Outcome, Rules};
 use branch_facts::BranchFacts;
 use fact_specs::Fact;
+use refutation_rules::{NewNodes, NoMemory, Outcome, Rules};
 use refutation_tree::{Refutation, read_text};
 use shq_terms::{Axiom, Concept, Node, Ontology, Query};
 use std::alloc::Global;

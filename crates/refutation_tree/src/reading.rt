@@ -15,7 +15,7 @@ use crate::fields::read_numbers;
 use crate::rule_lines::read_rule_line;
 use crate::{CertFault, Line, NoMemory, Refutation};
 use axiom_sets::AxiomSet;
-use certificate_lines::{first_unblank, clamped_line, words};
+use certificate_lines::{clamped_line, first_unblank, words};
 use shq_nnf::OwnedShape;
 use shq_terms::Ontology;
 use std::alloc::Global;

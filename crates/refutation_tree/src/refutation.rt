@@ -119,7 +119,9 @@ impl Refutation {
             OwnedShape::And(parts) | OwnedShape::Or(parts) => {
                 parts.iter().all(|part| self.has_concept(*part))
             }
-            OwnedShape::SomeOf(_, filler) | OwnedShape::AllOf(_, filler) => self.has_concept(*filler),
+            OwnedShape::SomeOf(_, filler) | OwnedShape::AllOf(_, filler) => self.has_concept(
+                *filler,
+            ),
             OwnedShape::Min(_, _, filler) | OwnedShape::Max(_, _, filler) => {
                 self.has_concept(*filler)
             }

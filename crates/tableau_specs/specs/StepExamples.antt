@@ -164,8 +164,8 @@ pub generates_two : IsLegal context (start 7 7) (start 7 7 ++ says (fresh_facts 
 generates_two =
     generate (fresh_facts 0 7 1 1 2) (no_plain (start 7 7) refl refl)
     (by_least 0 7 2 7 1 (record { is_node = lit< tt; is_rep = refl; is_clear = refl }) refl refl (λ y.
-        let fs = facts_of (start 7 7) in
-        no_run (nat_lt y 1) (has fs y 1) (list_all (is_filled_successor (below_of context) fs 0 7 1) (range_with_len (y + 1) 1)) (all_apart fs (range_with_len y 2))))
+    let fs = facts_of (start 7 7) in
+    no_run (nat_lt y 1) (has fs y 1) (list_all (is_filled_successor (below_of context) fs 0 7 1) (range_with_len (y + 1) 1)) (all_apart fs (range_with_len y 2))))
 
 -- node 1 is 'some of role 7 in 1' of node 0, nodes 2 and 3 are 'at least 2', and node 2 has been joined to node 1
 abbrev joined : List (Fact ℕ)
