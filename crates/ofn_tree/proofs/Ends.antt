@@ -11,7 +11,7 @@ use Rattle.ofn_tree.specs.declared.lexer.Latest.{Latest}
 use Rattle.ofn_tree.specs.declared.lexer.Latest.TheVariants.{DocumentName, QuotedString, TypedString, Other}
 use Rattle.ofn_tree.specs.Document.{Met, DocumentTokens, nothing_met, is_last, is_document_name, behind_name, behind_carets, latest_after, depth_after, met_after, document_front, with_token, document, reading}
 use Rattle.ofn_tree.proofs.Slices.{read_ok}
-use Rattle.ofn_tree.specs.Group.{open_behind, StaysOpen, EndsWithCarets, IsInsideDocument, EndsDocument}
+use Rattle.ofn_tree.specs.Group.{open_behind, StaysOpen, EndsWithCarets, IsInsideDocument, EndsDocument, EndsDocumentOrInput, EndsAtFirstDocument}
 
 zero_of : (n : ℕ) → nat_eq n 0 ≡ true → n ≡ 0
 zero_of n h = grind (arith, common_steps, h)
@@ -249,7 +249,7 @@ front-ends end ts m (whole t behind ∷ ps) tells =
       | false ↦ λ e. more-ends end ts t (document_front end (met_after t.kind t.text m) ps) (front-ends end (ts ++ t ∷ []) (met_after t.kind t.text m) ps (tells-snoc ts t m tells))
     ] refl
 
-pub ends : (input : List ℕ) (r : DocumentTokens) → reading input ≡ Some r → EndsDocument r.tokens ⊎ (r.place_behind ≡ length input)
+pub ends : (input : List ℕ) (r : DocumentTokens) → reading input ≡ Some r → EndsDocumentOrInput input r
 ends input r is = subst (EndsOrAll (length input) []) (read_ok (document input) r is) (front-ends (length input) [] nothing_met (pieces input) tells-nothing)
 
 -- ---- the first such bracket is the last token
@@ -347,5 +347,5 @@ stops end m (whole u behind ∷ ps) =
       | false ↦ λ e. stops-more m u (document_front end (met_after u.kind u.text m) ps) e (stops end (met_after u.kind u.text m) ps)
     ] refl
 
-pub first : (input : List ℕ) (r : DocumentTokens) (front rest : List PlainToken) (t : PlainToken) → reading input ≡ Some r → r.tokens ≡ front ++ t ∷ rest → EndsDocument (front ++ t ∷ []) → rest ≡ []
-first input r front rest t is e ended = subst (StopsAtLast nothing_met) (read_ok (document input) r is) (stops (length input) nothing_met (pieces input)) front rest t e (last-of front t ended)
+pub first : (input : List ℕ) (r : DocumentTokens) → reading input ≡ Some r → EndsAtFirstDocument r.tokens
+first input r is = λ front rest t e ended. subst (StopsAtLast nothing_met) (read_ok (document input) r is) (stops (length input) nothing_met (pieces input)) front rest t e (last-of front t ended)

@@ -12,7 +12,7 @@ use Rattle.ofn_tree.specs.declared.fault.TextFault.{TextFault}
 use Rattle.ofn_tree.specs.Token.{PlainToken}
 use Rattle.ofn_tree.specs.Lexemes.{Lexeme, Cut, gap, token, wrong, unended, cut_short, iri_at, Quoted, closes, breaks, runs_on, longer, quoted, string_at, tag_at, carets_at, name_at, sign_at, cut_at, is_whitespace, is_comment_byte, is_iri_byte, is_tag_byte, is_name_byte, line_behind, Piece, whole, faulty, token_of, end_pieces, pieces_with, pieces_from, mark_len, utf8_front, bad_byte_line, front_pieces}
 use Rattle.ofn_tree.specs.Document.{Met, DocumentTokens, nothing_met, is_last, met_after, document_front, with_token, document, reading}
-use Rattle.ofn_tree.specs.Spans.{around, width, IsSlice, AreSpans}
+use Rattle.ofn_tree.specs.Spans.{around, width, IsSlice, AreSpans, AreSlices}
 
 -- ---- what stands at the front of some bytes
 
@@ -191,7 +191,7 @@ pub read_ok : (d : Result DocumentTokens TextFault) (r : DocumentTokens) → res
 read_ok (Ok x) r is = cc
 read_ok (Err fault) r is = cc
 
-pub slices : (input : List ℕ) (r : DocumentTokens) → reading input ≡ Some r → AreSpans input 0 r.tokens r.place_behind × (r.place_behind ≤ length input)
+pub slices : (input : List ℕ) (r : DocumentTokens) → reading input ≡ Some r → AreSlices input r
 slices input r is =
     let front = utf8_front input in
     let fits : FrontFits input 0 (document input) =

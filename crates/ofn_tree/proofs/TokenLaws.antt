@@ -13,7 +13,7 @@ use Rattle.ofn_tree.specs.Token.{PlainToken}
 use Rattle.ofn_tree.specs.Lexemes.{Lexeme, Cut, gap, token, wrong, unended, cut_short, iri_at, Quoted, closes, breaks, runs_on, longer, quoted, string_at, tag_at, carets_at, name_at, sign_at, cut_at, is_whitespace, is_comment_byte, is_iri_byte, is_tag_byte, is_name_byte, line_behind, Piece, whole, faulty, end_pieces, pieces_with, pieces_from, mark_len, utf8_front, bad_byte_line, front_pieces}
 use Rattle.ofn_tree.specs.Document.{Met, DocumentTokens, nothing_met, is_last, met_after, document_front, with_token, document, reading}
 use Rattle.ofn_tree.specs.Spans.{around, width}
-use Rattle.ofn_tree.specs.TokenLaws.{EndsLine, IsGap, nothing, space, comment, bytes_between, HaveGaps, is_quotable, BeginsWith, IsLongest, AreLongest}
+use Rattle.ofn_tree.specs.TokenLaws.{EndsLine, IsGap, nothing, space, comment, bytes_between, HaveGaps, HaveOnlyGaps, is_quotable, BeginsWith, IsLongest, AreLongest}
 use Rattle.ofn_tree.proofs.Slices.{read_ok}
 
 -- ---- the longest front of bytes that pass a test
@@ -455,7 +455,7 @@ told input r is =
     (subst (λ n. PiecesLie front n (front_pieces (bad_byte_line input) front)) start (pieces-lie front (bad_byte_line input) (mark_len front) 0 1 front refl)) in
     subst (FrontLies front (mark_len front)) (read_ok (document input) r is) lies
 
-pub gaps : (input : List ℕ) (r : DocumentTokens) → reading input ≡ Some r → HaveGaps (utf8_front input) (mark_len (utf8_front input)) r.tokens r.place_behind
+pub gaps : (input : List ℕ) (r : DocumentTokens) → reading input ≡ Some r → HaveOnlyGaps input r
 gaps input r is = (told input r is).0
 
 pub longest : (input : List ℕ) (r : DocumentTokens) → reading input ≡ Some r → AreLongest (utf8_front input) r.tokens

@@ -7,7 +7,7 @@ use Rattle.ofn_tree.specs.declared.token.Kind.{Kind}
 use Rattle.ofn_tree.specs.declared.token.Kind.TheVariants.{OpenBracket, CloseBracket, Equals, Iri, String, Tag, Carets, Name}
 use Rattle.ofn_tree.specs.declared.fault.TextFault.{TextFault}
 use Rattle.ofn_tree.specs.declared.fault.TextFault.TheVariants.{Unbalanced, TooDeep}
-use Rattle.ofn_tree.specs.Token.{PlainToken, plain_token, is_open, is_close, is_name, is_string, is_tag, is_carets, is_datatype}
+use Rattle.ofn_tree.specs.Token.{PlainToken, plain_token, tokens_from, is_open, is_close, is_name, is_string, is_tag, is_carets, is_datatype}
 use Rattle.ofn_tree.specs.Items.{Item, group_item, items_of, Mark, opening, closing, mark_of, mark_at, is_head, begins_with_open, begins_with_datatype, begins_with_type, literal_rest, rest_behind, marks_from, marks, written, written_all, nesting, nesting_all}
 use Rattle.ofn_tree.specs.Parsed.{begins_with_close, begins_with_head, IsItems, IsGroup}
 use Rattle.ofn_tree.specs.Faults.{TellsFault, fault_or, bracket_fault}
@@ -41,12 +41,8 @@ at_place f (x ∷ xs) (suc n) d inside =
     let sum : suc n + 1 ≡ suc (n + 1) = omega arith in
     at_place f xs n d shorter ∙ ap (λ k. f (get_or xs n d) ∷ drop k (f x ∷ map f xs)) (sym sum)
 
--- the tokens from a place on
-abbrev pub from : List Token → ℕ → List PlainToken
-from tokens place = drop place (map plain_token tokens)
-
 -- the token at a place, and those after it
-pub tokens-at : (tokens : List Token) (place : ℕ) (d : Token) → place < length tokens → from tokens place ≡ plain_token (get_or tokens place d) ∷ from tokens (place + 1)
+pub tokens-at : (tokens : List Token) (place : ℕ) (d : Token) → place < length tokens → tokens_from tokens place ≡ plain_token (get_or tokens place d) ∷ tokens_from tokens (place + 1)
 tokens-at tokens place d inside = at_place plain_token tokens place d inside
 
 -- what stands where there is no token
@@ -56,7 +52,7 @@ no_token = record { kind = OpenBracket; text = record { ref_ptr = (0, 0); now = 
 past : {A B : Type 0} (f : A → B) (xs : List A) (n : ℕ) → length xs ≤ n → drop n (map f xs) ≡ []
 past f xs n outside = grind (arith, common_steps, outside)
 
-pub tokens-past : (tokens : List Token) (place : ℕ) → length tokens ≤ place → from tokens place ≡ []
+pub tokens-past : (tokens : List Token) (place : ℕ) → length tokens ≤ place → tokens_from tokens place ≡ []
 tokens-past tokens place outside = past plain_token tokens place outside
 
 -- ---- kinds
@@ -251,72 +247,72 @@ IsItems-single end depth t us i no_open no_close unheaded made flat within = rec
 
 -- ---- the same at a place
 
-pub opens-at : (tokens : List Token) (place : ℕ) (d : Token) (v : Bool) → place < length tokens → begins_with_open (from tokens place) ≡ v → is_open (get_or tokens place d).kind ≡ v
+pub opens-at : (tokens : List Token) (place : ℕ) (d : Token) (v : Bool) → place < length tokens → begins_with_open (tokens_from tokens place) ≡ v → is_open (get_or tokens place d).kind ≡ v
 opens-at tokens place d v inside h = ap begins_with_open (sym (tokens-at tokens place d inside)) ∙ h
 
-pub closes-at : (tokens : List Token) (place : ℕ) (d : Token) (v : Bool) → place < length tokens → begins_with_close (from tokens place) ≡ v → is_close (get_or tokens place d).kind ≡ v
+pub closes-at : (tokens : List Token) (place : ℕ) (d : Token) (v : Bool) → place < length tokens → begins_with_close (tokens_from tokens place) ≡ v → is_close (get_or tokens place d).kind ≡ v
 closes-at tokens place d v inside h = ap begins_with_close (sym (tokens-at tokens place d inside)) ∙ h
 
-heads-at : (tokens : List Token) (place : ℕ) (d : Token) (v : Bool) → place < length tokens → begins_with_head (from tokens place) ≡ v → is_head (plain_token (get_or tokens place d)) (from tokens (place + 1)) ≡ v
+heads-at : (tokens : List Token) (place : ℕ) (d : Token) (v : Bool) → place < length tokens → begins_with_head (tokens_from tokens place) ≡ v → is_head (plain_token (get_or tokens place d)) (tokens_from tokens (place + 1)) ≡ v
 heads-at tokens place d v inside h = ap begins_with_head (sym (tokens-at tokens place d inside)) ∙ h
 
-pub unnamed-at : (end depth : ℕ) (tokens : List Token) (place : ℕ) (d : Token) (rest : List PlainToken) (i : Item) → place < length tokens → begins_with_open (from tokens place) ≡ true
-    → IsGroup end depth None (get_or tokens place d).line (from tokens place) rest i → IsItems end depth (from tokens place) rest (i ∷ [])
+pub unnamed-at : (end depth : ℕ) (tokens : List Token) (place : ℕ) (d : Token) (rest : List PlainToken) (i : Item) → place < length tokens → begins_with_open (tokens_from tokens place) ≡ true
+    → IsGroup end depth None (get_or tokens place d).line (tokens_from tokens place) rest i → IsItems end depth (tokens_from tokens place) rest (i ∷ [])
 unnamed-at end depth tokens place d rest i inside opens g =
     let here = tokens-at tokens place d inside in
     let t : PlainToken = plain_token (get_or tokens place d) in
     subst (λ l. IsItems end depth l rest (i ∷ [])) (sym here)
-    (IsItems-unnamed end depth t (from tokens (place + 1)) rest i (opens-at tokens place d true inside opens) (subst (λ l. IsGroup end depth None t.line l rest i) here g))
+    (IsItems-unnamed end depth t (tokens_from tokens (place + 1)) rest i (opens-at tokens place d true inside opens) (subst (λ l. IsGroup end depth None t.line l rest i) here g))
 
-pub named-at : (end depth : ℕ) (tokens : List Token) (place : ℕ) (d : Token) (rest : List PlainToken) (i : Item) → place < length tokens → begins_with_head (from tokens place) ≡ true
-    → IsGroup end depth (Some (get_or tokens place d).text.now) (get_or tokens place d).line (from tokens (place + 1)) rest i → IsItems end depth (from tokens place) rest (i ∷ [])
+pub named-at : (end depth : ℕ) (tokens : List Token) (place : ℕ) (d : Token) (rest : List PlainToken) (i : Item) → place < length tokens → begins_with_head (tokens_from tokens place) ≡ true
+    → IsGroup end depth (Some (get_or tokens place d).text.now) (get_or tokens place d).line (tokens_from tokens (place + 1)) rest i → IsItems end depth (tokens_from tokens place) rest (i ∷ [])
 named-at end depth tokens place d rest i inside heads g =
     let t : PlainToken = plain_token (get_or tokens place d) in
-    let both = and_both (is_name t.kind) (begins_with_open (from tokens (place + 1))) (heads-at tokens place d true inside heads) in
+    let both = and_both (is_name t.kind) (begins_with_open (tokens_from tokens (place + 1))) (heads-at tokens place d true inside heads) in
     subst (λ l. IsItems end depth l rest (i ∷ [])) (sym (tokens-at tokens place d inside))
-    (IsItems-named end depth t (from tokens (place + 1)) rest i both.0 both.1 g)
+    (IsItems-named end depth t (tokens_from tokens (place + 1)) rest i both.0 both.1 g)
 
-pub head-fault : (end depth : ℕ) (tokens : List Token) (place : ℕ) (d : Token) → place < length tokens → begins_with_head (from tokens place) ≡ true
-    → bracket_fault end depth (from tokens place) ≡ bracket_fault end depth (from tokens (place + 1))
+pub head-fault : (end depth : ℕ) (tokens : List Token) (place : ℕ) (d : Token) → place < length tokens → begins_with_head (tokens_from tokens place) ≡ true
+    → bracket_fault end depth (tokens_from tokens place) ≡ bracket_fault end depth (tokens_from tokens (place + 1))
 head-fault end depth tokens place d inside heads =
     let t : PlainToken = plain_token (get_or tokens place d) in
-    let both = and_both (is_name t.kind) (begins_with_open (from tokens (place + 1))) (heads-at tokens place d true inside heads) in
+    let both = and_both (is_name t.kind) (begins_with_open (tokens_from tokens (place + 1))) (heads-at tokens place d true inside heads) in
     let others = name_not_open t.kind both.0 in
-    ap (bracket_fault end depth) (tokens-at tokens place d inside) ∙ fault-other end depth t (from tokens (place + 1)) others.0 others.1
+    ap (bracket_fault end depth) (tokens-at tokens place d inside) ∙ fault-other end depth t (tokens_from tokens (place + 1)) others.0 others.1
 
-pub head-opens : (tokens : List Token) (place : ℕ) (d : Token) → place < length tokens → begins_with_head (from tokens place) ≡ true → begins_with_open (from tokens (place + 1)) ≡ true
+pub head-opens : (tokens : List Token) (place : ℕ) (d : Token) → place < length tokens → begins_with_head (tokens_from tokens place) ≡ true → begins_with_open (tokens_from tokens (place + 1)) ≡ true
 head-opens tokens place d inside heads =
-    (and_both (is_name (get_or tokens place d).kind) (begins_with_open (from tokens (place + 1))) (heads-at tokens place d true inside heads)).1
+    (and_both (is_name (get_or tokens place d).kind) (begins_with_open (tokens_from tokens (place + 1))) (heads-at tokens place d true inside heads)).1
 
-pub single-at : (end depth : ℕ) (tokens : List Token) (place rest : ℕ) (d : Token) (i : Item) → place < length tokens → rest ≡ rest_behind (from tokens place)
-    → begins_with_open (from tokens place) ≡ false → begins_with_close (from tokens place) ≡ false → begins_with_head (from tokens place) ≡ false
+pub single-at : (end depth : ℕ) (tokens : List Token) (place rest : ℕ) (d : Token) (i : Item) → place < length tokens → rest ≡ rest_behind (tokens_from tokens place)
+    → begins_with_open (tokens_from tokens place) ≡ false → begins_with_close (tokens_from tokens place) ≡ false → begins_with_head (tokens_from tokens place) ≡ false
     → written i ≡ mark_of (get_or tokens place d).kind (get_or tokens place d).text.now (get_or tokens place d).line ∷ [] → nesting i ≡ 0 → depth ≤ 64
-    → IsItems end depth (from tokens place) (from tokens (place + 1 + rest)) (i ∷ [])
+    → IsItems end depth (tokens_from tokens place) (tokens_from tokens (place + 1 + rest)) (i ∷ [])
 single-at end depth tokens place rest d i inside is no_open no_close no_name made flat within =
     let t : PlainToken = plain_token (get_or tokens place d) in
     let here = tokens-at tokens place d inside in
-    let behind : drop (rest_behind (t ∷ from tokens (place + 1))) (from tokens (place + 1)) ≡ from tokens (place + 1 + rest) =
-    ap (λ n. drop n (from tokens (place + 1))) (sym (is ∙ ap rest_behind here)) ∙ drop-drop rest (place + 1) (map plain_token tokens) in
-    subst (λ l. IsItems end depth l (from tokens (place + 1 + rest)) (i ∷ [])) (sym here)
-    (subst (λ l. IsItems end depth (t ∷ from tokens (place + 1)) l (i ∷ [])) behind
-    (IsItems-single end depth t (from tokens (place + 1)) i (opens-at tokens place d false inside no_open) (closes-at tokens place d false inside no_close) (heads-at tokens place d false inside no_name) made flat within))
+    let behind : drop (rest_behind (t ∷ tokens_from tokens (place + 1))) (tokens_from tokens (place + 1)) ≡ tokens_from tokens (place + 1 + rest) =
+    ap (λ n. drop n (tokens_from tokens (place + 1))) (sym (is ∙ ap rest_behind here)) ∙ drop-drop rest (place + 1) (map plain_token tokens) in
+    subst (λ l. IsItems end depth l (tokens_from tokens (place + 1 + rest)) (i ∷ [])) (sym here)
+    (subst (λ l. IsItems end depth (t ∷ tokens_from tokens (place + 1)) l (i ∷ [])) behind
+    (IsItems-single end depth t (tokens_from tokens (place + 1)) i (opens-at tokens place d false inside no_open) (closes-at tokens place d false inside no_close) (heads-at tokens place d false inside no_name) made flat within))
 
 -- ---- literals at a place
 
-pub datatype-at : (tokens : List Token) (place : ℕ) (d : Token) → place < length tokens → begins_with_datatype (from tokens place) ≡ is_datatype (get_or tokens place d).kind
+pub datatype-at : (tokens : List Token) (place : ℕ) (d : Token) → place < length tokens → begins_with_datatype (tokens_from tokens place) ≡ is_datatype (get_or tokens place d).kind
 datatype-at tokens place d inside = ap begins_with_datatype (tokens-at tokens place d inside)
 
-pub type-at : (tokens : List Token) (place : ℕ) (d : Token) (v : Bool) → place < length tokens → is_carets (get_or tokens place d).kind ≡ v → begins_with_type (from tokens place) ≡ (v && begins_with_datatype (from tokens (place + 1)))
-type-at tokens place d v inside carets = ap begins_with_type (tokens-at tokens place d inside) ∙ ap (λ w. w && begins_with_datatype (from tokens (place + 1))) carets
+pub type-at : (tokens : List Token) (place : ℕ) (d : Token) (v : Bool) → place < length tokens → is_carets (get_or tokens place d).kind ≡ v → begins_with_type (tokens_from tokens place) ≡ (v && begins_with_datatype (tokens_from tokens (place + 1)))
+type-at tokens place d v inside carets = ap begins_with_type (tokens-at tokens place d inside) ∙ ap (λ w. w && begins_with_datatype (tokens_from tokens (place + 1))) carets
 
-pub literal-at : (tokens : List Token) (place : ℕ) (d : Token) (v w : Bool) → place < length tokens → is_tag (get_or tokens place d).kind ≡ v → begins_with_type (from tokens place) ≡ w → literal_rest (from tokens place) ≡ cond v 1 (cond w 2 0)
+pub literal-at : (tokens : List Token) (place : ℕ) (d : Token) (v w : Bool) → place < length tokens → is_tag (get_or tokens place d).kind ≡ v → begins_with_type (tokens_from tokens place) ≡ w → literal_rest (tokens_from tokens place) ≡ cond v 1 (cond w 2 0)
 literal-at tokens place d v w inside tag type =
     let here = tokens-at tokens place d inside in
-    let same : begins_with_type (plain_token (get_or tokens place d) ∷ from tokens (place + 1)) ≡ w = ap begins_with_type (sym here) ∙ type in
+    let same : begins_with_type (plain_token (get_or tokens place d) ∷ tokens_from tokens (place + 1)) ≡ w = ap begins_with_type (sym here) ∙ type in
     ap literal_rest here ∙ (λ k. cond (tag k) 1 (cond (same k) 2 0))
 
-pub rest-at : (tokens : List Token) (place : ℕ) (d : Token) (v : Bool) → place < length tokens → is_string (get_or tokens place d).kind ≡ v → rest_behind (from tokens place) ≡ cond v (literal_rest (from tokens (place + 1))) 0
-rest-at tokens place d v inside string = ap rest_behind (tokens-at tokens place d inside) ∙ ap (λ w. cond w (literal_rest (from tokens (place + 1))) 0) string
+pub rest-at : (tokens : List Token) (place : ℕ) (d : Token) (v : Bool) → place < length tokens → is_string (get_or tokens place d).kind ≡ v → rest_behind (tokens_from tokens place) ≡ cond v (literal_rest (tokens_from tokens (place + 1))) 0
+rest-at tokens place d v inside string = ap rest_behind (tokens-at tokens place d inside) ∙ ap (λ w. cond w (literal_rest (tokens_from tokens (place + 1))) 0) string
 
 -- ---- groups
 
@@ -325,24 +321,24 @@ pub enter : (end depth : ℕ) (ts : List PlainToken) → begins_with_open ts ≡
 enter end depth [] opens room = cc
 enter end depth (t ∷ ts) opens room = fault-open end depth t ts true opens (below depth 64 room)
 
-pub too_deep : (end depth : ℕ) (tokens : List Token) (place : ℕ) (d : Token) → place < length tokens → begins_with_open (from tokens place) ≡ true → 64 ≤ depth → bracket_fault end depth (from tokens place) ≡ Some (TooDeep (get_or tokens place d).line)
+pub too_deep : (end depth : ℕ) (tokens : List Token) (place : ℕ) (d : Token) → place < length tokens → begins_with_open (tokens_from tokens place) ≡ true → 64 ≤ depth → bracket_fault end depth (tokens_from tokens place) ≡ Some (TooDeep (get_or tokens place d).line)
 too_deep end depth tokens place d inside opens deep =
     let here = tokens-at tokens place d inside in
     let is : is_open (plain_token (get_or tokens place d)).kind ≡ true = ap begins_with_open (sym here) ∙ opens in
-    ap (bracket_fault end depth) here ∙ fault-open end depth (plain_token (get_or tokens place d)) (from tokens (place + 1)) false is (not_below depth 64 deep)
+    ap (bracket_fault end depth) here ∙ fault-open end depth (plain_token (get_or tokens place d)) (tokens_from tokens (place + 1)) false is (not_below depth 64 deep)
 
 -- no bracket is open where one closes
-pub unopened : (end : ℕ) (tokens : List Token) (place : ℕ) (d : Token) → place < length tokens → begins_with_close (from tokens place) ≡ true → bracket_fault end 0 (from tokens place) ≡ Some (Unbalanced (get_or tokens place d).line)
+pub unopened : (end : ℕ) (tokens : List Token) (place : ℕ) (d : Token) → place < length tokens → begins_with_close (tokens_from tokens place) ≡ true → bracket_fault end 0 (tokens_from tokens place) ≡ Some (Unbalanced (get_or tokens place d).line)
 unopened end tokens place d inside closes =
     let here = tokens-at tokens place d inside in
     let is : is_close (plain_token (get_or tokens place d)).kind ≡ true = ap begins_with_close (sym here) ∙ closes in
-    ap (bracket_fault end 0) here ∙ fault-close end 0 (plain_token (get_or tokens place d)) (from tokens (place + 1)) true is refl
+    ap (bracket_fault end 0) here ∙ fault-close end 0 (plain_token (get_or tokens place d)) (tokens_from tokens (place + 1)) true is refl
 
 -- a bracket is open at the end
 pub unclosed : (end depth : ℕ) (ts : List PlainToken) → ts ≡ [] → bracket_fault end (depth + 1) ts ≡ Some (Unbalanced end)
 unclosed end depth ts none = ap (bracket_fault end (depth + 1)) none ∙ ap (λ v. cond v None (Some (Unbalanced end))) (not_zero depth)
 
-behind : (tokens : List Token) (place : ℕ) (d : Token) → place < length tokens → drop 1 (from tokens place) ≡ from tokens (place + 1)
+behind : (tokens : List Token) (place : ℕ) (d : Token) → place < length tokens → drop 1 (tokens_from tokens place) ≡ tokens_from tokens (place + 1)
 behind tokens place d inside = ap (drop 1) (tokens-at tokens place d inside)
 
 -- a bracket closes
@@ -355,10 +351,10 @@ leave end depth (t ∷ ts) closes =
       marks-bracket t ts (no_head t ts mark.0) (close_no_string t.kind closes) ∙ ap (λ m. m ∷ marks ts) mark.1,
     )
 
-pub enter-at : (end depth : ℕ) (tokens : List Token) (place : ℕ) → place < length tokens → begins_with_open (from tokens place) ≡ true → depth < 64
-    → bracket_fault end depth (from tokens place) ≡ bracket_fault end (depth + 1) (from tokens (place + 1))
+pub enter-at : (end depth : ℕ) (tokens : List Token) (place : ℕ) → place < length tokens → begins_with_open (tokens_from tokens place) ≡ true → depth < 64
+    → bracket_fault end depth (tokens_from tokens place) ≡ bracket_fault end (depth + 1) (tokens_from tokens (place + 1))
 enter-at end depth tokens place inside opens room =
-    enter end depth (from tokens place) opens room ∙ ap (bracket_fault end (depth + 1)) (behind tokens place no_token inside)
+    enter end depth (tokens_from tokens place) opens room ∙ ap (bracket_fault end (depth + 1)) (behind tokens place no_token inside)
 
 IsGroup-closed : (end depth : ℕ) (head : Option (List ℕ)) (line : ℕ) (ts mid : List PlainToken) (is : List Item) → begins_with_open ts ≡ true → depth < 64 → IsItems end (depth + 1) (drop 1 ts) mid is → begins_with_close mid ≡ true
     → IsGroup end depth head line ts (drop 1 mid) (group_item head (items_of is) line)
@@ -371,12 +367,12 @@ IsGroup-closed end depth head line ts mid is opens room inner closes =
     }
 
 pub group-at : (end depth : ℕ) (head : Option (List ℕ)) (line : ℕ) (tokens : List Token) (place stop : ℕ) (is : List Item) → place < length tokens → stop < length tokens
-    → begins_with_open (from tokens place) ≡ true → depth < 64 → IsItems end (depth + 1) (from tokens (place + 1)) (from tokens stop) is → begins_with_close (from tokens stop) ≡ true
-    → IsGroup end depth head line (from tokens place) (from tokens (stop + 1)) (group_item head (items_of is) line)
+    → begins_with_open (tokens_from tokens place) ≡ true → depth < 64 → IsItems end (depth + 1) (tokens_from tokens (place + 1)) (tokens_from tokens stop) is → begins_with_close (tokens_from tokens stop) ≡ true
+    → IsGroup end depth head line (tokens_from tokens place) (tokens_from tokens (stop + 1)) (group_item head (items_of is) line)
 group-at end depth head line tokens place stop is inside within opens room inner closes =
-    subst (λ l. IsGroup end depth head line (from tokens place) l (group_item head (items_of is) line)) (behind tokens stop no_token within)
-    (IsGroup-closed end depth head line (from tokens place) (from tokens stop) is opens room
-    (subst (λ l. IsItems end (depth + 1) l (from tokens stop) is) (sym (behind tokens place no_token inside)) inner) closes)
+    subst (λ l. IsGroup end depth head line (tokens_from tokens place) l (group_item head (items_of is) line)) (behind tokens stop no_token within)
+    (IsGroup-closed end depth head line (tokens_from tokens place) (tokens_from tokens stop) is opens room
+    (subst (λ l. IsItems end (depth + 1) l (tokens_from tokens stop) is) (sym (behind tokens place no_token inside)) inner) closes)
 
 -- a fault that stands after other tokens is theirs
 pub TellsFault-before : (there here : Option TextFault) (fault : TextFault) → here ≡ there → TellsFault there fault → TellsFault here fault
@@ -389,5 +385,5 @@ begins_inside f (x ∷ xs) zero h = omega arith
 begins_inside f (x ∷ xs) (suc n) h = omega (arith, begins_inside f xs n h)
 
 -- a bracket that opens at a place is a token
-pub opens-inside : (tokens : List Token) (place : ℕ) → begins_with_open (from tokens place) ≡ true → place < length tokens
+pub opens-inside : (tokens : List Token) (place : ℕ) → begins_with_open (tokens_from tokens place) ≡ true → place < length tokens
 opens-inside tokens place h = begins_inside plain_token tokens place h

@@ -1,8 +1,8 @@
 -- The document's group in words of brackets: where it begins, and where it ends.
-use Rattle.std.specs.Prelude.{◌≡◌, ℕ, ◌≤◌, List, [], ◌∷◌, ◌++◌, codes}
+use Rattle.std.specs.Prelude.{◌≡◌, ℕ, ◌≤◌, List, [], ◌∷◌, ◌++◌, ◌⊎◌, length, codes}
 use Rattle.ofn_tree.specs.declared.token.Kind.TheVariants.{OpenBracket, CloseBracket, String, Carets, Name}
 use Rattle.ofn_tree.specs.Token.{PlainToken}
-use Rattle.ofn_tree.specs.Document.{depth_after}
+use Rattle.ofn_tree.specs.Document.{DocumentTokens, depth_after}
 
 -- how many brackets are open after tokens
 abbrev pub open_behind : ℕ → List PlainToken → ℕ
@@ -46,3 +46,11 @@ pub record EndsDocument (ts : List PlainToken) : Type 0 where
   pub made : ts ≡ front ++ bracket ∷ []
   pub is_inside : IsInsideDocument 1 front
   pub closes : bracket.kind ≡ CloseBracket
+
+-- The tokens that are read end with that bracket, or the whole input is read.
+abbrev pub EndsDocumentOrInput : List ℕ → DocumentTokens → Type 0
+EndsDocumentOrInput input r = EndsDocument r.tokens ⊎ (r.place_behind ≡ length input)
+
+-- No token follows the first bracket that closes such a group.
+abbrev pub EndsAtFirstDocument : List PlainToken → Type 0
+EndsAtFirstDocument ts = (front rest : List PlainToken) (t : PlainToken) → ts ≡ front ++ t ∷ rest → EndsDocument (front ++ t ∷ []) → rest ≡ []

@@ -114,6 +114,14 @@ carets_at b bs = if nat_eq (slice_index bs 0) 94 then token (record { kind = Car
 abbrev pub name_at : ℕ → ℕ → List ℕ → Cut
 name_at n b bs = token (record { kind = Name; text = b ∷ take n bs; more = n })
 
+-- the tag at the front of a text whose first byte is its `@`
+abbrev pub front_tag : List ℕ → Cut
+front_tag text = tag_at (prefix_len is_tag_byte (drop 1 text)) (slice_index text 0) (drop 1 text)
+
+-- the name that begins with the first byte of a text
+abbrev pub front_name : List ℕ → Cut
+front_name text = name_at (prefix_len is_name_byte (drop 1 text)) (slice_index text 0) (drop 1 text)
+
 -- a token of one character
 abbrev pub sign_at : Kind → ℕ → Cut
 sign_at kind b = token (record { kind = kind; text = b ∷ []; more = 0 })

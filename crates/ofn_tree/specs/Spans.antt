@@ -4,6 +4,7 @@ use Rattle.ofn_tree.specs.declared.token.Kind.{Kind}
 use Rattle.ofn_tree.specs.declared.token.Kind.TheVariants.{Iri, String}
 use Rattle.ofn_tree.specs.Token.{PlainToken}
 use Rattle.ofn_tree.specs.Lexemes.{end_line}
+use Rattle.ofn_tree.specs.Document.{DocumentTokens}
 
 -- how many bytes stand before a token's text that are not part of it, and as many after it: the `<` and `>` round an
 -- IRI, and the quotation marks round a string
@@ -24,6 +25,11 @@ IsSlice input t = t.text ≡ take (length t.text) (drop (t.start + around t.kind
 abbrev pub AreSpans : List ℕ → ℕ → List PlainToken → ℕ → Type 0
 AreSpans input from [] to = from ≤ to
 AreSpans input from (t ∷ ts) to = (from ≤ t.start) × IsSlice input t × AreSpans input (t.start + width t) ts to
+
+-- the tokens that are read are slices of the input, in order and apart, up to the place after the last byte that was
+-- read, which is in the input
+abbrev pub AreSlices : List ℕ → DocumentTokens → Type 0
+AreSlices input r = AreSpans input 0 r.tokens r.place_behind × (r.place_behind ≤ length input)
 
 -- each token has the line of its first byte
 abbrev pub HaveLines : List ℕ → List PlainToken → Type 0

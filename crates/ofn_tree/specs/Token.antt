@@ -1,5 +1,5 @@
 -- Tokens as contracts see them.
-use Rattle.std.specs.Prelude.{ℕ, List, Bool, true, false}
+use Rattle.std.specs.Prelude.{ℕ, List, drop, map, Bool, true, false}
 use Rattle.ofn_tree.specs.declared.token.Kind.{Kind}
 use Rattle.ofn_tree.specs.declared.token.Kind.TheVariants.{OpenBracket, CloseBracket, Iri, String, Tag, Carets, Name}
 use Rattle.ofn_tree.specs.declared.token.Token.{Token}
@@ -14,6 +14,10 @@ pub record PlainToken : Type 0 where
 
 abbrev pub plain_token : Token → PlainToken
 plain_token t = record { kind = t.kind; text = t.text.now; start = t.start; line = t.line }
+
+-- the tokens from a place on
+abbrev pub tokens_from : List Token → ℕ → List PlainToken
+tokens_from tokens place = drop place (map plain_token tokens)
 
 abbrev pub is_open : Kind → Bool
 is_open OpenBracket = true

@@ -4,7 +4,8 @@ use Rattle.std.specs.List.{list_all}
 use Rattle.ofn_tree.specs.declared.token.Kind.{Kind}
 use Rattle.ofn_tree.specs.declared.token.Kind.TheVariants.{OpenBracket, CloseBracket, Equals, Iri, String, Tag, Carets, Name}
 use Rattle.ofn_tree.specs.Token.{PlainToken}
-use Rattle.ofn_tree.specs.Lexemes.{is_whitespace, is_comment_byte, is_iri_byte, is_tag_byte, is_name_byte}
+use Rattle.ofn_tree.specs.Lexemes.{is_whitespace, is_comment_byte, is_iri_byte, is_tag_byte, is_name_byte, utf8_front, mark_len}
+use Rattle.ofn_tree.specs.Document.{DocumentTokens}
 use Rattle.ofn_tree.specs.Spans.{width}
 
 -- ---- what stands between tokens
@@ -28,6 +29,11 @@ bytes_between text start end = take (end - start) (drop start text)
 abbrev pub HaveGaps : List ℕ → ℕ → List PlainToken → ℕ → Type 0
 HaveGaps text start [] end = IsGap true (bytes_between text start end)
 HaveGaps text start (t ∷ ts) end = IsGap false (bytes_between text start t.start) × HaveGaps text (t.start + width t) ts end
+
+-- Up to the place after the last byte that was read there are only whitespace and comments round the tokens of an input,
+-- but for a byte order mark at its start.
+abbrev pub HaveOnlyGaps : List ℕ → DocumentTokens → Type 0
+HaveOnlyGaps input r = HaveGaps (utf8_front input) (mark_len (utf8_front input)) r.tokens r.place_behind
 
 -- ---- how long tokens are
 

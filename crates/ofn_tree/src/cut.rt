@@ -2,7 +2,7 @@
 ghost use Rattle.std.specs.Prelude.{◌≡◌, ◌<◌, ◌≤◌, ◌∷◌, [], true, false, length, slice_index, drop, IfSome};
 ghost use Rattle.std.specs.List.{prefix_len};
 ghost use Rattle.std.specs.Str.{IsCharBoundary};
-ghost use Rattle.ofn_tree.specs.Lexemes.{is_iri_byte, is_name_byte, is_tag_byte, is_comment_byte, cut_short, iri_at, quoted, string_at, tag_at, carets_at, name_at, sign_at, cut_at, gap};
+ghost use Rattle.ofn_tree.specs.Lexemes.{is_iri_byte, is_comment_byte, cut_short, iri_at, quoted, string_at, front_tag, carets_at, front_name, sign_at, cut_at, gap};
 ghost use Rattle.ofn_tree.specs.Scanned.{cut_of, quoted_of, IsCutWithin, ClosesWithin, HasFeeds, ClosesBehind};
 
 use crate::Kind;
@@ -156,7 +156,7 @@ fn string_at(text: &str) -> Cut<'_>
 fn tag_at(text: &str) -> Cut<'_>
     requires some { 0 < length text.now }
     requires printing { 32 < slice_index text.now 0 }
-    ensures cut { cut_of result ≡ tag_at (prefix_len is_tag_byte (drop 1 text.now)) (slice_index text.now 0) (drop 1 text.now) }
+    ensures cut { cut_of result ≡ front_tag text.now }
     ensures within { IsCutWithin text.now result }
     ensures feeds { HasFeeds text.now result }
 {
@@ -197,7 +197,7 @@ fn carets_at(text: &str) -> Cut<'_>
 fn name_at(text: &str) -> Cut<'_>
     requires some { 0 < length text.now }
     requires printing { 32 < slice_index text.now 0 }
-    ensures cut { cut_of result ≡ name_at (prefix_len is_name_byte (drop 1 text.now)) (slice_index text.now 0) (drop 1 text.now) }
+    ensures cut { cut_of result ≡ front_name text.now }
     ensures within { IsCutWithin text.now result }
     ensures feeds { HasFeeds text.now result }
 {

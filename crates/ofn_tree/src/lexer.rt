@@ -1,12 +1,12 @@
 // A text cut into tokens.
-ghost use Rattle.std.specs.Prelude.{◌≡◌, ℕ, List, ◌<◌, ◌≤◌, ◌+◌, ◌-◌, ◌^◌, ◌∷◌, ◌++◌, ◌⊎◌, [], true, Some, None, is_some, not, IfOk, IfErr, length};
+ghost use Rattle.std.specs.Prelude.{◌≡◌, ℕ, List, ◌<◌, ◌≤◌, ◌+◌, ◌-◌, ◌^◌, true, Some, None, is_some, not, IfOk, IfErr, length};
 ghost use Rattle.std.specs.Str.{IsUtf8, IsCharBoundary};
-ghost use Rattle.ofn_tree.specs.Token.{PlainToken, plain_token};
+ghost use Rattle.ofn_tree.specs.Token.{plain_token};
 ghost use Rattle.ofn_tree.specs.Lexemes.{utf8_front, bad_byte_line, mark_len, unended_fault};
 ghost use Rattle.ofn_tree.specs.Document.{DocumentTokens, nothing_met, is_last, met_after, behind_name, behind_carets, is_document_name, latest_after, reading};
-ghost use Rattle.ofn_tree.specs.Spans.{AreSpans, HaveLines};
-ghost use Rattle.ofn_tree.specs.TokenLaws.{HaveGaps, AreLongest};
-ghost use Rattle.ofn_tree.specs.Group.{EndsDocument};
+ghost use Rattle.ofn_tree.specs.Spans.{AreSlices, HaveLines};
+ghost use Rattle.ofn_tree.specs.TokenLaws.{HaveOnlyGaps, AreLongest};
+ghost use Rattle.ofn_tree.specs.Group.{EndsDocumentOrInput, EndsAtFirstDocument};
 ghost use Rattle.ofn_tree.specs.Faults.{TellsFault, token_fault};
 ghost use Rattle.ofn_tree.specs.Lexed.{reading_of};
 ghost use Rattle.ofn_tree.specs.Scanned.{met_of};
@@ -247,13 +247,13 @@ pub fn tokens(alloc: Global, text: &[u8]) -> Result<(Vec<Token<'_>>, usize), Tex
 /// The tokens that are read are slices of the text, in order and apart, up to the place after the last byte that was
 /// read.
 pub fn tokens_are_slices()
-    ensures { (input : List ℕ) (r : DocumentTokens) → reading input ≡ Some r → AreSpans input 0 r.tokens r.place_behind × (r.place_behind ≤ length input) }
+    ensures { (input : List ℕ) (r : DocumentTokens) → reading input ≡ Some r → AreSlices input r }
 {}
 
 /// Up to the place after the last byte that was read there are only whitespace and comments before the tokens, between
 /// them and after them, but for a byte order mark at the start of the text.
 pub fn only_gaps_stand_between_tokens()
-    ensures { (input : List ℕ) (r : DocumentTokens) → reading input ≡ Some r → HaveGaps (utf8_front input) (mark_len (utf8_front input)) r.tokens r.place_behind }
+    ensures { (input : List ℕ) (r : DocumentTokens) → reading input ≡ Some r → HaveOnlyGaps input r }
 {}
 
 /// Each token that is read has the form of its kind and stands at its place in the text, and no longer token of its kind
@@ -270,8 +270,8 @@ pub fn tokens_have_lines()
 /// The tokens that are read end with the first bracket that closes a group whose name is `Ontology` and which begins
 /// where no bracket is open; without such a bracket the whole text is read.
 pub fn tokens_end_with_the_document()
-    ensures ends { (input : List ℕ) (r : DocumentTokens) → reading input ≡ Some r → EndsDocument r.tokens ⊎ (r.place_behind ≡ length input) }
-    ensures first { (input : List ℕ) (r : DocumentTokens) (front rest : List PlainToken) (t : PlainToken) → reading input ≡ Some r → r.tokens ≡ front ++ t ∷ rest → EndsDocument (front ++ t ∷ []) → rest ≡ [] }
+    ensures ends { (input : List ℕ) (r : DocumentTokens) → reading input ≡ Some r → EndsDocumentOrInput input r }
+    ensures first { (input : List ℕ) (r : DocumentTokens) → reading input ≡ Some r → EndsAtFirstDocument r.tokens }
 {}
 
 /// A text either has tokens, or a first fault.

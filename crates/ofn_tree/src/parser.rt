@@ -1,9 +1,9 @@
 // The tree of a text's brackets.
-ghost use Rattle.std.specs.Prelude.{◌≡◌, ◌<◌, ◌≤◌, ◌++◌, ◌+◌, ◌∷◌, [], true, false, List, IfOk, IfErr, OnOk, None, Some, length, drop, map};
-ghost use Rattle.ofn_tree.specs.Token.{plain_token, PlainToken, is_open, is_close, is_name, is_string, is_tag, is_carets, is_datatype};
+ghost use Rattle.std.specs.Prelude.{◌≡◌, ◌<◌, ◌≤◌, ◌++◌, ◌+◌, ◌∷◌, [], true, false, List, IfOk, IfErr, OnOk, None, Some, length, map};
+ghost use Rattle.ofn_tree.specs.Token.{plain_token, tokens_from, PlainToken, is_open, is_close, is_name, is_string, is_tag, is_carets, is_datatype};
 ghost use Rattle.ofn_tree.specs.Items.{Item, IsTree, written, nesting, mark_of, begins_with_open, begins_with_datatype, begins_with_type, literal_rest, rest_behind};
 ghost use Rattle.ofn_tree.specs.Form.{head_text};
-ghost use Rattle.ofn_tree.specs.Parsed.{begins_with_close, begins_with_head, IsItems, IsGroup};
+ghost use Rattle.ofn_tree.specs.Parsed.{begins_with_close, begins_with_head, ReadsItems, ReadsGroup};
 ghost use Rattle.ofn_tree.specs.Faults.{TellsFault, bracket_fault};
 
 use crate::{Form, Kind, TextFault, Token, Tree};
@@ -49,9 +49,9 @@ fn items<'a>(
     requires start { start ≤ length tokens.now }
     requires depth { depth ≤ 64 }
     ensures within { IfOk result (λ r. (start ≤ r.1) × (r.1 ≤ length tokens.now)) }
-    ensures read { IfOk result (λ r. IsItems end_line depth (drop start (map plain_token tokens.now)) (drop r.1 (map plain_token tokens.now)) r.0.items) }
-    ensures ended { IfOk result (λ r. r.1 < length tokens.now → begins_with_close (drop r.1 (map plain_token tokens.now)) ≡ true) }
-    ensures fault { IfErr result (TellsFault (bracket_fault end_line depth (drop start (map plain_token tokens.now)))) }
+    ensures read { IfOk result (λ r. ReadsItems end_line depth tokens.now start r.1 r.0.items) }
+    ensures ended { IfOk result (λ r. r.1 < length tokens.now → begins_with_close (tokens_from tokens.now r.1) ≡ true) }
+    ensures fault { IfErr result (TellsFault (bracket_fault end_line depth (tokens_from tokens.now start))) }
 {
     let mut trees = Vec::new(alloc);
     let mut place = start;
@@ -85,10 +85,10 @@ fn one<'a>(
 ) -> Result<(Tree<'a>, usize), TextFault>
     requires start { start < length tokens.now }
     requires depth { depth ≤ 64 }
-    requires begins { begins_with_close (drop start (map plain_token tokens.now)) ≡ false }
+    requires begins { begins_with_close (tokens_from tokens.now start) ≡ false }
     ensures within { IfOk result (λ r. (start < r.1) × (r.1 ≤ length tokens.now)) }
-    ensures read { IfOk result (λ r. IsItems end_line depth (drop start (map plain_token tokens.now)) (drop r.1 (map plain_token tokens.now)) (r.0 ∷ [])) }
-    ensures fault { IfErr result (TellsFault (bracket_fault end_line depth (drop start (map plain_token tokens.now)))) }
+    ensures read { IfOk result (λ r. ReadsItems end_line depth tokens.now start r.1 (r.0 ∷ [])) }
+    ensures fault { IfErr result (TellsFault (bracket_fault end_line depth (tokens_from tokens.now start))) }
 {
     let token = tokens[start];
     if opens_at(tokens, start) {
@@ -154,14 +154,14 @@ fn is_datatype(kind: Kind) -> bool
 
 // A bracket opens at a place.
 fn opens_at(tokens: &[Token], place: usize) -> bool
-    ensures { result ≡ begins_with_open (drop place (map plain_token tokens.now)) }
+    ensures { result ≡ begins_with_open (tokens_from tokens.now place) }
 {
     place < tokens.len() && is_open(tokens[place].kind)
 }
 
 // A bracket closes at a place.
 fn closes_at(tokens: &[Token], place: usize) -> bool
-    ensures { result ≡ begins_with_close (drop place (map plain_token tokens.now)) }
+    ensures { result ≡ begins_with_close (tokens_from tokens.now place) }
 {
     place < tokens.len() && is_close(tokens[place].kind)
 }
@@ -169,14 +169,14 @@ fn closes_at(tokens: &[Token], place: usize) -> bool
 // The name of a group stands at a place.
 fn heads_group_at(tokens: &[Token], place: usize) -> bool
     requires { place < length tokens.now }
-    ensures { result ≡ begins_with_head (drop place (map plain_token tokens.now)) }
+    ensures { result ≡ begins_with_head (tokens_from tokens.now place) }
 {
     is_name(tokens[place].kind) && opens_at(tokens, place + 1)
 }
 
 // A name or an IRI stands at a place.
 fn datatype_at(tokens: &[Token], place: usize) -> bool
-    ensures datatype { result ≡ begins_with_datatype (drop place (map plain_token tokens.now)) }
+    ensures datatype { result ≡ begins_with_datatype (tokens_from tokens.now place) }
     ensures within { result ≡ true → place < length tokens.now }
 {
     place < tokens.len() && is_datatype(tokens[place].kind)
@@ -185,7 +185,7 @@ fn datatype_at(tokens: &[Token], place: usize) -> bool
 // Carets and a name or an IRI stand at a place.
 fn type_at(tokens: &[Token], place: usize) -> bool
     requires { place < length tokens.now }
-    ensures typed { result ≡ begins_with_type (drop place (map plain_token tokens.now)) }
+    ensures typed { result ≡ begins_with_type (tokens_from tokens.now place) }
     ensures within { result ≡ true → place + 2 ≤ length tokens.now }
 {
     is_carets(tokens[place].kind) && datatype_at(tokens, place + 1)
@@ -194,7 +194,7 @@ fn type_at(tokens: &[Token], place: usize) -> bool
 // How many of the tokens at a place are part of the literal whose string stands before them.
 fn literal_rest(tokens: &[Token], place: usize) -> usize
     requires { place ≤ length tokens.now }
-    ensures rest { result ≡ literal_rest (drop place (map plain_token tokens.now)) }
+    ensures rest { result ≡ literal_rest (tokens_from tokens.now place) }
     ensures within { place + result ≤ length tokens.now }
 {
     if place == tokens.len() {
@@ -212,7 +212,7 @@ fn literal_rest(tokens: &[Token], place: usize) -> usize
 // How many of the tokens after the one at a place are part of its literal, where it is a string.
 fn rest_behind(tokens: &[Token], place: usize) -> usize
     requires { place < length tokens.now }
-    ensures rest { result ≡ rest_behind (drop place (map plain_token tokens.now)) }
+    ensures rest { result ≡ rest_behind (tokens_from tokens.now place) }
     ensures within { place + 1 + result ≤ length tokens.now }
 {
     if is_string(tokens[place].kind) {
@@ -251,10 +251,10 @@ fn group<'a>(
 ) -> Result<(Tree<'a>, usize), TextFault>
     requires place { place < length tokens.now }
     requires depth { depth ≤ 64 }
-    requires begins { begins_with_open (drop place (map plain_token tokens.now)) ≡ true }
+    requires begins { begins_with_open (tokens_from tokens.now place) ≡ true }
     ensures within { IfOk result (λ r. (place < r.1) × (r.1 ≤ length tokens.now)) }
-    ensures read { IfOk result (λ r. IsGroup end_line depth (head_text head.entry) line (drop place (map plain_token tokens.now)) (drop r.1 (map plain_token tokens.now)) r.0) }
-    ensures fault { IfErr result (TellsFault (bracket_fault end_line depth (drop place (map plain_token tokens.now)))) }
+    ensures read { IfOk result (λ r. ReadsGroup end_line depth (head_text head.entry) line tokens.now place r.1 r.0) }
+    ensures fault { IfErr result (TellsFault (bracket_fault end_line depth (tokens_from tokens.now place))) }
 {
     if depth == MAX_OPEN {
         return Err(TextFault::TooDeep(tokens[place].line));

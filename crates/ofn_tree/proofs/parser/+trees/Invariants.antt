@@ -1,6 +1,5 @@
-use Rattle.std.proofs.Common.{◌≤◌, ◌*◌, ◌+◌, ◌-◌, map, drop, length}
-use Rattle.ofn_tree.specs.Token.{plain_token}
-use Rattle.ofn_tree.specs.Parsed.{IsItems}
+use Rattle.std.proofs.Common.{◌≤◌, ◌*◌, ◌+◌, ◌-◌, length}
+use Rattle.ofn_tree.specs.Parsed.{ReadsItems}
 use Rattle.ofn_tree.proofs.parser.+trees.Given as goal
 
 abbrev pub decreases-items : goal.decreases-items
@@ -16,7 +15,7 @@ abbrev pub invariant-items-loop-place : goal.invariant-items-loop-place
 invariant-items-loop-place l = record {
   behind : l.start ≤ l.place;
   within : l.place ≤ length l.tokens;
-  read : IsItems l.end_line l.depth (drop l.start (map plain_token l.tokens)) (drop l.place (map plain_token l.tokens)) l.trees.items;
+  read : ReadsItems l.end_line l.depth l.tokens l.start l.place l.trees.items;
 }
 
 abbrev pub decreases-items-loop-place : goal.decreases-items-loop-place
