@@ -1,8 +1,8 @@
 -- The tests of a document or a query, and what a list of them says. A test is judged by what those before it counted.
 use Rattle.std.specs.Prelude.{◌≡◌, ◌≢◌, ℕ, ◌+◌, Bool, false, cond, List, [], ◌∷◌, length, Option, Some, None, Result, Ok, Err, nat_le}
 use Rattle.shq_terms.specs.Names.{with_name}
-use Rattle.shq_terms.specs.declared.faults.AddFault.{AddFault}
-use Rattle.shq_terms.specs.declared.faults.AddFault.TheVariants as fault
+use Rattle.shq_terms.specs.declared.add_fault.AddFault.{AddFault}
+use Rattle.shq_terms.specs.declared.add_fault.AddFault.TheVariants as fault
 use Rattle.ofn_expressions.specs.Counts.{Counts}
 use Rattle.ofn_expressions.specs.declared.construct.Construct.{Construct}
 use Rattle.ofn_expressions.specs.declared.refusal.Refusal.{Refusal}
