@@ -49,6 +49,18 @@ abbrev mutual
   part_texts o no_parts = []
   part_texts o (part c cs) = concept_text o c ∷ part_texts o cs
 
+-- the texts of class expressions
+abbrev pub class_texts : Listed → List Concept → List (List ℕ)
+class_texts o cs = part_texts o (parts_of cs)
+
+-- the items of a restriction: its role and its filler
+abbrev pub restriction_items : Listed → ℕ → Concept → List (List ℕ)
+restriction_items o r c = role_text o r ∷ concept_text o c ∷ []
+
+-- the items of a cardinality restriction: its number, its role and its filler
+abbrev pub bounded_items : Listed → ℕ → ℕ → Concept → List (List ℕ)
+bounded_items o n r c = decimal n ∷ restriction_items o r c
+
 abbrev pub role_texts : Listed → List ℕ → List (List ℕ)
 role_texts o [] = []
 role_texts o (r ∷ rs) = role_text o r ∷ role_texts o rs

@@ -1,7 +1,8 @@
 -- Small expressions, axioms and ontologies.
-use Rattle.std.specs.Prelude.{[], ◌∷◌, codes}
+use Rattle.std.specs.Prelude.{ℕ, List, [], ◌∷◌, ◌++◌, codes}
 use Rattle.shq_base.specs.Concept.{Concept, top, bottom, name, complement, intersection, union, some_of, all_of, at_least, at_most, exactly, parts_of}
 use Rattle.shq_terms.specs.Listed.{Listed}
+use Rattle.ofn_writer.specs.Canonical.{line}
 use Rattle.shq_terms.specs.declared.axioms.Axiom.{Axiom}
 use Rattle.shq_terms.specs.declared.axioms.Axiom.TheVariants.{SubClassOf, EquivalentClasses, DisjointClasses, DisjointUnion, SubRole, EquivalentRoles, Domain, Range, Functional, Transitive}
 
@@ -12,8 +13,14 @@ names = record { axioms = []; classes = codes "A" ∷ codes "B" ∷ []; roles = 
 abbrev pub exactly_twenty : Concept
 exactly_twenty = exactly 20 1 (intersection (parts_of (name 0 ∷ complement (name 1) ∷ [])))
 
+abbrev pub exactly_twenty_text : List ℕ
+exactly_twenty_text = codes "ObjectExactCardinality(20 <S> ObjectIntersectionOf(<A> ObjectComplementOf(<B>)))"
+
 abbrev pub all_but : Concept
 all_but = all_of 0 (union (parts_of (bottom ∷ at_most 0 0 top ∷ [])))
+
+abbrev pub all_but_text : List ℕ
+all_but_text = codes "ObjectAllValuesFrom(<R> ObjectUnionOf(owl:Nothing ObjectMaxCardinality(0 <R> owl:Thing)))"
 
 abbrev pub wide : Axiom
 wide = SubClassOf (name 1) (at_least 0 1 (name 0))
@@ -49,3 +56,13 @@ small = record {
   classes = codes "A" ∷ codes "B" ∷ [];
   roles = codes "R" ∷ [];
 }
+
+abbrev pub small_text : List ℕ
+small_text =
+    line (codes "Ontology(")
+    ++ line (codes "Declaration(Class(<A>))")
+    ++ line (codes "Declaration(Class(<B>))")
+    ++ line (codes "Declaration(ObjectProperty(<R>))")
+    ++ line (codes "SubClassOf(<B> <A>)")
+    ++ line (codes "TransitiveObjectProperty(<R>)")
+    ++ line (codes ")")

@@ -1,2 +1,3 @@
 pub mod Canonical
+pub mod Puts
 pub mod Examples

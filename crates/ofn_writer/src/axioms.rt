@@ -1,9 +1,9 @@
 // The text of axioms (OWL 2 Structural Specification, sections 9.1 and 9.2).
 ghost use Rattle.std.specs.Prelude.{◌≡◌, ◌<◌, ◌++◌, ◌∷◌, [], OnOk, OnErr, IsTrue, length, nat_lt};
 ghost use Rattle.std.specs.List.{list_all};
-ghost use Rattle.shq_base.specs.Concept.{parts_of};
-ghost use Rattle.shq_terms.specs.Uses.{uses_listed, parts_use_listed, axiom_uses_listed};
-ghost use Rattle.ofn_writer.specs.Canonical.{role_text, role_texts, spaced, items_text, group_text, concept_text, part_texts, axiom_text};
+ghost use Rattle.shq_terms.specs.Uses.{axiom_uses_listed};
+ghost use Rattle.ofn_writer.specs.Canonical.{class_texts, role_texts, spaced, items_text, axiom_text};
+ghost use Rattle.ofn_writer.specs.Puts.{Puts, PutsGroup, UsesListed, PartsUseListed};
 
 use crate::NoMemory;
 use crate::concepts::{put_concept, put_parts, put_restriction, put_spaced};
@@ -17,7 +17,7 @@ pub(crate) fn put_axiom(
     ontology: &Ontology,
 ) -> Result<(), NoMemory>
     requires { IsTrue (axiom_uses_listed (length ontology.now.classes) (length ontology.now.roles) «axiom».now) }
-    ensures { OnOk result (out.new.items ≡ out.old.items ++ axiom_text ontology.now «axiom».now) }
+    ensures { OnOk result (Puts out.old out.new (axiom_text ontology.now «axiom».now)) }
 {
     match axiom {
         Axiom::SubClassOf(sub, sup) => put_class_pair(out, b"SubClassOf", sub, sup, ontology),
@@ -58,9 +58,9 @@ fn put_class_pair(
     sup: &Concept,
     ontology: &Ontology,
 ) -> Result<(), NoMemory>
-    requires sub { IsTrue (uses_listed (length ontology.now.classes) (length ontology.now.roles) sub.now) }
-    requires sup { IsTrue (uses_listed (length ontology.now.classes) (length ontology.now.roles) sup.now) }
-    ensures { OnOk result (out.new.items ≡ out.old.items ++ group_text keyword.now (concept_text ontology.now sub.now ∷ concept_text ontology.now sup.now ∷ [])) }
+    requires sub { UsesListed ontology.now sub.now }
+    requires sup { UsesListed ontology.now sup.now }
+    ensures { OnOk result (PutsGroup out.old out.new keyword.now (class_texts ontology.now (sub.now ∷ sup.now ∷ []))) }
 {
     put(out, keyword)?;
     put(out, b"(")?;
@@ -77,9 +77,9 @@ fn put_class_and_parts(
     parts: &[Concept],
     ontology: &Ontology,
 ) -> Result<(), NoMemory>
-    requires whole { IsTrue (uses_listed (length ontology.now.classes) (length ontology.now.roles) whole.now) }
-    requires parts { IsTrue (parts_use_listed (length ontology.now.classes) (length ontology.now.roles) (parts_of parts.now)) }
-    ensures { OnOk result (out.new.items ≡ out.old.items ++ group_text keyword.now (concept_text ontology.now whole.now ∷ part_texts ontology.now (parts_of parts.now))) }
+    requires whole { UsesListed ontology.now whole.now }
+    requires parts { PartsUseListed ontology.now parts.now }
+    ensures { OnOk result (PutsGroup out.old out.new keyword.now (class_texts ontology.now (whole.now ∷ parts.now))) }
 {
     put(out, keyword)?;
     put(out, b"(")?;
@@ -97,7 +97,7 @@ fn put_role_pair(
 ) -> Result<(), NoMemory>
     requires role { role < length ontology.now.roles }
     requires other { other < length ontology.now.roles }
-    ensures { OnOk result (out.new.items ≡ out.old.items ++ group_text keyword.now (role_text ontology.now role ∷ role_text ontology.now other ∷ [])) }
+    ensures { OnOk result (PutsGroup out.old out.new keyword.now (role_texts ontology.now (role ∷ other ∷ []))) }
 {
     put(out, keyword)?;
     put(out, b"(")?;
@@ -114,7 +114,7 @@ fn put_role_group(
     ontology: &Ontology,
 ) -> Result<(), NoMemory>
     requires { role < length ontology.now.roles }
-    ensures { OnOk result (out.new.items ≡ out.old.items ++ group_text keyword.now (role_text ontology.now role ∷ [])) }
+    ensures { OnOk result (PutsGroup out.old out.new keyword.now (role_texts ontology.now (role ∷ []))) }
 {
     put(out, keyword)?;
     put(out, b"(")?;
@@ -129,7 +129,7 @@ fn put_role_list(
     ontology: &Ontology,
 ) -> Result<(), NoMemory>
     requires { IsTrue (list_all (λ r. nat_lt r (length ontology.now.roles)) roles.now) }
-    ensures { OnOk result (out.new.items ≡ out.old.items ++ group_text keyword.now (role_texts ontology.now roles.now)) }
+    ensures { OnOk result (PutsGroup out.old out.new keyword.now (role_texts ontology.now roles.now)) }
 {
     put(out, keyword)?;
     put(out, b"(")?;
@@ -139,7 +139,7 @@ fn put_role_list(
 
 fn put_role_items(out: &mut Vec<u8>, roles: &[u32], ontology: &Ontology) -> Result<(), NoMemory>
     requires { IsTrue (list_all (λ r. nat_lt r (length ontology.now.roles)) roles.now) }
-    ensures { OnOk result (out.new.items ≡ out.old.items ++ items_text (role_texts ontology.now roles.now)) }
+    ensures { OnOk result (Puts out.old out.new (items_text (role_texts ontology.now roles.now))) }
 {
     match roles {
         [] => Ok(()),
@@ -153,7 +153,7 @@ fn put_role_items(out: &mut Vec<u8>, roles: &[u32], ontology: &Ontology) -> Resu
 // Puts roles last, each after one blank.
 fn put_spaced_roles(out: &mut Vec<u8>, roles: &[u32], ontology: &Ontology) -> Result<(), NoMemory>
     requires { IsTrue (list_all (λ r. nat_lt r (length ontology.now.roles)) roles.now) }
-    ensures { OnOk result (out.new.items ≡ out.old.items ++ spaced (role_texts ontology.now roles.now)) }
+    ensures { OnOk result (Puts out.old out.new (spaced (role_texts ontology.now roles.now))) }
 {
     for role in roles {
         put(out, b" ")?;

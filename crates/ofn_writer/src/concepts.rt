@@ -1,8 +1,8 @@
 // The text of class expressions (OWL 2 Structural Specification, section 8).
-ghost use Rattle.std.specs.Prelude.{◌≡◌, ◌<◌, ◌++◌, ◌∷◌, [], OnOk, OnErr, IsTrue, length, decimal};
-ghost use Rattle.shq_base.specs.Concept.{parts_of};
-ghost use Rattle.shq_terms.specs.Uses.{uses_listed, parts_use_listed};
-ghost use Rattle.ofn_writer.specs.Canonical.{class_text, role_text, spaced, items_text, group_text, concept_text, part_texts};
+ghost use Rattle.std.specs.Prelude.{◌≡◌, ◌<◌, ◌++◌, ◌∷◌, [], OnOk, OnErr, IsTrue, length};
+ghost use Rattle.shq_terms.specs.Uses.{uses_listed};
+ghost use Rattle.ofn_writer.specs.Canonical.{spaced, items_text, concept_text, class_texts, restriction_items, bounded_items};
+ghost use Rattle.ofn_writer.specs.Puts.{Puts, PutsGroup, UsesListed, PartsUseListed};
 
 use crate::NoMemory;
 use crate::pieces::{put, put_class, put_number, put_role, put_whole};
@@ -15,8 +15,8 @@ pub(crate) fn put_concept(
     concept: &Concept,
     ontology: &Ontology,
 ) -> Result<(), NoMemory>
-    requires { IsTrue (uses_listed (length ontology.now.classes) (length ontology.now.roles) concept.now) }
-    ensures { OnOk result (out.new.items ≡ out.old.items ++ concept_text ontology.now concept.now) }
+    requires { UsesListed ontology.now concept.now }
+    ensures { OnOk result (Puts out.old out.new (concept_text ontology.now concept.now)) }
 {
     match &concept.node {
         Node::Top => put(out, b"owl:Thing"),
@@ -71,8 +71,8 @@ fn put_complement(
     inner: &Concept,
     ontology: &Ontology,
 ) -> Result<(), NoMemory>
-    requires { IsTrue (uses_listed (length ontology.now.classes) (length ontology.now.roles) inner.now) }
-    ensures { OnOk result (out.new.items ≡ out.old.items ++ group_text keyword.now (concept_text ontology.now inner.now ∷ [])) }
+    requires { UsesListed ontology.now inner.now }
+    ensures { OnOk result (PutsGroup out.old out.new keyword.now (class_texts ontology.now (inner.now ∷ []))) }
 {
     put(out, keyword)?;
     put(out, b"(")?;
@@ -90,8 +90,8 @@ pub(crate) fn put_restriction(
     ontology: &Ontology,
 ) -> Result<(), NoMemory>
     requires role { role < length ontology.now.roles }
-    requires filler { IsTrue (uses_listed (length ontology.now.classes) (length ontology.now.roles) filler.now) }
-    ensures { OnOk result (out.new.items ≡ out.old.items ++ group_text keyword.now (role_text ontology.now role ∷ concept_text ontology.now filler.now ∷ [])) }
+    requires filler { UsesListed ontology.now filler.now }
+    ensures { OnOk result (PutsGroup out.old out.new keyword.now (restriction_items ontology.now role filler.now)) }
 {
     put(out, keyword)?;
     put(out, b"(")?;
@@ -109,8 +109,8 @@ fn put_cardinality(
     ontology: &Ontology,
 ) -> Result<(), NoMemory>
     requires role { role < length ontology.now.roles }
-    requires filler { IsTrue (uses_listed (length ontology.now.classes) (length ontology.now.roles) filler.now) }
-    ensures { OnOk result (out.new.items ≡ out.old.items ++ group_text keyword.now (decimal number ∷ role_text ontology.now role ∷ concept_text ontology.now filler.now ∷ [])) }
+    requires filler { UsesListed ontology.now filler.now }
+    ensures { OnOk result (PutsGroup out.old out.new keyword.now (bounded_items ontology.now number role filler.now)) }
 {
     put(out, keyword)?;
     put(out, b"(")?;
@@ -128,8 +128,8 @@ fn put_role_and_filler(
     ontology: &Ontology,
 ) -> Result<(), NoMemory>
     requires role { role < length ontology.now.roles }
-    requires filler { IsTrue (uses_listed (length ontology.now.classes) (length ontology.now.roles) filler.now) }
-    ensures { OnOk result (out.new.items ≡ out.old.items ++ items_text (role_text ontology.now role ∷ concept_text ontology.now filler.now ∷ [])) }
+    requires filler { UsesListed ontology.now filler.now }
+    ensures { OnOk result (Puts out.old out.new (items_text (restriction_items ontology.now role filler.now))) }
 {
     put_role(out, role, ontology)?;
     put(out, b" ")?;
@@ -144,8 +144,8 @@ pub(crate) fn put_parts(
     parts: &[Concept],
     ontology: &Ontology,
 ) -> Result<(), NoMemory>
-    requires { IsTrue (parts_use_listed (length ontology.now.classes) (length ontology.now.roles) (parts_of parts.now)) }
-    ensures { OnOk result (out.new.items ≡ out.old.items ++ group_text keyword.now (part_texts ontology.now (parts_of parts.now))) }
+    requires { PartsUseListed ontology.now parts.now }
+    ensures { OnOk result (PutsGroup out.old out.new keyword.now (class_texts ontology.now parts.now)) }
 {
     put(out, keyword)?;
     put(out, b"(")?;
@@ -155,8 +155,8 @@ pub(crate) fn put_parts(
 
 #[cycle(concepts)]
 fn put_items(out: &mut Vec<u8>, parts: &[Concept], ontology: &Ontology) -> Result<(), NoMemory>
-    requires { IsTrue (parts_use_listed (length ontology.now.classes) (length ontology.now.roles) (parts_of parts.now)) }
-    ensures { OnOk result (out.new.items ≡ out.old.items ++ items_text (part_texts ontology.now (parts_of parts.now))) }
+    requires { PartsUseListed ontology.now parts.now }
+    ensures { OnOk result (Puts out.old out.new (items_text (class_texts ontology.now parts.now))) }
 {
     match parts {
         [] => Ok(()),
@@ -174,8 +174,8 @@ pub(crate) fn put_spaced(
     parts: &[Concept],
     ontology: &Ontology,
 ) -> Result<(), NoMemory>
-    requires { IsTrue (parts_use_listed (length ontology.now.classes) (length ontology.now.roles) (parts_of parts.now)) }
-    ensures { OnOk result (out.new.items ≡ out.old.items ++ spaced (part_texts ontology.now (parts_of parts.now))) }
+    requires { PartsUseListed ontology.now parts.now }
+    ensures { OnOk result (Puts out.old out.new (spaced (class_texts ontology.now parts.now))) }
 {
     for part in parts {
         put(out, b" ")?;

@@ -2,6 +2,7 @@
 ghost use Rattle.std.specs.Prelude.{◌≡◌, ◌++◌, ◌∷◌, [], OnOk, OnErr, IsTrue, length, codes};
 ghost use Rattle.shq_terms.specs.Uses.{axiom_uses_listed};
 ghost use Rattle.ofn_writer.specs.Canonical.{iri_text, group_text, line, declaration_text, declaration_lines, axiom_text, axiom_lines, ontology_text};
+ghost use Rattle.ofn_writer.specs.Puts.{Puts};
 
 use crate::NoMemory;
 use crate::axioms::put_axiom;
@@ -9,7 +10,7 @@ use crate::pieces::{put, put_iri, put_whole};
 use shq_terms::{Axiom, Ontology};
 
 fn put_declaration(out: &mut Vec<u8>, kind: &[u8], iri: &str) -> Result<(), NoMemory>
-    ensures { OnOk result (out.new.items ≡ out.old.items ++ line (declaration_text kind.now iri.now)) }
+    ensures { OnOk result (Puts out.old out.new (line (declaration_text kind.now iri.now))) }
 {
     put(out, b"Declaration(")?;
     put_entity(out, kind, iri)?;
@@ -17,7 +18,7 @@ fn put_declaration(out: &mut Vec<u8>, kind: &[u8], iri: &str) -> Result<(), NoMe
 }
 
 fn put_entity(out: &mut Vec<u8>, kind: &[u8], iri: &str) -> Result<(), NoMemory>
-    ensures { OnOk result (out.new.items ≡ out.old.items ++ group_text kind.now (iri_text iri.now ∷ [])) }
+    ensures { OnOk result (Puts out.old out.new (group_text kind.now (iri_text iri.now ∷ []))) }
 {
     put(out, kind)?;
     put(out, b"(")?;
@@ -26,7 +27,7 @@ fn put_entity(out: &mut Vec<u8>, kind: &[u8], iri: &str) -> Result<(), NoMemory>
 }
 
 fn put_classes(out: &mut Vec<u8>, ontology: &Ontology) -> Result<(), NoMemory>
-    ensures { OnOk result (out.new.items ≡ out.old.items ++ declaration_lines (codes "Class") ontology.now.classes) }
+    ensures { OnOk result (Puts out.old out.new (declaration_lines (codes "Class") ontology.now.classes)) }
 {
     for class in 0..ontology.class_count() {
         put_declaration(out, b"Class", ontology.class_name(class))?;
@@ -35,7 +36,7 @@ fn put_classes(out: &mut Vec<u8>, ontology: &Ontology) -> Result<(), NoMemory>
 }
 
 fn put_roles(out: &mut Vec<u8>, ontology: &Ontology) -> Result<(), NoMemory>
-    ensures { OnOk result (out.new.items ≡ out.old.items ++ declaration_lines (codes "ObjectProperty") ontology.now.roles) }
+    ensures { OnOk result (Puts out.old out.new (declaration_lines (codes "ObjectProperty") ontology.now.roles)) }
 {
     for role in 0..ontology.role_count() {
         put_declaration(out, b"ObjectProperty", ontology.role_name(role))?;
@@ -45,14 +46,14 @@ fn put_roles(out: &mut Vec<u8>, ontology: &Ontology) -> Result<(), NoMemory>
 
 fn put_axiom_line(out: &mut Vec<u8>, axiom: &Axiom, ontology: &Ontology) -> Result<(), NoMemory>
     requires { IsTrue (axiom_uses_listed (length ontology.now.classes) (length ontology.now.roles) «axiom».now) }
-    ensures { OnOk result (out.new.items ≡ out.old.items ++ line (axiom_text ontology.now «axiom».now)) }
+    ensures { OnOk result (Puts out.old out.new (line (axiom_text ontology.now «axiom».now))) }
 {
     put_axiom(out, axiom, ontology)?;
     put(out, b"\n")
 }
 
 fn put_axioms(out: &mut Vec<u8>, ontology: &Ontology) -> Result<(), NoMemory>
-    ensures { OnOk result (out.new.items ≡ out.old.items ++ axiom_lines ontology.now ontology.now.axioms) }
+    ensures { OnOk result (Puts out.old out.new (axiom_lines ontology.now ontology.now.axioms)) }
 {
     for numbered in ontology.axioms() {
         put_axiom_line(out, &numbered.axiom, ontology)?;
@@ -61,7 +62,7 @@ fn put_axioms(out: &mut Vec<u8>, ontology: &Ontology) -> Result<(), NoMemory>
 }
 
 fn put_ontology(out: &mut Vec<u8>, ontology: &Ontology) -> Result<(), NoMemory>
-    ensures { OnOk result (out.new.items ≡ out.old.items ++ ontology_text ontology.now) }
+    ensures { OnOk result (Puts out.old out.new (ontology_text ontology.now)) }
 {
     put(out, b"Ontology(\n")?;
     put_classes(out, ontology)?;
