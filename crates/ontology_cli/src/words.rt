@@ -1,7 +1,7 @@
 // The words of the command line.
-ghost use Rattle.std.specs.Prelude.{◌≡◌, List, String, drop, IfOk};
-ghost use Rattle.std.specs.Iterator.{IsFinite, Drains};
-ghost use Rattle.std.specs.declared.alloc.Global.{Global};
+ghost use Rattle.std.specs.Prelude.{IfOk};
+ghost use Rattle.std.specs.Iterator.{IsFinite};
+ghost use Rattle.ontology_cli.specs.Words.{IsRestAfterFirst};
 
 use std::alloc::{AllocError, Global};
 use std::{env, io};
@@ -26,7 +26,7 @@ pub(crate) fn words_after_name<I: Iterator<Item = String> + Drop>(
 ) -> Result<Vec<String>, AllocError>
     requires can { I.can_next args }
     requires ends { IsFinite (I.remaining args) }
-    ensures { IfOk result (λ words. (all : List (String Global)) × Drains I.next_gives args all × (words.items ≡ drop 1 all)) }
+    ensures { IfOk result (λ words. IsRestAfterFirst I.next_gives args words.items) }
 {
     let mut words: Vec<String> = args.collect(alloc)?;
     if !words.is_empty() {
