@@ -8,7 +8,7 @@ use Rattle.shq_terms.specs.Uses.{uses_listed, parts_use_listed}
 use Rattle.ofn_tree.specs.Items.{Item, items_of, nesting, nesting_all}
 use Rattle.ofn_expressions.specs.Counts.{Counts}
 use Rattle.ofn_expressions.specs.Walk.{Test, walked}
-use Rattle.ofn_expressions.specs.Classes.{item_count, class_tests, role_tests, roles_tests, each_class, concepts_of, roles_of, Keeps, IsListed, AreListed, IsListedRole, AreListedRoles, Means, MeanAll, MeansRole, MeanRoles, joined}
+use Rattle.ofn_expressions.specs.Classes.{item_count, class_tests, classes_tests, role_tests, roles_tests, concepts_of, roles_of, Keeps, IsListed, AreListed, IsListedRole, AreListedRoles, Means, MeanAll, MeansRole, MeanRoles}
 use Rattle.ofn_expressions.specs.Names.{Prefix}
 use Rattle.ofn_expressions.specs.Parts.{put_parts}
 use Rattle.ofn_expressions.specs.declared.refusal.Refusal.{Refusal}
@@ -57,9 +57,6 @@ module _ (f : Item → List Test) (all : List Item → List Test) (cons : (i : I
 
     pub tests_stop : (s : Counts) (e : Refusal) (told : Result Counts Refusal) → walked s (f i) ≡ Err e → told ≡ walked s (all (drop k items)) → told ≡ Err e
     tests_stop s e told one so_far = so_far ∙ ap (walked s) next ∙ stops s (f i) (all (drop (k + 1) items)) e one
-
-abbrev pub classes_tests : List Prefix → List Item → List Test
-classes_tests ps is = joined (each_class ps (items_of is))
 
 pub classes_cons : (ps : List Prefix) (i : Item) (is : List Item) → classes_tests ps (i ∷ is) ≡ class_tests ps i ++ classes_tests ps is
 classes_cons ps i is = refl

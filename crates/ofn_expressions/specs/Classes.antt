@@ -4,8 +4,9 @@ use Rattle.std.specs.List.{list_all}
 use Rattle.std.specs.Str.{bytes_eq}
 use Rattle.std.specs.Str.Parse.{digits_value}
 use Rattle.shq_base.specs.Concept.{Concept, top, bottom, name, complement, intersection, union, some_of, all_of, at_least, at_most, exactly, Parts, no_parts, part}
-use Rattle.shq_terms.specs.Uses.{uses_listed, parts_use_listed}
-use Rattle.ofn_tree.specs.Items.{Item, name_item, iri_item, literal_item, sign_item, group_item, Items, no_items, item}
+use Rattle.shq_terms.specs.Uses.{uses_listed, parts_use_listed, axiom_uses_listed}
+use Rattle.shq_terms.specs.declared.axioms.Axiom.{Axiom}
+use Rattle.ofn_tree.specs.Items.{Item, name_item, iri_item, literal_item, sign_item, group_item, Items, no_items, item, items_of}
 use Rattle.ofn_expressions.specs.Counts.{Counts}
 use Rattle.ofn_expressions.specs.Walk.{Test, shape, outside, nodes, class, role, number}
 use Rattle.ofn_expressions.specs.Names.{Prefix, item_line, name_tests, iri_of}
@@ -159,6 +160,23 @@ abbrev mutual
   each_class ps no_items = []
   each_class ps (item i is) = class_tests ps i ∷ each_class ps is
 
+-- the tests of class expressions in a row, of the items of a group after its head, and of the whole group by its text
+abbrev pub classes_tests : List Prefix → List Item → List Test
+classes_tests ps is = joined (each_class ps (items_of is))
+
+abbrev pub operands_tests : List Prefix → ClassKeyword → List Item → List Test
+operands_tests ps k is = operand_tests ps k (items_of is) (each_class ps (items_of is))
+
+abbrev pub text_group_tests : List Prefix → List ℕ → ℕ → List Item → List Test
+text_group_tests ps text line is = group_tests ps (class_keyword text) line (items_of is) (each_class ps (items_of is))
+
+-- the tests of a role and a filler, and those of a number, a role and the filler that there may be
+abbrev pub restriction_tests : List Prefix → Item → Item → List Test
+restriction_tests ps r filler = role_tests ps r ++ class_tests ps filler
+
+abbrev pub cardinality_tests : List Prefix → Item → Item → List Item → List Test
+cardinality_tests ps n r filler = number_tests n ++ (role_tests ps r ++ classes_tests ps filler)
+
 -- What items stand for. The number of a name is its place in the list of names.
 abbrev pub place : List ℕ → List (List ℕ) → Option ℕ
 place w names = position (bytes_eq w) names
@@ -250,19 +268,50 @@ IsListedRole s r = nat_lt r (length s.roles) ≡ true
 abbrev pub AreListedRoles : Counts → List ℕ → Type 0
 AreListedRoles s rs = list_all (λ r. nat_lt r (length s.roles)) rs ≡ true
 
--- what an item stands for as a class expression, whatever names are listed later
+-- the names of the axiom are listed
+abbrev pub IsListedAxiom : Counts → Axiom → Type 0
+IsListedAxiom s a = axiom_uses_listed (length s.classes) (length s.roles) a ≡ true
+
+-- Which class expression is meant by the names, whatever names are listed later. Its own names are listed.
+abbrev pub MeansClass : Counts → (Counts → Concept) → Concept → Type 0
+MeansClass s meant c = (later : Counts) → Keeps s later → (meant later ≡ c) × IsListed later c
+
+-- what an item stands for as a class expression
 abbrev pub Means : List Prefix → Counts → Item → Concept → Type 0
-Means ps s i c = (later : Counts) → Keeps s later → (concept_of ps later i ≡ c) × IsListed later c
+Means ps s i c = MeansClass s (λ later. concept_of ps later i) c
 
 abbrev pub MeanAll : List Prefix → Counts → Items → Parts → Type 0
 MeanAll ps s is cs = (later : Counts) → Keeps s later → (concepts_of ps later is ≡ cs) × AreListed later cs
 
--- and as a class name, or as a role
+-- what a group stands for, by its keyword and its items
+abbrev pub MeansGroup : List Prefix → Counts → Keyword → List Item → Concept → Type 0
+MeansGroup ps s k is c = MeansClass s (λ later. made ps later k (items_of is) (concepts_of ps later (items_of is))) c
+
+-- the same by its parts: a quantifier, a role and a filler, or a bound, a number, a role and the filler that there may be
+abbrev pub MeansRestriction : List Prefix → Counts → Quantifier → Item → Item → Concept → Type 0
+MeansRestriction ps s q r filler c = MeansClass s (λ later. quantified q (role_of ps later r) (concept_of ps later filler)) c
+
+abbrev pub MeansCardinality : List Prefix → Counts → Bound → Item → Item → List Item → Concept → Type 0
+MeansCardinality ps s b n r filler c =
+    MeansClass s (λ later. bounded b (cardinality_of n) (role_of ps later r) (first (concepts_of ps later (items_of filler)))) c
+
+-- the filler after a number and a role, or else `owl:Thing`
+abbrev pub MeansFiller : List Prefix → Counts → List Item → Concept → Type 0
+MeansFiller ps s filler c = MeansClass s (λ later. first (concepts_of ps later (items_of filler))) c
+
+-- what an IRI stands for as a class name, or as a role
+abbrev pub NamesClass : Counts → List ℕ → Concept → Type 0
+NamesClass s iri c = MeansClass s (λ later. class_named later iri) c
+
+abbrev pub NamesRole : Counts → List ℕ → ℕ → Type 0
+NamesRole s iri r = (later : Counts) → Keeps s later → (role_named later iri ≡ r) × IsListedRole later r
+
+-- and what an item does
 abbrev pub MeansName : List Prefix → Counts → Item → Concept → Type 0
-MeansName ps s i c = (later : Counts) → Keeps s later → (class_named later (iri_of ps i) ≡ c) × IsListed later c
+MeansName ps s i c = NamesClass s (iri_of ps i) c
 
 abbrev pub MeansRole : List Prefix → Counts → Item → ℕ → Type 0
-MeansRole ps s i r = (later : Counts) → Keeps s later → (role_of ps later i ≡ r) × IsListedRole later r
+MeansRole ps s i r = NamesRole s (iri_of ps i) r
 
 abbrev pub MeanRoles : List Prefix → Counts → Items → List ℕ → Type 0
 MeanRoles ps s is rs = (later : Counts) → Keeps s later → (roles_of ps later is ≡ rs) × AreListedRoles later rs

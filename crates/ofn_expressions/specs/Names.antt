@@ -1,5 +1,5 @@
 -- Names as they stand in a text: which tests they meet, and which IRI they stand for.
-use Rattle.std.specs.Prelude.{ℕ, Bool, false, List, [], ◌∷◌, ◌++◌, nat_eq, Option, Some, None, is_some, codes, if◌then◌else◌, String, string_bytes}
+use Rattle.std.specs.Prelude.{ℕ, Bool, false, List, [], ◌∷◌, ◌++◌, map, nat_eq, Option, Some, None, is_some, codes, if◌then◌else◌, String, string_bytes}
 use Rattle.std.specs.List.{list_any, before_first, after_first}
 use Rattle.std.specs.Str.{bytes_eq}
 use Rattle.ofn_tree.specs.Items.{Item, name_item, iri_item, literal_item, sign_item, group_item}
@@ -13,6 +13,10 @@ pub record Prefix : Type 0 where
 -- a prefix of texts
 abbrev pub entry : {Y Z : Type 0} → String Y × String Z → Prefix
 entry e = record { name = string_bytes e.0; iri = string_bytes e.1 }
+
+-- the prefixes of texts, and one more put last
+abbrev pub with_last : {Y Z : Type 0} → List (String Y × String Z) → String Y → String Z → List Prefix
+with_last es name iri = map entry es ++ entry (name, iri) ∷ []
 
 -- the prefixes that every document begins with
 unfoldable pub predeclared : List Prefix

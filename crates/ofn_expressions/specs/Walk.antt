@@ -3,7 +3,7 @@ use Rattle.std.specs.Prelude.{◌≡◌, ◌≢◌, ℕ, ◌+◌, Bool, false, c
 use Rattle.shq_terms.specs.Names.{with_name}
 use Rattle.shq_terms.specs.declared.add_fault.AddFault.{AddFault}
 use Rattle.shq_terms.specs.declared.add_fault.AddFault.TheVariants as fault
-use Rattle.ofn_expressions.specs.Counts.{Counts}
+use Rattle.ofn_expressions.specs.Counts.{Counts, State}
 use Rattle.ofn_expressions.specs.declared.construct.Construct.{Construct}
 use Rattle.ofn_expressions.specs.declared.refusal.Refusal.{Refusal}
 use Rattle.ofn_expressions.specs.declared.refusal.Refusal.TheVariants.{BadShape, UnknownPrefix, PrefixClash, Outside, NotSimple, Limit, NoMemory}
@@ -99,10 +99,18 @@ verdict (Some e) s = Err e
 abbrev pub walked : Counts → List Test → Result Counts Refusal
 walked s ts = verdict (first_failing (outcomes s ts)) (after_all s ts)
 
+-- a refusal is what the tests say, unless memory was refused
+abbrev pub RefusalAgrees : Result Counts Refusal → Refusal → Type 0
+RefusalAgrees said e = e ≢ NoMemory → said ≡ Err e
+
 -- what a reader gives is what the tests say, unless memory was refused
 abbrev pub AgreesWithTests : {X : Type 0} → Result X Refusal → Counts → Result Counts Refusal → Type 0
 AgreesWithTests (Ok x) new said = said ≡ Ok new
-AgreesWithTests (Err e) new said = e ≢ NoMemory → said ≡ Err e
+AgreesWithTests (Err e) new said = RefusalAgrees said e
 
 abbrev pub Judged : {X : Type 0} → Result X Refusal → Counts → List Test → Counts → Type 0
 Judged result old ts new = AgreesWithTests result new (walked old ts)
+
+-- what a reader gives, and the counts that stand after it, are what the tests say of those before it
+abbrev pub Tested : {X : Type 0} → Result X Refusal → State → List Test → State → Type 0
+Tested result old ts new = Judged result old.counts ts new.counts

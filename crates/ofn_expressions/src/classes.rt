@@ -1,13 +1,12 @@
 // Class expressions.
-ghost use Rattle.std.specs.Prelude.{◌≡◌, ◌≢◌, IfErr, ◌<◌, ◌≤◌, ◌∷◌, ◌++◌, [], IfOk, OnOk, OnErr, length, true};
+ghost use Rattle.std.specs.Prelude.{◌≡◌, ◌≢◌, IfErr, ◌<◌, ◌≤◌, ◌∷◌, ◌++◌, [], IfOk, OnOk, length, true};
 ghost use Rattle.shq_base.specs.Concept.{parts_of};
 ghost use Rattle.ofn_tree.specs.Items.{items_of};
-ghost use Rattle.ofn_expressions.specs.Counts.{Counts, Grows};
-ghost use Rattle.ofn_expressions.specs.Walk.{Judged};
-ghost use Rattle.ofn_expressions.specs.Names.{iri_of};
+ghost use Rattle.ofn_expressions.specs.Counts.{Grows};
+ghost use Rattle.ofn_expressions.specs.Walk.{Tested};
 ghost use Rattle.ofn_expressions.specs.Keywords.{class_keyword};
 ghost use Rattle.ofn_expressions.specs.declared.keywords.Keyword.TheVariants.{Class};
-ghost use Rattle.ofn_expressions.specs.Classes.{class_tests, each_class, joined, head_tests, operand_tests, group_tests, class_name_tests, declared_class_tests, listed_class, role_tests, number_tests, cardinality_of, role_of, concept_of, concepts_of, class_named, Keeps, Means, MeanAll, MeansName, IsListed, fits, node_count, made, first, quantified, bounded};
+ghost use Rattle.ofn_expressions.specs.Classes.{class_tests, classes_tests, head_tests, operands_tests, restriction_tests, cardinality_tests, text_group_tests, class_name_tests, declared_class_tests, listed_class, Means, MeanAll, MeansName, MeansGroup, MeansRestriction, MeansCardinality, MeansFiller, NamesClass, fits, node_count, quantified, bounded};
 
 use crate::keywords::{Bound, ClassKeyword, Keyword, Quantifier, class_keyword};
 use crate::names::{item_line, read_iri};
@@ -32,7 +31,7 @@ pub fn read_class(
     prefixes: &Prefixes,
     state: &mut Reading,
 ) -> Result<Concept, Refusal>
-    ensures tests { Judged result state.old.counts (class_tests prefixes.now tree.now) state.new.counts }
+    ensures tests { Tested result state.old (class_tests prefixes.now tree.now) state.new }
     ensures grown { Grows state.old state.new }
     ensures value { IfOk result (Means prefixes.now state.new.counts tree.now) }
 {
@@ -61,7 +60,7 @@ pub fn read_class_name(
     prefixes: &Prefixes,
     state: &mut Reading,
 ) -> Result<Concept, Refusal>
-    ensures tests { Judged result state.old.counts (class_name_tests prefixes.now tree.now) state.new.counts }
+    ensures tests { Tested result state.old (class_name_tests prefixes.now tree.now) state.new }
     ensures grown { Grows state.old state.new }
     ensures value { IfOk result (MeansName prefixes.now state.new.counts tree.now) }
 {
@@ -73,9 +72,9 @@ pub fn read_class_name(
 
 #[tactic(auto, using(crate::proofs::Kept::place_within, crate::proofs::Growing::grows_grows, crate::proofs::Growing::grows_same), unfolding(crate::specs::Classes::is_thing, crate::specs::Classes::is_nothing))]
 fn list_class(iri: &str, line: u32, state: &mut Reading) -> Result<Concept, Refusal>
-    ensures tests { Judged result state.old.counts (listed_class line iri.now) state.new.counts }
+    ensures tests { Tested result state.old (listed_class line iri.now) state.new }
     ensures grown { Grows state.old state.new }
-    ensures value { IfOk result (λ c. (later : Counts) → Keeps state.new.counts later → (class_named later iri.now ≡ c) × IsListed later c) }
+    ensures value { IfOk result (NamesClass state.new.counts iri.now) }
 {
     match iri {
         "http://www.w3.org/2002/07/owl#Thing" => Ok(Concept { node: Node::Top }),
@@ -102,7 +101,7 @@ pub fn declare_class(
     prefixes: &Prefixes,
     state: &mut Reading,
 ) -> Result<(), Refusal>
-    ensures tests { Judged result state.old.counts (declared_class_tests prefixes.now tree.now) state.new.counts }
+    ensures tests { Tested result state.old (declared_class_tests prefixes.now tree.now) state.new }
     ensures grown { Grows state.old state.new }
 {
     let iri = read_iri(alloc, tree, prefixes)?;
@@ -139,7 +138,7 @@ fn read_head(
     line: u32,
     state: &mut Reading,
 ) -> Result<ClassKeyword, Refusal>
-    ensures tests { Judged result state.old.counts (head_tests (class_keyword text.now) line count) state.new.counts }
+    ensures tests { Tested result state.old (head_tests (class_keyword text.now) line count) state.new }
     ensures grown { Grows state.old state.new }
     ensures keyword { IfOk result (λ k. (class_keyword text.now ≡ Class k) × (fits k count ≡ true)) }
     ensures takes_no_memory { IfErr result (λ e. e ≢ Refusal.NoMemory) }
@@ -166,9 +165,9 @@ fn read_group(
     prefixes: &Prefixes,
     state: &mut Reading,
 ) -> Result<Concept, Refusal>
-    ensures tests { Judged result state.old.counts (group_tests prefixes.now (class_keyword text.now) line (items_of items.now) (each_class prefixes.now (items_of items.now))) state.new.counts }
+    ensures tests { Tested result state.old (text_group_tests prefixes.now text.now line items.now) state.new }
     ensures grown { Grows state.old state.new }
-    ensures value { IfOk result (λ c. (later : Counts) → Keeps state.new.counts later → (made prefixes.now later (class_keyword text.now) (items_of items.now) (concepts_of prefixes.now later (items_of items.now)) ≡ c) × IsListed later c) }
+    ensures value { IfOk result (MeansGroup prefixes.now state.new.counts (class_keyword text.now) items.now) }
 {
     let keyword = read_head(text, items.len(), line, state)?;
     read_operands(alloc, keyword, items, prefixes, state)
@@ -184,9 +183,9 @@ fn read_operands(
     state: &mut Reading,
 ) -> Result<Concept, Refusal>
     requires { fits keyword (length items.now) ≡ true }
-    ensures tests { Judged result state.old.counts (operand_tests prefixes.now keyword (items_of items.now) (each_class prefixes.now (items_of items.now))) state.new.counts }
+    ensures tests { Tested result state.old (operands_tests prefixes.now keyword items.now) state.new }
     ensures grown { Grows state.old state.new }
-    ensures value { IfOk result (λ c. (later : Counts) → Keeps state.new.counts later → (made prefixes.now later (Class keyword) (items_of items.now) (concepts_of prefixes.now later (items_of items.now)) ≡ c) × IsListed later c) }
+    ensures value { IfOk result (MeansGroup prefixes.now state.new.counts (Class keyword) items.now) }
 {
     match keyword {
         ClassKeyword::Intersection => Ok(Concept {
@@ -225,9 +224,9 @@ fn read_restriction(
     prefixes: &Prefixes,
     state: &mut Reading,
 ) -> Result<Concept, Refusal>
-    ensures tests { Judged result state.old.counts (role_tests prefixes.now role.now ++ class_tests prefixes.now filler.now) state.new.counts }
+    ensures tests { Tested result state.old (restriction_tests prefixes.now role.now filler.now) state.new }
     ensures grown { Grows state.old state.new }
-    ensures value { IfOk result (λ c. (later : Counts) → Keeps state.new.counts later → (quantified quantifier (role_of prefixes.now later role.now) (concept_of prefixes.now later filler.now) ≡ c) × IsListed later c) }
+    ensures value { IfOk result (MeansRestriction prefixes.now state.new.counts quantifier role.now filler.now) }
 {
     let role = read_role(alloc, role, prefixes, state)?;
     let filler = read_boxed(alloc, filler, prefixes, state)?;
@@ -256,9 +255,9 @@ fn read_cardinality(
     state: &mut Reading,
 ) -> Result<Concept, Refusal>
     requires { length filler.now ≤ 1 }
-    ensures tests { Judged result state.old.counts (number_tests number.now ++ (role_tests prefixes.now role.now ++ joined (each_class prefixes.now (items_of filler.now)))) state.new.counts }
+    ensures tests { Tested result state.old (cardinality_tests prefixes.now number.now role.now filler.now) state.new }
     ensures grown { Grows state.old state.new }
-    ensures value { IfOk result (λ c. (later : Counts) → Keeps state.new.counts later → (bounded bound (cardinality_of number.now) (role_of prefixes.now later role.now) (first (concepts_of prefixes.now later (items_of filler.now))) ≡ c) × IsListed later c) }
+    ensures value { IfOk result (MeansCardinality prefixes.now state.new.counts bound number.now role.now filler.now) }
 {
     let number = read_number(number)?;
     let role = read_role(alloc, role, prefixes, state)?;
@@ -287,9 +286,9 @@ fn read_filler(
     state: &mut Reading,
 ) -> Result<Box<Concept>, Refusal>
     requires { length items.now ≤ 1 }
-    ensures tests { Judged result state.old.counts (joined (each_class prefixes.now (items_of items.now))) state.new.counts }
+    ensures tests { Tested result state.old (classes_tests prefixes.now items.now) state.new }
     ensures grown { Grows state.old state.new }
-    ensures value { IfOk result (λ c. (later : Counts) → Keeps state.new.counts later → (first (concepts_of prefixes.now later (items_of items.now)) ≡ c.value) × IsListed later c.value) }
+    ensures value { IfOk result (λ c. MeansFiller prefixes.now state.new.counts items.now c.value) }
 {
     match items.first() {
         Some(item) => read_boxed(alloc, item, prefixes, state),
@@ -305,7 +304,7 @@ fn read_boxed(
     prefixes: &Prefixes,
     state: &mut Reading,
 ) -> Result<Box<Concept>, Refusal>
-    ensures tests { Judged result state.old.counts (class_tests prefixes.now tree.now) state.new.counts }
+    ensures tests { Tested result state.old (class_tests prefixes.now tree.now) state.new }
     ensures grown { Grows state.old state.new }
     ensures value { IfOk result (λ c. Means prefixes.now state.new.counts tree.now c.value) }
 {
@@ -320,7 +319,7 @@ fn read_operand_list(
     prefixes: &Prefixes,
     state: &mut Reading,
 ) -> Result<Vec<Concept>, Refusal>
-    ensures tests { Judged result state.old.counts (joined (each_class prefixes.now (items_of items.now))) state.new.counts }
+    ensures tests { Tested result state.old (classes_tests prefixes.now items.now) state.new }
     ensures grown { Grows state.old state.new }
     ensures value { IfOk result (λ cs. MeanAll prefixes.now state.new.counts (items_of items.now) (parts_of cs.items)) }
 {
@@ -352,7 +351,7 @@ pub fn read_classes(
     prefixes: &Prefixes,
     state: &mut Reading,
 ) -> Result<ConceptList, Refusal>
-    ensures tests { Judged result state.old.counts (joined (each_class prefixes.now (items_of items.now))) state.new.counts }
+    ensures tests { Tested result state.old (classes_tests prefixes.now items.now) state.new }
     ensures grown { Grows state.old state.new }
     ensures value { IfOk result (λ cs. MeanAll prefixes.now state.new.counts (items_of items.now) (parts_of cs)) }
 {

@@ -1,6 +1,6 @@
 // Prefix names, and the IRIs that they stand for.
 ghost use Rattle.std.specs.Prelude.{◌≡◌, ◌∷◌, ◌++◌, [], IfOk, OnOk, OnErr, option_map, None, map, string_bytes};
-ghost use Rattle.ofn_expressions.specs.Names.{predeclared, prefix_iri, entry};
+ghost use Rattle.ofn_expressions.specs.Names.{predeclared, prefix_iri, entry, with_last};
 
 use indexmap::IndexMap;
 use shq_base::NoMemory;
@@ -79,7 +79,7 @@ fn insert_new(
     iri: String,
 ) -> Result<(), NoMemory>
     requires { prefix_iri (map entry entries.old.entries) (string_bytes name) ≡ None }
-    ensures pushed { OnOk result (map entry entries.new.entries ≡ map entry entries.old.entries ++ entry (name, iri) ∷ []) }
+    ensures pushed { OnOk result (map entry entries.new.entries ≡ with_last entries.old.entries name iri) }
     ensures unchanged { OnErr result (entries.new.entries ≡ entries.old.entries) }
 {
     entries.insert(name, iri)?;

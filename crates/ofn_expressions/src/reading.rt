@@ -1,9 +1,9 @@
 // What a reader has counted and listed so far.
-ghost use Rattle.std.specs.Prelude.{◌≡◌, ◌≢◌, ◌↔◌, Err, None, ◌≤◌, ◌<◌, ◌+◌, ◌∷◌, ◌++◌, [], length, take, true, IfOk, IfErr, OnOk, OnErr, Some, position};
+ghost use Rattle.std.specs.Prelude.{◌≡◌, ◌≢◌, ◌↔◌, Err, ◌≤◌, ◌<◌, ◌+◌, ◌∷◌, [], length, IfOk, IfErr, OnOk, OnErr, Some, position};
 ghost use Rattle.std.specs.Str.{bytes_eq};
-ghost use Rattle.shq_terms.specs.Uses.{axiom_uses_listed};
-ghost use Rattle.ofn_expressions.specs.Counts.{Grows};
-ghost use Rattle.ofn_expressions.specs.Walk.{Judged, add_refusal, numbered, parts, nodes, class, role};
+ghost use Rattle.ofn_expressions.specs.Counts.{Grows, ClassesAreFull, RolesAreFull, first_state, ontology_of, with_axiom_counted, with_axiom_read, with_parts_counted};
+ghost use Rattle.ofn_expressions.specs.Classes.{IsListedAxiom};
+ghost use Rattle.ofn_expressions.specs.Walk.{Tested, add_refusal, numbered, parts, nodes, class, role};
 
 use crate::{Refusal, Which};
 use shq_terms::{AddFault, Axiom, MAX_AXIOMS, MAX_CLASSES, MAX_ROLES, Ontology};
@@ -55,7 +55,7 @@ impl Reading {
     pub fn new(ontology: Ontology, axioms: u32, nodes: u32) -> Reading
         requires axioms { axioms ≤ MAX_AXIOMS }
         requires nodes { nodes ≤ MAX_NODES }
-        ensures { result ≡ record { counts = record { axioms = axioms; parts = 0; nodes = nodes; classes = ontology.classes; roles = ontology.roles }; read = ontology.axioms } }
+        ensures { result ≡ first_state ontology axioms nodes }
     {
         Reading {
             ontology,
@@ -71,8 +71,8 @@ impl Reading {
     ///
     /// The limit `Axioms`. Nothing is counted then.
     pub fn count_axiom(&mut self, line: u32) -> Result<(), Refusal>
-        ensures tests { Judged result self.old.counts (numbered line ∷ []) self.new.counts }
-        ensures counted { OnOk result (self.new ≡ record self.old { counts = record self.old.counts { axioms = self.old.counts.axioms + 1 } }) }
+        ensures tests { Tested result self.old (numbered line ∷ []) self.new }
+        ensures counted { OnOk result (self.new ≡ with_axiom_counted self.old) }
         ensures within { OnOk result (self.old.counts.axioms < MAX_AXIOMS) }
         ensures takes_no_memory { IfErr result (λ e. e ≢ Refusal.NoMemory) }
         ensures unchanged { OnErr result (self.new ≡ self.old) }
@@ -90,8 +90,8 @@ impl Reading {
     ///
     /// The limit `Parts`. Nothing is counted then.
     pub fn count_parts(&mut self, line: u32, count: u64) -> Result<(), Refusal>
-        ensures tests { Judged result self.old.counts (parts line count ∷ []) self.new.counts }
-        ensures counted { OnOk result (self.new ≡ record self.old { counts = record self.old.counts { parts = self.old.counts.parts + count } }) }
+        ensures tests { Tested result self.old (parts line count ∷ []) self.new }
+        ensures counted { OnOk result (self.new ≡ with_parts_counted self.old count) }
         ensures takes_no_memory { IfErr result (λ e. e ≢ Refusal.NoMemory) }
         ensures unchanged { OnErr result (self.new ≡ self.old) }
     {
@@ -105,7 +105,7 @@ impl Reading {
     /// Counts so many more nodes of a class expression. At the limit nothing is counted.
     #[tactic(auto, using(crate::proofs::Growing::grows_same))]
     pub(crate) fn count_nodes(&mut self, line: u32, count: u32) -> Result<(), Refusal>
-        ensures tests { Judged result self.old.counts (nodes line count ∷ []) self.new.counts }
+        ensures tests { Tested result self.old (nodes line count ∷ []) self.new }
         ensures grown { Grows self.old self.new }
         ensures takes_no_memory { IfErr result (λ e. e ≢ Refusal.NoMemory) }
     {
@@ -119,10 +119,10 @@ impl Reading {
     /// The number of a class, which is listed here. At the limit of names nothing is listed.
     #[tactic(auto, using(crate::proofs::Kept::place_listed, crate::proofs::Growing::grows_name, crate::proofs::Growing::grows_same))]
     pub(crate) fn add_class(&mut self, line: u32, name: &str) -> Result<u32, Refusal>
-        ensures tests { Judged result self.old.counts (class line name.now ∷ []) self.new.counts }
+        ensures tests { Tested result self.old (class line name.now ∷ []) self.new }
         ensures grown { Grows self.old self.new }
         ensures number { IfOk result (λ k. position (bytes_eq name.now) self.new.counts.classes ≡ Some k) }
-        ensures full { (result ≡ Err (Refusal.Limit Which.Classes line)) ↔ ((MAX_CLASSES ≤ length self.old.counts.classes) × (position (bytes_eq name.now) self.old.counts.classes ≡ None)) }
+        ensures full { (result ≡ Err (Refusal.Limit Which.Classes line)) ↔ ClassesAreFull self.old.counts name.now }
     {
         match self.ontology.add_class(name) {
             Ok(number) => Ok(number),
@@ -133,10 +133,10 @@ impl Reading {
     /// The number of a role, which is listed here. At the limit of names nothing is listed.
     #[tactic(auto, using(crate::proofs::Kept::place_listed, crate::proofs::Growing::grows_name, crate::proofs::Growing::grows_same))]
     pub(crate) fn add_role(&mut self, line: u32, name: &str) -> Result<u32, Refusal>
-        ensures tests { Judged result self.old.counts (role line name.now ∷ []) self.new.counts }
+        ensures tests { Tested result self.old (role line name.now ∷ []) self.new }
         ensures grown { Grows self.old self.new }
         ensures number { IfOk result (λ k. position (bytes_eq name.now) self.new.counts.roles ≡ Some k) }
-        ensures full { (result ≡ Err (Refusal.Limit Which.Roles line)) ↔ ((MAX_ROLES ≤ length self.old.counts.roles) × (position (bytes_eq name.now) self.old.counts.roles ≡ None)) }
+        ensures full { (result ≡ Err (Refusal.Limit Which.Roles line)) ↔ RolesAreFull self.old.counts name.now }
     {
         match self.ontology.add_role(name) {
             Ok(number) => Ok(number),
@@ -151,8 +151,8 @@ impl Reading {
     /// `NoMemory`. All is then as before.
     pub fn add_axiom(&mut self, axiom: Axiom, line: u32) -> Result<(), Refusal>
         requires room { length self.old.read < MAX_AXIOMS }
-        requires listed { axiom_uses_listed (length self.old.counts.classes) (length self.old.counts.roles) «axiom» ≡ true }
-        ensures added { OnOk result (self.new ≡ record self.old { read = self.old.read ++ record { «axiom» = «axiom»; line = line } ∷ [] }) }
+        requires listed { IsListedAxiom self.old.counts «axiom» }
+        ensures added { OnOk result (self.new ≡ with_axiom_read self.old «axiom» line) }
         ensures memory { IfErr result (λ e. e ≡ Refusal.NoMemory) }
         ensures unchanged { OnErr result (self.new ≡ self.old) }
     {
@@ -165,7 +165,7 @@ impl Reading {
 
     /// The ontology, and the count of nodes.
     pub fn into_parts(self) -> (Ontology, u32)
-        ensures ontology { result.0 ≡ record { axioms = self.read; classes = self.counts.classes; roles = self.counts.roles } }
+        ensures ontology { result.0 ≡ ontology_of self }
         ensures nodes { result.1 ≡ self.counts.nodes }
         ensures within { result.1 ≤ MAX_NODES }
     {

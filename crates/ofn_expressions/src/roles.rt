@@ -1,11 +1,10 @@
 // Roles.
-ghost use Rattle.std.specs.Prelude.{◌≡◌, ◌++◌, IfOk, OnOk};
+ghost use Rattle.std.specs.Prelude.{◌≡◌, IfOk};
 ghost use Rattle.ofn_tree.specs.Items.{items_of};
-ghost use Rattle.ofn_expressions.specs.Counts.{Counts, Grows};
-ghost use Rattle.ofn_expressions.specs.Walk.{Judged};
-ghost use Rattle.ofn_expressions.specs.Names.{iri_of};
+ghost use Rattle.ofn_expressions.specs.Counts.{Grows};
+ghost use Rattle.ofn_expressions.specs.Walk.{Tested};
 ghost use Rattle.ofn_expressions.specs.Constructs.{excluded_role_name};
-ghost use Rattle.ofn_expressions.specs.Classes.{role_tests, role_name_tests, roles_tests, role_group_refusal, declared_role_tests, listed_role, unless_excluded, role_named, Keeps, IsListedRole, MeansRole, MeanRoles};
+ghost use Rattle.ofn_expressions.specs.Classes.{role_tests, role_name_tests, roles_tests, role_group_refusal, declared_role_tests, listed_role, unless_excluded, MeansRole, MeanRoles, NamesRole};
 
 use crate::construct::{excluded_role, excluded_role_name};
 use crate::names::{item_line, read_iri};
@@ -27,7 +26,7 @@ pub fn read_role(
     prefixes: &Prefixes,
     state: &mut Reading,
 ) -> Result<u32, Refusal>
-    ensures tests { Judged result state.old.counts (role_tests prefixes.now tree.now) state.new.counts }
+    ensures tests { Tested result state.old (role_tests prefixes.now tree.now) state.new }
     ensures grown { Grows state.old state.new }
     ensures value { IfOk result (MeansRole prefixes.now state.new.counts tree.now) }
 {
@@ -57,7 +56,7 @@ fn read_role_name(
     prefixes: &Prefixes,
     state: &mut Reading,
 ) -> Result<u32, Refusal>
-    ensures tests { Judged result state.old.counts (role_name_tests prefixes.now tree.now) state.new.counts }
+    ensures tests { Tested result state.old (role_name_tests prefixes.now tree.now) state.new }
     ensures grown { Grows state.old state.new }
     ensures value { IfOk result (MeansRole prefixes.now state.new.counts tree.now) }
 {
@@ -67,9 +66,9 @@ fn read_role_name(
 
 #[tactic(auto, using(crate::proofs::Kept::place_within, crate::proofs::Growing::grows_grows, crate::proofs::Growing::grows_same))]
 fn list_role(iri: &str, line: u32, state: &mut Reading) -> Result<u32, Refusal>
-    ensures tests { Judged result state.old.counts (listed_role (excluded_role_name iri.now) line iri.now) state.new.counts }
+    ensures tests { Tested result state.old (listed_role (excluded_role_name iri.now) line iri.now) state.new }
     ensures grown { Grows state.old state.new }
-    ensures value { IfOk result (λ r. (later : Counts) → Keeps state.new.counts later → (role_named later iri.now ≡ r) × IsListedRole later r) }
+    ensures value { IfOk result (NamesRole state.new.counts iri.now) }
 {
     match excluded_role_name(iri) {
         Some(construct) => Err(Refusal::Outside(line, construct)),
@@ -90,7 +89,7 @@ pub fn declare_role(
     prefixes: &Prefixes,
     state: &mut Reading,
 ) -> Result<(), Refusal>
-    ensures tests { Judged result state.old.counts (declared_role_tests prefixes.now tree.now) state.new.counts }
+    ensures tests { Tested result state.old (declared_role_tests prefixes.now tree.now) state.new }
     ensures grown { Grows state.old state.new }
 {
     let iri = read_iri(alloc, tree, prefixes)?;
@@ -99,7 +98,7 @@ pub fn declare_role(
 
 #[tactic(auto, using(crate::proofs::Growing::grows_grows, crate::proofs::Growing::grows_same))]
 fn list_declared(iri: &str, line: u32, state: &mut Reading) -> Result<(), Refusal>
-    ensures tests { Judged result state.old.counts (unless_excluded (excluded_role_name iri.now) line iri.now) state.new.counts }
+    ensures tests { Tested result state.old (unless_excluded (excluded_role_name iri.now) line iri.now) state.new }
     ensures grown { Grows state.old state.new }
 {
     match excluded_role_name(iri) {
@@ -124,7 +123,7 @@ pub fn read_roles(
     prefixes: &Prefixes,
     state: &mut Reading,
 ) -> Result<NumberList, Refusal>
-    ensures tests { Judged result state.old.counts (roles_tests prefixes.now (items_of items.now)) state.new.counts }
+    ensures tests { Tested result state.old (roles_tests prefixes.now (items_of items.now)) state.new }
     ensures grown { Grows state.old state.new }
     ensures value { IfOk result (MeanRoles prefixes.now state.new.counts (items_of items.now)) }
 {

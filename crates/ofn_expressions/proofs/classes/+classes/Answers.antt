@@ -2,10 +2,10 @@ use Rattle.std.proofs.Common.{◌≡◌, arith, ap, sym, subst}
 use Rattle.std.proofs.lemmas.Result.{err_from_is_err_and}
 use Rattle.ofn_tree.specs.Items.{nesting, items_of}
 use Rattle.ofn_expressions.specs.Keywords.{class_keyword}
-use Rattle.ofn_expressions.specs.Classes.{class_tests, each_class}
+use Rattle.ofn_expressions.specs.Classes.{class_tests, classes_tests, each_class}
 use Rattle.ofn_expressions.proofs.Growing.{grows_grows}
 use Rattle.ofn_expressions.proofs.Groups.{group_stops, group_goes}
-use Rattle.ofn_expressions.proofs.Lists.{nesting_at, tests_step, tests_stop, value_step, value_done, classes_tests, classes_cons}
+use Rattle.ofn_expressions.proofs.Lists.{nesting_at, tests_step, tests_stop, value_step, value_done, classes_cons}
 use Rattle.ofn_expressions.specs.Classes.{cardinality_of, role_of, concept_of, concepts_of, first, quantified, bounded, IsListed}
 use Rattle.ofn_expressions.proofs.Operands.{restriction_means, cardinality_means, cardinality_value}
 use Rattle.ofn_expressions.proofs.classes.+classes.Goals as goal

@@ -1,7 +1,7 @@
 use Rattle.std.proofs.lemmas.Result.{err_from_is_err_and}
-use Rattle.ofn_expressions.specs.Classes.{class_tests}
+use Rattle.ofn_expressions.specs.Classes.{class_tests, classes_tests}
 use Rattle.ofn_expressions.proofs.Growing.{grows_grows}
-use Rattle.ofn_expressions.proofs.Lists.{tests_step, tests_stop, classes_tests, classes_cons, value_step, value_done}
+use Rattle.ofn_expressions.proofs.Lists.{tests_step, tests_stop, classes_cons, value_step, value_done}
 use Rattle.ofn_expressions.proofs.classes.read_classes.Goals as goal
 
 pub returns-in_err-concept-clause-tests : goal.returns-in_err-concept-clause-tests
