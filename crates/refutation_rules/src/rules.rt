@@ -206,8 +206,8 @@ impl<'a> Rules<'a> {
         branch.has(node, number)
     }
 
-    // How many numbers the table has.
-    pub(crate) fn len(&self) -> u32
+    /// How many concepts the table has, from number 0 on: a branch is to know none but these.
+    pub fn len(&self) -> u32
         ensures count { result ≡ length self.now.table }
         ensures table { IsTable self.now.table }
     {
