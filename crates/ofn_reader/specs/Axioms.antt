@@ -1,15 +1,14 @@
 -- The tests of the axioms of an ontology in the order of the walk, and what the axioms say.
-use Rattle.std.specs.Prelude.{◌≡◌, ℕ, ◌+◌, ◌-◌, ◌*◌, ◌/◌, Bool, true, false, List, [], ◌∷◌, ◌++◌, Some, None, length, nat_eq, nat_le}
+use Rattle.std.specs.Prelude.{◌≡◌, ℕ, ◌+◌, ◌-◌, ◌*◌, ◌/◌, Bool, false, List, [], ◌∷◌, ◌++◌, Some, None, nat_eq, nat_le}
 use Rattle.shq_base.specs.Concept.{part_list}
-use Rattle.shq_terms.specs.Uses.{axiom_uses_listed}
 use Rattle.shq_terms.specs.declared.axioms.Axiom.{Axiom}
 use Rattle.shq_terms.specs.declared.axioms.Axiom.TheVariants as A
 use Rattle.shq_terms.specs.declared.axioms.Numbered.{Numbered}
-use Rattle.ofn_tree.specs.Items.{Item, name_item, iri_item, literal_item, sign_item, group_item, Items, no_items, item}
-use Rattle.ofn_expressions.specs.Counts.{Counts}
+use Rattle.ofn_tree.specs.Items.{Item, name_item, iri_item, literal_item, sign_item, group_item, Items, no_items, item, items_of}
+use Rattle.ofn_expressions.specs.Counts.{Counts, State}
 use Rattle.ofn_expressions.specs.Walk.{Test, shape, outside, numbered, parts}
 use Rattle.ofn_expressions.specs.Names.{Prefix, iri_of}
-use Rattle.ofn_expressions.specs.Classes.{item_count, each_class, joined, class_name_tests, role_tests, roles_tests, class_named, concept_of, concepts_of, role_of, roles_of, Keeps}
+use Rattle.ofn_expressions.specs.Classes.{item_count, each_class, joined, class_tests, classes_tests, class_name_tests, role_tests, roles_tests, class_named, concept_of, concepts_of, role_of, roles_of, Keeps, IsListedAxiom}
 use Rattle.ofn_reader.specs.Keywords.{axiom_keyword}
 use Rattle.ofn_reader.specs.Groups.{without_annotations}
 use Rattle.ofn_reader.specs.Declarations.{declaration_tests}
@@ -75,6 +74,19 @@ operand_tests ps K.Range is = role_and_class_tests ps is
 operand_tests ps K.Functional is = roles_tests ps is
 operand_tests ps K.Transitive is = roles_tests ps is
 
+-- the same for two items, by what each must be, and for a class name before class expressions
+abbrev pub class_pair_tests : List Prefix → Item → Item → List Test
+class_pair_tests ps c d = class_tests ps c ++ (class_tests ps d ++ [])
+
+abbrev pub role_pair_tests : List Prefix → Item → Item → List Test
+role_pair_tests ps r s = role_tests ps r ++ (role_tests ps s ++ [])
+
+abbrev pub role_then_class_tests : List Prefix → Item → Item → List Test
+role_then_class_tests ps r c = role_tests ps r ++ (class_tests ps c ++ [])
+
+abbrev pub name_then_classes_tests : List Prefix → Item → List Item → List Test
+name_then_classes_tests ps c is = class_name_tests ps c ++ classes_tests ps is
+
 -- what is tested of a numbered axiom before its items: the count of axioms, the number of its items, the count of parts
 abbrev pub head_tests : AxiomKind → ℕ → ℕ → List Test
 head_tests k line n = numbered line ∷ shape line (axiom_fits k n) ∷ parts line (parts_by_item_count k n) ∷ []
@@ -89,6 +101,10 @@ axiom_group_tests ps W.Declaration line is = declaration_tests ps line is
 axiom_group_tests ps W.Annotation line is = []
 axiom_group_tests ps (W.Excluded c) line is = outside line c ∷ []
 axiom_group_tests ps W.Unknown line is = shape line false ∷ []
+
+-- the same for items as a list
+abbrev pub axiom_items_tests : List Prefix → AxiomKeyword → ℕ → List Item → List Test
+axiom_items_tests ps k line is = axiom_group_tests ps k line (items_of is)
 
 abbrev pub axiom_tests : List Prefix → Item → List Test
 axiom_tests ps (group_item (Some w) is line) = axiom_group_tests ps (axiom_keyword w) line (without_annotations is)
@@ -169,6 +185,22 @@ abbrev pub axioms_in : List Prefix → Counts → Items → List Numbered
 axioms_in ps s no_items = []
 axioms_in ps s (item i is) = axiom_in ps s i ++ axioms_in ps s is
 
+-- axioms, by the names that are listed, were read and put last
+abbrev pub AddsAxioms : State → State → (Counts → List Numbered) → Type 0
+AddsAxioms old new axioms = old.read ++ axioms new.counts ≡ new.read
+
+-- the same whatever names are listed later
+abbrev pub AddsAxiomsLater : State → State → (Counts → List Numbered) → Type 0
+AddsAxiomsLater old new axioms = (later : Counts) → Keeps new.counts later → old.read ++ axioms later ≡ new.read
+
+-- the same of the axiom of a group, if it is one
+abbrev pub AddsGroup : List Prefix → State → State → AxiomKeyword → ℕ → List Item → Type 0
+AddsGroup ps old new k line is = AddsAxiomsLater old new (λ later. axiom_group_in ps later k line (items_of is))
+
 -- which axiom the items of a group say, whatever names are listed later
 abbrev pub MeansAxiom : List Prefix → Counts → AxiomKind → Items → Axiom → Type 0
-MeansAxiom ps s k is a = (later : Counts) → Keeps s later → (axiom_made ps later k is ≡ a ∷ []) × (axiom_uses_listed (length later.classes) (length later.roles) a ≡ true)
+MeansAxiom ps s k is a = (later : Counts) → Keeps s later → (axiom_made ps later k is ≡ a ∷ []) × IsListedAxiom later a
+
+-- the same for items as a list
+abbrev pub ItemsSay : List Prefix → Counts → AxiomKind → List Item → Axiom → Type 0
+ItemsSay ps s k is a = MeansAxiom ps s k (items_of is) a

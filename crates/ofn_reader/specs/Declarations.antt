@@ -1,6 +1,6 @@
 -- The tests of declarations of entities.
 use Rattle.std.specs.Prelude.{ℕ, false, List, [], ◌∷◌, Some, None, nat_eq}
-use Rattle.ofn_tree.specs.Items.{Item, name_item, iri_item, literal_item, sign_item, group_item, Items, no_items, item}
+use Rattle.ofn_tree.specs.Items.{Item, name_item, iri_item, literal_item, sign_item, group_item, Items, no_items, item, items_of}
 use Rattle.ofn_expressions.specs.Walk.{Test, shape}
 use Rattle.ofn_expressions.specs.Names.{Prefix}
 use Rattle.ofn_expressions.specs.Classes.{item_count, declared_class_tests, declared_role_tests}
@@ -22,6 +22,10 @@ entity_group_tests ps E.Class line is = shape line (nat_eq (item_count is) 1) �
 entity_group_tests ps E.Role line is = shape line (nat_eq (item_count is) 1) ∷ declared_roles_tests ps is
 entity_group_tests ps E.Unlisted line is = shape line (nat_eq (item_count is) 1) ∷ []
 entity_group_tests ps E.Unknown line is = shape line false ∷ []
+
+-- the same for items as a list
+abbrev pub entity_items_tests : List Prefix → EntityKeyword → ℕ → List Item → List Test
+entity_items_tests ps k line is = entity_group_tests ps k line (items_of is)
 
 abbrev pub entity_tests : List Prefix → Item → List Test
 entity_tests ps (group_item (Some w) is line) = entity_group_tests ps (entity_keyword w) line is

@@ -66,10 +66,10 @@ abbrev pub document_tests : List Prefix → ℕ → List Item → List Test
 document_tests ps end is = form_tests ps end is ++ all_simple_tests (document_axioms ps (after_all start (form_tests ps end is)) is)
 
 -- these tests of the items hold, and the items say an ontology and what a query takes over
-abbrev pub DocumentIsRead : List Test → List Item → Listed → DocumentContext → Type 0
+abbrev pub DocumentIsRead : (List Item → List Test) → List Item → Listed → DocumentContext → Type 0
 DocumentIsRead tests is o kept =
     (behind : Counts)
-    × (walked start tests ≡ Ok behind)
+    × (walked start (tests is) ≡ Ok behind)
     × (o ≡ record { axioms = document_axioms predeclared behind is; classes = behind.classes; roles = behind.roles })
     × (kept ≡ record { prefixes = document_prefixes predeclared is; nodes = behind.nodes })
 

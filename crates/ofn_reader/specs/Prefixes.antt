@@ -13,9 +13,13 @@ abbrev pub name_before : Bool → List ℕ → Option (List ℕ)
 name_before true w = Some (prefix_part w)
 name_before false w = None
 
--- the prefix name that an item declares, without its colon: a name whose only colon is its last character
+-- the prefix name that a name declares, without its colon, which is its only one and its last character
+abbrev pub prefix_in : List ℕ → Option (List ℕ)
+prefix_in w = name_before (has_colon w && nat_eq (length (local_part w)) 0) w
+
+-- the prefix name that an item declares
 abbrev pub declared_name : Item → Option (List ℕ)
-declared_name (name_item w line) = name_before (has_colon w && nat_eq (length (local_part w)) 0) w
+declared_name (name_item w line) = prefix_in w
 declared_name (iri_item w line) = None
 declared_name (literal_item line) = None
 declared_name (sign_item k line) = None
@@ -48,13 +52,17 @@ abbrev pub agrees : Option (List ℕ) → List ℕ → Bool
 agrees None iri = true
 agrees (Some known) iri = bytes_eq known iri
 
+-- that a prefix name has no other IRI than this
+abbrev pub clash_tests : List Prefix → ℕ → List ℕ → List ℕ → List Test
+clash_tests ps line name iri = clash line (agrees (prefix_iri ps name) iri) ∷ []
+
 -- the name, the equals sign and the IRI by their shapes, and then that the prefix has no other IRI
 abbrev pub entry_tests : List Prefix → Item → Item → Item → List Test
 entry_tests ps n e i =
     shape (item_line n) (is_some (declared_name n))
     ∷ (shape (item_line e) (is_equals e)
     ∷ (shape (item_line i) (is_some (declared_iri i))
-    ∷ (clash (item_line n) (agrees (prefix_iri ps (or_empty (declared_name n))) (or_empty (declared_iri i))) ∷ [])))
+    ∷ clash_tests ps (item_line n) (or_empty (declared_name n)) (or_empty (declared_iri i))))
 
 -- The items of a declaration. Where they are fewer or more than three, a test before them fails.
 abbrev pub prefix_items_tests : List Prefix → Items → List Test
@@ -69,8 +77,12 @@ abbrev pub declared_at : Option (List ℕ) → List Prefix → List ℕ → List
 declared_at (Some known) ps name iri = ps
 declared_at None ps name iri = ps ++ record { name = name; iri = iri } ∷ []
 
+-- the prefixes after a prefix name was declared with an IRI
+abbrev pub with_declared : List Prefix → List ℕ → List ℕ → List Prefix
+with_declared ps name iri = declared_at (prefix_iri ps name) ps name iri
+
 abbrev pub with_entry : List Prefix → Item → Item → List Prefix
-with_entry ps n i = declared_at (prefix_iri ps (or_empty (declared_name n))) ps (or_empty (declared_name n)) (or_empty (declared_iri i))
+with_entry ps n i = with_declared ps (or_empty (declared_name n)) (or_empty (declared_iri i))
 
 abbrev pub with_prefix_items : List Prefix → Items → List Prefix
 with_prefix_items ps (item n (item e (item i is))) = with_entry ps n i

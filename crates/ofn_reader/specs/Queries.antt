@@ -1,5 +1,5 @@
 -- What a text says as a query on a document: an axiom, or a class expression.
-use Rattle.std.specs.Prelude.{◌≡◌, ℕ, ◌^◌, ◌≤◌, ◌<◌, Bool, true, false, List, [], ◌∷◌, ◌++◌, length, Some, None, Result, Ok, Err, nat_eq}
+use Rattle.std.specs.Prelude.{◌≡◌, ◌≢◌, ℕ, ◌^◌, ◌≤◌, ◌<◌, Bool, true, false, List, [], ◌∷◌, ◌++◌, length, Some, None, Result, Ok, Err, IfOk, nat_eq}
 use Rattle.shq_base.specs.Concept.{Concept}
 use Rattle.shq_terms.specs.Listed.{Listed}
 use Rattle.shq_terms.specs.declared.axioms.Numbered.{Numbered}
@@ -7,9 +7,9 @@ use Rattle.shq_terms.specs.declared.axioms.Query.{Query}
 use Rattle.role_box.specs.Counted.{counted_roles, counted_by_query}
 use Rattle.role_box.specs.Simple.{are_simple, all_role_axioms}
 use Rattle.ofn_tree.specs.Lexemes.{end_line}
-use Rattle.ofn_tree.specs.Items.{Item, name_item, iri_item, literal_item, sign_item, group_item, Items, item}
+use Rattle.ofn_tree.specs.Items.{Item, name_item, iri_item, literal_item, sign_item, group_item, Items, item, items_of}
 use Rattle.ofn_expressions.specs.Counts.{Counts}
-use Rattle.ofn_expressions.specs.Walk.{Test, shape, outside, simple, after_all, walked}
+use Rattle.ofn_expressions.specs.Walk.{Test, shape, outside, simple, after_all, walked, Judged}
 use Rattle.ofn_expressions.specs.Names.{Prefix, item_line}
 use Rattle.ofn_expressions.specs.Classes.{item_count, each_class, joined, class_tests, concept_of, Keeps, IsListed}
 use Rattle.ofn_expressions.specs.declared.refusal.Refusal.{Refusal}
@@ -29,6 +29,10 @@ abbrev pub query_group_tests : List Prefix → AxiomKeyword → ℕ → Items �
 query_group_tests ps (W.Numbered K.SubClassOf) line is = shape line (nat_eq (item_count is) 2) ∷ joined (each_class ps is)
 query_group_tests ps (W.Excluded c) line is = outside line c ∷ []
 query_group_tests ps _ line is = shape line false ∷ []
+
+-- the same for items as a list
+abbrev pub query_items_tests : List Prefix → AxiomKeyword → ℕ → List Item → List Test
+query_items_tests ps k line is = query_group_tests ps k line (items_of is)
 
 abbrev pub axiom_query_tests : List Prefix → Item → List Test
 axiom_query_tests ps (group_item (Some w) is line) = query_group_tests ps (axiom_keyword w) line (without_annotations is)
@@ -138,6 +142,10 @@ IsNoQuery ps axioms s text e = IsRefused (query_tests ps axioms s (end_line text
 abbrev pub IsNoClass : List Prefix → List Numbered → Counts → List ℕ → Refusal → Type 0
 IsNoClass ps axioms s text e = IsRefused (class_query_tests ps axioms s (end_line text)) s text e
 
+-- why a text is no query, whatever is tested of its items, unless memory was refused
+abbrev pub QueryTextIsRefused : List ℕ → Refusal → Type 0
+QueryTextIsRefused text e = (tests : List Item → List Test) (s : Counts) → e ≢ NoMemory → IsRefused tests s text e
+
 -- what was read, unless something stands after it
 abbrev pub read_alone : {X : Type 0} → List Item → Result X Refusal → Result X Refusal
 read_alone [] r = r
@@ -149,6 +157,14 @@ abbrev pub read_simple : {X E : Type 0} → ℕ → X → Result Bool E → Resu
 read_simple line x (Ok true) = Ok x
 read_simple line x (Ok false) = Err (NotSimple line)
 read_simple line x (Err e) = Err NoMemory
+
+-- whatever tests say of what was read, they and the test of the roles that it counts say it of the result
+abbrev pub TestsRoles : {X : Type 0} → (List X → List ℕ) → List Numbered → ℕ → Result X Refusal → Result X Refusal → Type 0
+TestsRoles {X = X} counted axioms line read result =
+    (s new : Counts) (ts : List Test) (xs : List X)
+    → Judged read s ts new
+    → IfOk read (λ x. xs ≡ x ∷ [])
+    → Judged result s (ts ++ roles_test axioms line (counted xs)) new
 
 -- which two class expressions the items of a query stand for, whatever names are listed later
 abbrev pub MeansPair : List Prefix → Counts → Items → Query → Type 0

@@ -1,5 +1,5 @@
 -- The items of a text, and why a text or its items are refused.
-use Rattle.std.specs.Prelude.{◌≡◌, ℕ, List, Option, Some, None, Err}
+use Rattle.std.specs.Prelude.{◌≡◌, ◌≢◌, ℕ, List, Option, Some, None, Err}
 use Rattle.ofn_tree.specs.Items.{Item, IsTree}
 use Rattle.ofn_tree.specs.Lexemes.{end_line}
 use Rattle.ofn_tree.specs.Document.{DocumentTokens, reading}
@@ -47,3 +47,7 @@ IsRefusedBy tests s text (Outside line construct) = Fails tests s text (Outside 
 IsRefusedBy tests s text (NotSimple line) = Fails tests s text (NotSimple line)
 IsRefusedBy tests s text (Limit w line) = Fails tests s text (Limit w line)
 IsRefusedBy tests s text NoMemory = ⊥
+
+-- why a text is refused, whatever is tested of its items, unless memory was refused
+abbrev pub TextIsRefused : List ℕ → Refusal → Type 0
+TextIsRefused text e = (tests : List Item → List Test) (s : Counts) → e ≢ NoMemory → IsRefusedBy tests s text e

@@ -1,10 +1,9 @@
 // The axioms of an ontology.
-ghost use Rattle.std.specs.Prelude.{◌≡◌, ◌++◌, OnOk, length};
+ghost use Rattle.std.specs.Prelude.{◌≡◌, OnOk, length};
 ghost use Rattle.ofn_tree.specs.Items.{items_of};
-ghost use Rattle.ofn_expressions.specs.Counts.{Counts};
-ghost use Rattle.ofn_expressions.specs.Walk.{Judged};
-ghost use Rattle.ofn_expressions.specs.Classes.{Keeps};
-ghost use Rattle.ofn_reader.specs.Axioms.{numbered_tests, numbered_at, axiom_made, axiom_group_tests, axiom_tests, axioms_tests, axiom_group_in, axiom_in, axioms_in};
+ghost use Rattle.ofn_expressions.specs.Walk.{Tested};
+ghost use Rattle.ofn_reader.specs.Axioms.{numbered_tests, axiom_items_tests, axiom_tests, axioms_tests, axiom_in, axioms_in, AddsAxioms, AddsAxiomsLater, AddsGroup};
+ghost use Rattle.ofn_reader.specs.declared.keywords.AxiomKeyword.TheVariants as W;
 
 use crate::declarations::read_declaration;
 use crate::groups::without_annotations;
@@ -25,9 +24,9 @@ fn read_numbered(
     state: &mut Reading,
 ) -> Result<(), Refusal>
     requires { length state.old.read ≡ state.old.counts.axioms }
-    ensures tests { Judged result state.old.counts (numbered_tests prefixes.now kind line (items_of items.now)) state.new.counts }
+    ensures tests { Tested result state.old (numbered_tests prefixes.now kind line (items_of items.now)) state.new }
     ensures whole { OnOk result (length state.new.read ≡ state.new.counts.axioms) }
-    ensures value { OnOk result ((later : Counts) → Keeps state.new.counts later → state.old.read ++ numbered_at line (axiom_made prefixes.now later kind (items_of items.now)) ≡ state.new.read) }
+    ensures value { OnOk result (AddsGroup prefixes.now state.old state.new (W.Numbered kind) line items.now) }
 {
     begin_axiom(kind, items.len(), line, state)?;
     let axiom = read_operands(alloc, kind, items, prefixes, state)?;
@@ -43,9 +42,9 @@ fn read_axiom_group(
     state: &mut Reading,
 ) -> Result<(), Refusal>
     requires { length state.old.read ≡ state.old.counts.axioms }
-    ensures tests { Judged result state.old.counts (axiom_group_tests prefixes.now keyword line (items_of items.now)) state.new.counts }
+    ensures tests { Tested result state.old (axiom_items_tests prefixes.now keyword line items.now) state.new }
     ensures whole { OnOk result (length state.new.read ≡ state.new.counts.axioms) }
-    ensures value { OnOk result ((later : Counts) → Keeps state.new.counts later → state.old.read ++ axiom_group_in prefixes.now later keyword line (items_of items.now) ≡ state.new.read) }
+    ensures value { OnOk result (AddsGroup prefixes.now state.old state.new keyword line items.now) }
 {
     match keyword {
         AxiomKeyword::Numbered(kind) => read_numbered(alloc, kind, items, line, prefixes, state),
@@ -63,9 +62,9 @@ fn read_axiom(
     state: &mut Reading,
 ) -> Result<(), Refusal>
     requires { length state.old.read ≡ state.old.counts.axioms }
-    ensures tests { Judged result state.old.counts (axiom_tests prefixes.now tree.now) state.new.counts }
+    ensures tests { Tested result state.old (axiom_tests prefixes.now tree.now) state.new }
     ensures whole { OnOk result (length state.new.read ≡ state.new.counts.axioms) }
-    ensures value { OnOk result ((later : Counts) → Keeps state.new.counts later → state.old.read ++ axiom_in prefixes.now later tree.now ≡ state.new.read) }
+    ensures value { OnOk result (AddsAxiomsLater state.old state.new (λ later. axiom_in prefixes.now later tree.now)) }
 {
     match &tree.form {
         Form::Group(Some(text), items, line) => {
@@ -92,8 +91,8 @@ pub(crate) fn read_axioms(
     state: &mut Reading,
 ) -> Result<(), Refusal>
     requires { length state.old.read ≡ state.old.counts.axioms }
-    ensures tests { Judged result state.old.counts (axioms_tests prefixes.now (items_of items.now)) state.new.counts }
-    ensures value { OnOk result (state.old.read ++ axioms_in prefixes.now state.new.counts (items_of items.now) ≡ state.new.read) }
+    ensures tests { Tested result state.old (axioms_tests prefixes.now (items_of items.now)) state.new }
+    ensures value { OnOk result (AddsAxioms state.old state.new (λ s. axioms_in prefixes.now s (items_of items.now))) }
 {
     for item in items {
         read_axiom(alloc, item, prefixes, state)?;

@@ -1,9 +1,8 @@
 // Declarations of entities.
-ghost use Rattle.std.specs.Prelude.{◌≡◌, ◌∷◌, [], length};
 ghost use Rattle.ofn_tree.specs.Items.{items_of};
 ghost use Rattle.ofn_expressions.specs.Counts.{Grows};
-ghost use Rattle.ofn_expressions.specs.Walk.{Judged};
-ghost use Rattle.ofn_reader.specs.Declarations.{declaration_tests, entity_tests, entity_group_tests};
+ghost use Rattle.ofn_expressions.specs.Walk.{Tested};
+ghost use Rattle.ofn_reader.specs.Declarations.{declaration_tests, entity_tests, entity_items_tests};
 
 use crate::keywords::{EntityKeyword, entity_keyword};
 use ofn_expressions::{Prefixes, Reading, Refusal, declare_class, declare_role};
@@ -23,7 +22,7 @@ pub(crate) fn read_declaration(
     prefixes: &Prefixes,
     state: &mut Reading,
 ) -> Result<(), Refusal>
-    ensures tests { Judged result state.old.counts (declaration_tests prefixes.now line (items_of items.now)) state.new.counts }
+    ensures tests { Tested result state.old (declaration_tests prefixes.now line (items_of items.now)) state.new }
     ensures grown { Grows state.old state.new }
 {
     if items.len() != 1 {
@@ -39,7 +38,7 @@ fn read_entity(
     prefixes: &Prefixes,
     state: &mut Reading,
 ) -> Result<(), Refusal>
-    ensures tests { Judged result state.old.counts (entity_tests prefixes.now tree.now) state.new.counts }
+    ensures tests { Tested result state.old (entity_tests prefixes.now tree.now) state.new }
     ensures grown { Grows state.old state.new }
 {
     match &tree.form {
@@ -63,7 +62,7 @@ fn read_entity_group(
     prefixes: &Prefixes,
     state: &mut Reading,
 ) -> Result<(), Refusal>
-    ensures tests { Judged result state.old.counts (entity_group_tests prefixes.now keyword line (items_of items.now)) state.new.counts }
+    ensures tests { Tested result state.old (entity_items_tests prefixes.now keyword line items.now) state.new }
     ensures grown { Grows state.old state.new }
 {
     if items.len() != 1 {

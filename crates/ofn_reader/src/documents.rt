@@ -1,9 +1,10 @@
 // Documents.
-ghost use Rattle.std.specs.Prelude.{◌≡◌, ◌≢◌, ◌≤◌, ◌++◌, IfOk, IfErr, OnOk, length, Ok, Err, Some, None, option_map};
+ghost use Rattle.std.specs.Prelude.{◌≡◌, ◌≢◌, ◌≤◌, IfOk, IfErr, OnOk, length, Some, None, option_map};
 ghost use Rattle.std.specs.List.{prefix_len};
 ghost use Rattle.ofn_expressions.specs.Counts.{Counts};
-ghost use Rattle.ofn_expressions.specs.Walk.{Judged, walked};
+ghost use Rattle.ofn_expressions.specs.Walk.{Judged, Tested, RefusalAgrees, walked};
 ghost use Rattle.ofn_expressions.specs.Names.{predeclared};
+ghost use Rattle.ofn_reader.specs.Axioms.{AddsAxioms};
 ghost use Rattle.ofn_reader.specs.Documents.{start, is_prefix_group, ontology_tests, ontology_axioms, form_tests, all_simple_tests, document_tests, document_axioms, document_prefixes, DocumentIsRead, IsDocument, IsNoDocument};
 ghost use Rattle.ofn_expressions.specs.declared.refusal.Refusal.TheVariants.{NoMemory};
 
@@ -78,8 +79,8 @@ fn read_ontology_group(
     state: &mut Reading,
 ) -> Result<(), Refusal>
     requires { length state.old.read ≡ state.old.counts.axioms }
-    ensures tests { Judged result state.old.counts (ontology_tests prefixes.now end_line items.now) state.new.counts }
-    ensures value { OnOk result (state.old.read ++ ontology_axioms prefixes.now state.new.counts items.now ≡ state.new.read) }
+    ensures tests { Tested result state.old (ontology_tests prefixes.now end_line items.now) state.new }
+    ensures value { OnOk result (AddsAxioms state.old state.new (λ s. ontology_axioms prefixes.now s items.now)) }
 {
     if items.is_empty() {
         return Err(Refusal::BadShape(end_line));
@@ -100,9 +101,9 @@ fn read_document(
     state: &mut Reading,
 ) -> Result<(), Refusal>
     requires { length state.old.read ≡ state.old.counts.axioms }
-    ensures tests { Judged result state.old.counts (form_tests prefixes.old end_line items.now) state.new.counts }
+    ensures tests { Tested result state.old (form_tests prefixes.old end_line items.now) state.new }
     ensures declared { OnOk result (prefixes.new ≡ document_prefixes prefixes.old items.now) }
-    ensures value { OnOk result (state.old.read ++ document_axioms prefixes.old state.new.counts items.now ≡ state.new.read) }
+    ensures value { OnOk result (AddsAxioms state.old state.new (λ s. document_axioms prefixes.old s items.now)) }
 {
     let (groups, behind) = items.split_at(prefix_group_count(items));
     read_prefixes(groups, prefixes)?;
@@ -115,8 +116,8 @@ fn read_form(
     items: &[Tree<'_>],
     end_line: u32,
 ) -> Result<(Ontology, Context), Refusal>
-    ensures document { IfOk result (λ r. DocumentIsRead (form_tests predeclared end_line items.now) items.now r.0 r.1) }
-    ensures refused { IfErr result (λ e. e ≢ NoMemory → walked start (form_tests predeclared end_line items.now) ≡ Err e) }
+    ensures document { IfOk result (λ r. DocumentIsRead (form_tests predeclared end_line) items.now r.0 r.1) }
+    ensures refused { IfErr result (RefusalAgrees (walked start (form_tests predeclared end_line items.now))) }
 {
     let mut prefixes = Prefixes::predeclared(alloc)?;
     let mut state = Reading::new(Ontology::new(alloc), 0, 0);
@@ -150,8 +151,8 @@ fn read_from_items(
     items: &[Tree<'_>],
     end_line: u32,
 ) -> Result<(Ontology, Context), Refusal>
-    ensures document { IfOk result (λ r. DocumentIsRead (document_tests predeclared end_line items.now) items.now r.0 r.1) }
-    ensures refused { IfErr result (λ e. e ≢ NoMemory → walked start (document_tests predeclared end_line items.now) ≡ Err e) }
+    ensures document { IfOk result (λ r. DocumentIsRead (document_tests predeclared end_line) items.now r.0 r.1) }
+    ensures refused { IfErr result (RefusalAgrees (walked start (document_tests predeclared end_line items.now))) }
 {
     let (ontology, context) = read_form(alloc, items, end_line)?;
     test_roles(alloc, &ontology)?;

@@ -2,11 +2,11 @@
 ghost use Rattle.std.specs.Prelude.{◌≡◌, ◌∷◌, ◌++◌, [], IfOk, length, true};
 ghost use Rattle.std.specs.Result.{result_map_both};
 ghost use Rattle.shq_terms.specs.declared.axioms.Axiom.TheVariants as axioms;
-ghost use Rattle.ofn_tree.specs.Items.{items_of, item};
+ghost use Rattle.ofn_tree.specs.Items.{items_of};
 ghost use Rattle.ofn_expressions.specs.Counts.{Grows};
-ghost use Rattle.ofn_expressions.specs.Walk.{Judged};
-ghost use Rattle.ofn_expressions.specs.Classes.{class_tests, role_tests, roles_tests, class_name_tests, joined, each_class};
-ghost use Rattle.ofn_reader.specs.Axioms.{axiom_fits, operand_tests, MeansAxiom};
+ghost use Rattle.ofn_expressions.specs.Walk.{Tested};
+ghost use Rattle.ofn_expressions.specs.Classes.{classes_tests, role_tests, roles_tests};
+ghost use Rattle.ofn_reader.specs.Axioms.{axiom_fits, class_pair_tests, role_pair_tests, role_then_class_tests, name_then_classes_tests, operand_tests, ItemsSay};
 ghost use Rattle.ofn_reader.specs.Queries.{MeansPair};
 ghost use Rattle.ofn_reader.specs.declared.keywords.AxiomKind.TheVariants as K;
 
@@ -31,7 +31,7 @@ pub(crate) fn read_pair(
     prefixes: &Prefixes,
     state: &mut Reading,
 ) -> Result<Query, Refusal>
-    ensures tests { Judged result state.old.counts (class_tests prefixes.now sub.now ++ (class_tests prefixes.now sup.now ++ [])) state.new.counts }
+    ensures tests { Tested result state.old (class_pair_tests prefixes.now sub.now sup.now) state.new }
     ensures grown { Grows state.old state.new }
     ensures value { IfOk result (MeansPair prefixes.now state.new.counts (items_of (sub.now ∷ sup.now ∷ []))) }
 {
@@ -66,9 +66,9 @@ fn read_sub_class(
     prefixes: &Prefixes,
     state: &mut Reading,
 ) -> Result<Axiom, Refusal>
-    ensures tests { Judged result state.old.counts (class_tests prefixes.now sub.now ++ (class_tests prefixes.now sup.now ++ [])) state.new.counts }
+    ensures tests { Tested result state.old (class_pair_tests prefixes.now sub.now sup.now) state.new }
     ensures grown { Grows state.old state.new }
-    ensures value { IfOk result (MeansAxiom prefixes.now state.new.counts K.SubClassOf (items_of (sub.now ∷ sup.now ∷ []))) }
+    ensures value { IfOk result (ItemsSay prefixes.now state.new.counts K.SubClassOf (sub.now ∷ sup.now ∷ [])) }
 {
     let pair = read_pair(alloc, sub, sup, prefixes, state)?;
     Ok(sub_class(pair))
@@ -81,9 +81,9 @@ fn read_equivalent_classes(
     prefixes: &Prefixes,
     state: &mut Reading,
 ) -> Result<Axiom, Refusal>
-    ensures tests { Judged result state.old.counts (joined (each_class prefixes.now (items_of items.now))) state.new.counts }
+    ensures tests { Tested result state.old (classes_tests prefixes.now items.now) state.new }
     ensures grown { Grows state.old state.new }
-    ensures value { IfOk result (MeansAxiom prefixes.now state.new.counts K.EquivalentClasses (items_of items.now)) }
+    ensures value { IfOk result (ItemsSay prefixes.now state.new.counts K.EquivalentClasses items.now) }
 {
     let classes = read_classes(alloc, items, prefixes, state)?;
     Ok(Axiom::EquivalentClasses(classes))
@@ -96,9 +96,9 @@ fn read_disjoint_classes(
     prefixes: &Prefixes,
     state: &mut Reading,
 ) -> Result<Axiom, Refusal>
-    ensures tests { Judged result state.old.counts (joined (each_class prefixes.now (items_of items.now))) state.new.counts }
+    ensures tests { Tested result state.old (classes_tests prefixes.now items.now) state.new }
     ensures grown { Grows state.old state.new }
-    ensures value { IfOk result (MeansAxiom prefixes.now state.new.counts K.DisjointClasses (items_of items.now)) }
+    ensures value { IfOk result (ItemsSay prefixes.now state.new.counts K.DisjointClasses items.now) }
 {
     let classes = read_classes(alloc, items, prefixes, state)?;
     Ok(Axiom::DisjointClasses(classes))
@@ -112,9 +112,9 @@ fn read_disjoint_union(
     prefixes: &Prefixes,
     state: &mut Reading,
 ) -> Result<Axiom, Refusal>
-    ensures tests { Judged result state.old.counts (class_name_tests prefixes.now name.now ++ joined (each_class prefixes.now (items_of classes.now))) state.new.counts }
+    ensures tests { Tested result state.old (name_then_classes_tests prefixes.now name.now classes.now) state.new }
     ensures grown { Grows state.old state.new }
-    ensures value { IfOk result (MeansAxiom prefixes.now state.new.counts K.DisjointUnion (item name.now (items_of classes.now))) }
+    ensures value { IfOk result (ItemsSay prefixes.now state.new.counts K.DisjointUnion (name.now ∷ classes.now)) }
 {
     let name = read_class_name(alloc, name, prefixes, state)?;
     let classes = read_classes(alloc, classes, prefixes, state)?;
@@ -129,9 +129,9 @@ fn read_sub_role(
     prefixes: &Prefixes,
     state: &mut Reading,
 ) -> Result<Axiom, Refusal>
-    ensures tests { Judged result state.old.counts (role_tests prefixes.now sub.now ++ (role_tests prefixes.now sup.now ++ [])) state.new.counts }
+    ensures tests { Tested result state.old (role_pair_tests prefixes.now sub.now sup.now) state.new }
     ensures grown { Grows state.old state.new }
-    ensures value { IfOk result (MeansAxiom prefixes.now state.new.counts K.SubRole (items_of (sub.now ∷ sup.now ∷ []))) }
+    ensures value { IfOk result (ItemsSay prefixes.now state.new.counts K.SubRole (sub.now ∷ sup.now ∷ [])) }
 {
     let sub = read_role(alloc, sub, prefixes, state)?;
     let sup = read_role(alloc, sup, prefixes, state)?;
@@ -145,9 +145,9 @@ fn read_equivalent_roles(
     prefixes: &Prefixes,
     state: &mut Reading,
 ) -> Result<Axiom, Refusal>
-    ensures tests { Judged result state.old.counts (roles_tests prefixes.now (items_of items.now)) state.new.counts }
+    ensures tests { Tested result state.old (roles_tests prefixes.now (items_of items.now)) state.new }
     ensures grown { Grows state.old state.new }
-    ensures value { IfOk result (MeansAxiom prefixes.now state.new.counts K.EquivalentRoles (items_of items.now)) }
+    ensures value { IfOk result (ItemsSay prefixes.now state.new.counts K.EquivalentRoles items.now) }
 {
     let roles = read_roles(alloc, items, prefixes, state)?;
     Ok(Axiom::EquivalentRoles(roles))
@@ -161,9 +161,9 @@ fn read_domain(
     prefixes: &Prefixes,
     state: &mut Reading,
 ) -> Result<Axiom, Refusal>
-    ensures tests { Judged result state.old.counts (role_tests prefixes.now role.now ++ (class_tests prefixes.now class.now ++ [])) state.new.counts }
+    ensures tests { Tested result state.old (role_then_class_tests prefixes.now role.now class.now) state.new }
     ensures grown { Grows state.old state.new }
-    ensures value { IfOk result (MeansAxiom prefixes.now state.new.counts K.Domain (items_of (role.now ∷ class.now ∷ []))) }
+    ensures value { IfOk result (ItemsSay prefixes.now state.new.counts K.Domain (role.now ∷ class.now ∷ [])) }
 {
     let role = read_role(alloc, role, prefixes, state)?;
     let class = read_class(alloc, class, prefixes, state)?;
@@ -178,9 +178,9 @@ fn read_range(
     prefixes: &Prefixes,
     state: &mut Reading,
 ) -> Result<Axiom, Refusal>
-    ensures tests { Judged result state.old.counts (role_tests prefixes.now role.now ++ (class_tests prefixes.now class.now ++ [])) state.new.counts }
+    ensures tests { Tested result state.old (role_then_class_tests prefixes.now role.now class.now) state.new }
     ensures grown { Grows state.old state.new }
-    ensures value { IfOk result (MeansAxiom prefixes.now state.new.counts K.Range (items_of (role.now ∷ class.now ∷ []))) }
+    ensures value { IfOk result (ItemsSay prefixes.now state.new.counts K.Range (role.now ∷ class.now ∷ [])) }
 {
     let role = read_role(alloc, role, prefixes, state)?;
     let class = read_class(alloc, class, prefixes, state)?;
@@ -194,9 +194,9 @@ fn read_functional(
     prefixes: &Prefixes,
     state: &mut Reading,
 ) -> Result<Axiom, Refusal>
-    ensures tests { Judged result state.old.counts (role_tests prefixes.now role.now ++ []) state.new.counts }
+    ensures tests { Tested result state.old (role_tests prefixes.now role.now ++ []) state.new }
     ensures grown { Grows state.old state.new }
-    ensures value { IfOk result (MeansAxiom prefixes.now state.new.counts K.Functional (items_of (role.now ∷ []))) }
+    ensures value { IfOk result (ItemsSay prefixes.now state.new.counts K.Functional (role.now ∷ [])) }
 {
     let role = read_role(alloc, role, prefixes, state)?;
     Ok(Axiom::Functional(role))
@@ -209,9 +209,9 @@ fn read_transitive(
     prefixes: &Prefixes,
     state: &mut Reading,
 ) -> Result<Axiom, Refusal>
-    ensures tests { Judged result state.old.counts (role_tests prefixes.now role.now ++ []) state.new.counts }
+    ensures tests { Tested result state.old (role_tests prefixes.now role.now ++ []) state.new }
     ensures grown { Grows state.old state.new }
-    ensures value { IfOk result (MeansAxiom prefixes.now state.new.counts K.Transitive (items_of (role.now ∷ []))) }
+    ensures value { IfOk result (ItemsSay prefixes.now state.new.counts K.Transitive (role.now ∷ [])) }
 {
     let role = read_role(alloc, role, prefixes, state)?;
     Ok(Axiom::Transitive(role))
@@ -231,9 +231,9 @@ pub(crate) fn read_operands(
     state: &mut Reading,
 ) -> Result<Axiom, Refusal>
     requires { axiom_fits kind (length items.now) ≡ true }
-    ensures tests { Judged result state.old.counts (operand_tests prefixes.now kind (items_of items.now)) state.new.counts }
+    ensures tests { Tested result state.old (operand_tests prefixes.now kind (items_of items.now)) state.new }
     ensures grown { Grows state.old state.new }
-    ensures value { IfOk result (MeansAxiom prefixes.now state.new.counts kind (items_of items.now)) }
+    ensures value { IfOk result (ItemsSay prefixes.now state.new.counts kind items.now) }
 {
     match kind {
         AxiomKind::SubClassOf => read_sub_class(alloc, &items[0], &items[1], prefixes, state),

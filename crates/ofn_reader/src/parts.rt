@@ -1,6 +1,6 @@
 // How many items and how many parts a numbered axiom has.
-ghost use Rattle.std.specs.Prelude.{◌≡◌, ◌≢◌, IfErr, ◌<◌, ◌≤◌, ◌+◌, ◌∷◌, [], OnOk, length, true, min};
-ghost use Rattle.ofn_expressions.specs.Walk.{Judged, parts};
+ghost use Rattle.std.specs.Prelude.{◌≡◌, ◌≢◌, IfErr, ◌<◌, ◌≤◌, ◌+◌, ◌∷◌, [], OnOk, true};
+ghost use Rattle.ofn_expressions.specs.Walk.{Tested, parts};
 ghost use Rattle.ofn_reader.specs.Axioms.{axiom_fits, pair_count, parts_by_item_count, head_tests};
 
 use crate::keywords::AxiomKind;
@@ -51,7 +51,7 @@ fn parts_by_item_count(kind: AxiomKind, count: u64) -> u64
 
 // Counts the parts of an axiom. More than a million items give too many parts, or as many as a million.
 fn count_parts(kind: AxiomKind, count: usize, line: u32, state: &mut Reading) -> Result<(), Refusal>
-    ensures tests { Judged result state.old.counts (parts line (parts_by_item_count kind count) ∷ []) state.new.counts }
+    ensures tests { Tested result state.old (parts line (parts_by_item_count kind count) ∷ []) state.new }
     ensures axioms { OnOk result (state.new.counts.axioms ≡ state.old.counts.axioms) }
     ensures takes_no_memory { IfErr result (λ e. e ≢ Refusal.NoMemory) }
     ensures read { state.new.read ≡ state.old.read }
@@ -70,7 +70,7 @@ pub(crate) fn begin_axiom(
     line: u32,
     state: &mut Reading,
 ) -> Result<(), Refusal>
-    ensures tests { Judged result state.old.counts (head_tests kind line count) state.new.counts }
+    ensures tests { Tested result state.old (head_tests kind line count) state.new }
     ensures fits { OnOk result (axiom_fits kind count ≡ true) }
     ensures counted { OnOk result (state.new.counts.axioms ≡ state.old.counts.axioms + 1) }
     ensures within { OnOk result (state.old.counts.axioms < MAX_AXIOMS) }

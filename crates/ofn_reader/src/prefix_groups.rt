@@ -1,10 +1,8 @@
 // Declarations of prefixes.
-ghost use Rattle.std.specs.Prelude.{◌≡◌, ◌∷◌, [], ◌&&◌, OnOk, option_map, nat_eq, length};
-ghost use Rattle.ofn_tree.specs.Items.{items_of};
+ghost use Rattle.std.specs.Prelude.{◌≡◌, OnOk, option_map};
 ghost use Rattle.ofn_expressions.specs.Counts.{Counts};
-ghost use Rattle.ofn_expressions.specs.Walk.{Judged, clash};
-ghost use Rattle.ofn_expressions.specs.Names.{prefix_iri, has_colon, local_part};
-ghost use Rattle.ofn_reader.specs.Prefixes.{name_before, declared_name, declared_iri, is_equals, is_equals_kind, entry_tests, with_entry, agrees, declared_at, prefix_tests, with_prefix, prefixes_tests, prefixes_behind};
+ghost use Rattle.ofn_expressions.specs.Walk.{Judged};
+ghost use Rattle.ofn_reader.specs.Prefixes.{prefix_in, declared_name, declared_iri, is_equals, is_equals_kind, clash_tests, entry_tests, with_declared, with_entry, prefix_tests, with_prefix, prefixes_tests, prefixes_behind};
 
 use crate::groups::inner_items;
 use ofn_expressions::{Prefixes, Refusal, item_line};
@@ -12,7 +10,7 @@ use ofn_tree::{Form, Kind, Tree};
 
 // A name before its only colon, if that is its last character.
 fn name_before(name: &str) -> Option<&str>
-    ensures { option_map (λ prefix. prefix.now) result ≡ name_before (has_colon name.now && nat_eq (length (local_part name.now)) 0) name.now }
+    ensures { option_map (λ prefix. prefix.now) result ≡ prefix_in name.now }
 {
     let Some((prefix, behind)) = name.split_once(':') else {
         return None;
@@ -59,8 +57,8 @@ fn declared_iri<'a>(tree: &Tree<'a>) -> Option<&'a str>
 
 // Declares a prefix, unless it is declared already with this IRI.
 fn declare(name: &str, iri: &str, line: u32, prefixes: &mut Prefixes) -> Result<(), Refusal>
-    ensures tests { (s : Counts) → Judged result s (clash line (agrees (prefix_iri prefixes.old name.now) iri.now) ∷ []) s }
-    ensures declared { OnOk result (prefixes.new ≡ declared_at (prefix_iri prefixes.old name.now) prefixes.old name.now iri.now) }
+    ensures tests { (s : Counts) → Judged result s (clash_tests prefixes.old line name.now iri.now) s }
+    ensures declared { OnOk result (prefixes.new ≡ with_declared prefixes.old name.now iri.now) }
 {
     match prefixes.iri(name) {
         Some(known) if known == iri => Ok(()),

@@ -1,12 +1,12 @@
 // Queries on a document.
-ghost use Rattle.std.specs.Prelude.{◌≡◌, ◌≢◌, ℕ, ◌^◌, ◌≤◌, List, ◌∷◌, ◌++◌, [], Ok, Err, IfOk, IfErr, OnOk, OnErr, length};
-ghost use Rattle.ofn_tree.specs.Items.{Item, items_of};
-ghost use Rattle.ofn_expressions.specs.Counts.{Counts, Grows};
-ghost use Rattle.ofn_expressions.specs.Walk.{Test, Judged, walked};
+ghost use Rattle.std.specs.Prelude.{◌≡◌, ◌≢◌, ℕ, ◌^◌, ◌≤◌, ◌∷◌, [], Ok, IfOk, IfErr, OnOk, OnErr, length};
+ghost use Rattle.ofn_tree.specs.Items.{items_of};
+ghost use Rattle.ofn_expressions.specs.Counts.{Grows};
+ghost use Rattle.ofn_expressions.specs.Walk.{Tested, RefusalAgrees};
 ghost use Rattle.ofn_expressions.specs.Classes.{IsListed};
 ghost use Rattle.ofn_expressions.specs.declared.refusal.Refusal.TheVariants.{NoMemory};
 ghost use Rattle.ofn_reader.specs.Texts.{HasItems};
-ghost use Rattle.ofn_reader.specs.Queries.{query_group_tests, axiom_query_tests, query_form_tests, class_form_tests, roles_test, counted_by_first, counted_in_first, first_line, first_query, first_class, query_walk, class_walk, QueryIsRead, ClassIsRead, IsQueryOn, IsNoQueryOn, IsClassOn, IsNoClassOn, IsRefused, read_alone, read_simple, MeansPair, MeansQuery, AreBothListed};
+ghost use Rattle.ofn_reader.specs.Queries.{query_items_tests, axiom_query_tests, query_form_tests, class_form_tests, counted_by_first, counted_in_first, first_line, first_query, first_class, query_walk, class_walk, QueryIsRead, ClassIsRead, IsQueryOn, IsNoQueryOn, IsClassOn, IsNoClassOn, QueryTextIsRefused, TestsRoles, read_alone, read_simple, MeansPair, MeansQuery, AreBothListed};
 
 use crate::groups::without_annotations;
 use crate::keywords::{AxiomKeyword, AxiomKind, axiom_keyword};
@@ -31,7 +31,7 @@ fn read_query_group(
     prefixes: &Prefixes,
     state: &mut Reading,
 ) -> Result<Query, Refusal>
-    ensures tests { Judged result state.old.counts (query_group_tests prefixes.now keyword line (items_of items.now)) state.new.counts }
+    ensures tests { Tested result state.old (query_items_tests prefixes.now keyword line items.now) state.new }
     ensures grown { Grows state.old state.new }
     ensures value { IfOk result (MeansPair prefixes.now state.new.counts (items_of items.now)) }
 {
@@ -54,7 +54,7 @@ fn read_axiom_query(
     prefixes: &Prefixes,
     state: &mut Reading,
 ) -> Result<Query, Refusal>
-    ensures tests { Judged result state.old.counts (axiom_query_tests prefixes.now tree.now) state.new.counts }
+    ensures tests { Tested result state.old (axiom_query_tests prefixes.now tree.now) state.new }
     ensures grown { Grows state.old state.new }
     ensures value { IfOk result (MeansQuery prefixes.now state.new.counts tree.now) }
 {
@@ -75,7 +75,7 @@ fn read_axiom_query(
 fn read_query_text(alloc: Global, text: &[u8]) -> Result<Vec<Tree<'_>>, Refusal>
     ensures short { OnOk result (length text.now ≤ 2 ^ 24) }
     ensures made { IfOk result (λ items. (end : ℕ) × HasItems text.now items.items end) }
-    ensures refused { IfErr result (λ e. (tests : List Item → List Test) (s : Counts) → e ≢ NoMemory → IsRefused tests s text.now e) }
+    ensures refused { IfErr result (QueryTextIsRefused text.now) }
 {
     if text.len() > MAX_TEXT {
         return Err(Refusal::Limit(Which::Text, 0));
@@ -108,7 +108,7 @@ fn read_query_items(
     prefixes: &Prefixes,
     state: &mut Reading,
 ) -> Result<Query, Refusal>
-    ensures tests { Judged result state.old.counts (query_form_tests prefixes.now end_line items.now) state.new.counts }
+    ensures tests { Tested result state.old (query_form_tests prefixes.now end_line items.now) state.new }
     ensures grown { Grows state.old state.new }
     ensures pair { IfOk result (λ q. first_query prefixes.now state.new.counts items.now ≡ q ∷ []) }
     ensures listed { IfOk result (AreBothListed state.new.counts) }
@@ -127,7 +127,7 @@ fn read_class_items(
     prefixes: &Prefixes,
     state: &mut Reading,
 ) -> Result<Concept, Refusal>
-    ensures tests { Judged result state.old.counts (class_form_tests prefixes.now end_line items.now) state.new.counts }
+    ensures tests { Tested result state.old (class_form_tests prefixes.now end_line items.now) state.new }
     ensures grown { Grows state.old state.new }
     ensures class { IfOk result (λ c. first_class prefixes.now state.new.counts items.now ≡ c ∷ []) }
     ensures listed { IfOk result (IsListed state.new.counts) }
@@ -177,7 +177,7 @@ fn simple_query(
     line: u32,
 ) -> Result<Query, Refusal>
     ensures same { IfOk result (λ q. read ≡ Ok q) }
-    ensures tests { (s new : Counts) (ts : List Test) (qs : List Query) → Judged read s ts new → IfOk read (λ q. qs ≡ q ∷ []) → Judged result s (ts ++ roles_test ontology.now.axioms line (counted_by_first qs)) new }
+    ensures tests { TestsRoles counted_by_first ontology.now.axioms line read result }
 {
     match read {
         Ok(query) => {
@@ -196,7 +196,7 @@ fn simple_class(
     line: u32,
 ) -> Result<Concept, Refusal>
     ensures same { IfOk result (λ c. read ≡ Ok c) }
-    ensures tests { (s new : Counts) (ts : List Test) (cs : List Concept) → Judged read s ts new → IfOk read (λ c. cs ≡ c ∷ []) → Judged result s (ts ++ roles_test ontology.now.axioms line (counted_in_first cs)) new }
+    ensures tests { TestsRoles counted_in_first ontology.now.axioms line read result }
 {
     match read {
         Ok(class) => {
@@ -218,7 +218,7 @@ fn read_query_on(
 ) -> Result<Query, Refusal>
     requires { nodes ≤ MAX_NODES }
     ensures query { IfOk result (QueryIsRead prefixes.now nodes ontology.old end_line items.now ontology.new) }
-    ensures refused { IfErr result (λ e. e ≢ NoMemory → query_walk prefixes.now nodes ontology.old end_line items.now ≡ Err e) }
+    ensures refused { IfErr result (RefusalAgrees (query_walk prefixes.now nodes ontology.old end_line items.now)) }
     ensures unchanged { OnErr result (ontology.new ≡ ontology.old) }
 {
     let classes = ontology.class_count();
@@ -247,7 +247,7 @@ fn read_class_on(
 ) -> Result<Concept, Refusal>
     requires { nodes ≤ MAX_NODES }
     ensures class { IfOk result (ClassIsRead prefixes.now nodes ontology.old end_line items.now ontology.new) }
-    ensures refused { IfErr result (λ e. e ≢ NoMemory → class_walk prefixes.now nodes ontology.old end_line items.now ≡ Err e) }
+    ensures refused { IfErr result (RefusalAgrees (class_walk prefixes.now nodes ontology.old end_line items.now)) }
     ensures unchanged { OnErr result (ontology.new ≡ ontology.old) }
 {
     let classes = ontology.class_count();

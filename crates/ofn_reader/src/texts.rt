@@ -1,11 +1,7 @@
 // The items of a text.
-ghost use Rattle.std.specs.Prelude.{◌≡◌, ◌≢◌, ◌≤◌, List, IfOk, IfErr, length};
-ghost use Rattle.ofn_tree.specs.Items.{Item};
-ghost use Rattle.ofn_expressions.specs.Counts.{Counts};
-ghost use Rattle.ofn_expressions.specs.Walk.{Test};
-ghost use Rattle.ofn_expressions.specs.declared.refusal.Refusal.TheVariants.{NoMemory};
+ghost use Rattle.std.specs.Prelude.{◌≡◌, ◌≤◌, IfOk, IfErr, length};
 ghost use Rattle.ofn_reader.specs.Refusals.{refusal_of};
-ghost use Rattle.ofn_reader.specs.Texts.{HasItems, IsRefusedBy};
+ghost use Rattle.ofn_reader.specs.Texts.{HasItems, TextIsRefused};
 
 use ofn_expressions::Refusal;
 use ofn_tree::{MAX_BYTES, TextFault, Tree, end_line, tokens, tree};
@@ -29,7 +25,7 @@ pub(crate) fn read_items(alloc: Global, text: &[u8]) -> Result<(Vec<Tree<'_>>, u
     requires { length text.now ≤ MAX_BYTES }
     ensures made { IfOk result (λ r. HasItems text.now r.0.items r.1) }
     ensures within { IfOk result (λ r. r.1 ≤ length text.now) }
-    ensures refused { IfErr result (λ e. (tests : List Item → List Test) (s : Counts) → e ≢ NoMemory → IsRefusedBy tests s text.now e) }
+    ensures refused { IfErr result (TextIsRefused text.now) }
 {
     let (tokens, end) = match tokens(alloc, text) {
         Ok(cut) => cut,
