@@ -7,7 +7,6 @@ use Rattle.std.proofs.Math.Seq.{take-length}
 use Rattle.std.proofs.lemmas.Str.{utf8_valid_len-IsUtf8}
 use Rattle.std.proofs.lemmas.Bool.Decides.{nat_tests}
 use Rattle.ofn_tree.specs.declared.token.Kind.TheVariants.{OpenBracket, CloseBracket, Name}
-use Rattle.ofn_tree.specs.declared.lexer.Latest.TheVariants.{Other}
 use Rattle.ofn_tree.specs.Token.{PlainToken}
 use Rattle.ofn_tree.specs.Lexemes.{end_line, bad_byte_line, utf8_front, mark_len, front_pieces, pieces_from, pieces}
 use Rattle.ofn_tree.specs.Document.{Met, DocumentTokens, nothing_met, met_after, is_document_name, behind_name, with_token, document_front, document}
@@ -51,7 +50,7 @@ with_ok (t ∷ ts) us after = ap (with_token t) (with_ok ts us after)
 abbrev begins_document : Phrase → Bool
 begins_document (word w) = false
 begins_document (iri w) = false
-begins_document (call w ps) = is_document_name (behind_name w Other)
+begins_document (call w ps) = is_document_name (behind_name w nothing_met.latest)
 
 -- it begins with no byte order mark, and is no document
 pub record IsAlone (p : Phrase) : Type 0 where
@@ -73,7 +72,7 @@ front_is (call w ps) n place end other =
     let m : Met = met_after OpenBracket (40 ∷ []) (met_after Name w nothing_met) in
     let middle : Passes false end 1 m (all_tokens n p2 ps) 1 = passes_phrases false end 1 m n p2 ps (omega arith) in
     ap (λ l. with_token name (with_token bracket (document_front end m l))) (wholes_append (all_tokens n p2 ps) (close ∷ []))
-    ∙ ap (λ b. with_token name (with_token bracket (document_front end (record { depth = 1; document = b; latest = Other }) (wholes (all_tokens n p2 ps) ++ wholes (close ∷ []))))) other
+    ∙ ap (λ b. with_token name (with_token bracket (document_front end (record { depth = 1; document = b; latest = nothing_met.latest }) (wholes (all_tokens n p2 ps) ++ wholes (close ∷ []))))) other
     ∙ ap (λ r. with_token name (with_token bracket r)) (middle.goes (wholes (close ∷ [])) ∙ with_ok (all_tokens n p2 ps) (close ∷ []) end)
 
 module _ (p : Phrase) (stands : Stands p) (alone : IsAlone p) (nests : nesting (item_of 1 p) ≤ 64) where
