@@ -1,7 +1,7 @@
 -- Which answer belongs to which words and bytes, and what a run leaves of the input.
 use Rattle.std.specs.Prelude.{◌≡◌, ℕ, ◌+◌, ◌<◌, ◌≤◌, ◌^◌, ◌∷◌, ◌++◌, ◌⊎◌, [], List, length, drop, codes, decimal, nat_lt, Option, Some, None, MatchOption, IfSome, Result, Ok, Err, string_bytes, if◌then◌else◌}
 use Rattle.std.specs.Io.KnownBytes.{Appends}
-use Rattle.shq_io.specs.Causes.{TakesFront}
+use Rattle.shq_io.specs.Causes.{TakesPrefix}
 use Rattle.shq_io.specs.declared.whole.ReadEnd.{ReadEnd}
 use Rattle.shq_io.specs.declared.whole.ReadEnd.TheVariants as E
 use Rattle.ontology_jobs.specs.Words.{Job, check, job_of}
@@ -116,7 +116,7 @@ Answers words bytes out s = MatchOption (job_of words) (IsBadWords out s) (λ jo
 
 -- the sink took the text of an answer, whole, or at a fault of writing a front of it
 abbrev pub Answered : Option (List ℕ) → Option (List ℕ) → List (List ℕ) → List ℕ → Status → Type 0
-Answered before now words bytes WriteFault = (s : Status) × (out : List ℕ) × Answers words bytes out s × TakesFront out before now
+Answered before now words bytes WriteFault = (s : Status) × (out : List ℕ) × Answers words bytes out s × TakesPrefix out before now
 Answered before now words bytes s = (out : List ℕ) × Answers words bytes out s × Appends before now out
 
 -- The same where it is known which bytes the source holds: an answer to all of them.
@@ -132,7 +132,7 @@ AnsweredAll held before now words s = IfSome held (λ bytes. Answered before now
 -- The sink took `bad words`, whole, or at a fault of writing a front of it.
 abbrev pub SaysBadWords : Option (List ℕ) → Option (List ℕ) → Status → Type 0
 SaysBadWords before now BadWords = Appends before now bad_words
-SaysBadWords before now WriteFault = TakesFront bad_words before now
+SaysBadWords before now WriteFault = TakesPrefix bad_words before now
 SaysBadWords before now s = ⊥
 
 -- what is left of the input: nothing, or what comes after one byte more than the limit; for no job all of it
