@@ -11,7 +11,7 @@ use Rattle.shq_nnf.specs.Parts.{axiom_has_counts_within}
 use Rattle.role_box.specs.Counted.{counted_by_query}
 use Rattle.role_box.specs.Simple.{is_simple, are_simple, counts_simple, all_role_axioms}
 use Rattle.ontology_limits.specs.Limits.{has_enough_parts, has_enough_items, part_count, IsOntologyInLimit, IsInLimit}
-use Rattle.refutation_tests.specs.Ontologies.{numbered, chain, one_successor, zero_in_two, zero_is_empty, HasAxioms}
+use Rattle.refutation_check_tests.specs.Ontologies.{numbered, chain, one_successor, zero_in_two, zero_is_empty, HasAxioms}
 
 -- what axioms and a query that use names as listed have to meet
 record Meets (axioms : List Numbered) (q : Query) : Type 0 where

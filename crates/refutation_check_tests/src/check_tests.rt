@@ -4,7 +4,7 @@ ghost use Rattle.shq_base.specs.Concept.{name, top, bottom, some_of, at_most};
 ghost use Rattle.shq_terms.specs.Uses.{axiom_uses_listed};
 ghost use Rattle.shq_terms.specs.declared.axioms.Axiom.TheVariants.{SubClassOf as PlainSubClassOf, DisjointClasses as PlainDisjointClasses};
 ghost use Rattle.ontology_limits.specs.Limits.{IsInLimit};
-ghost use Rattle.refutation_tests.specs.Ontologies.{numbered, chain, one_successor, HasAxioms};
+ghost use Rattle.refutation_check_tests.specs.Ontologies.{numbered, chain, one_successor, HasAxioms};
 
 use axiom_sets::AxiomSet;
 use refutation_check::{NoMemory, Verdict, check};

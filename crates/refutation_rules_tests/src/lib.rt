@@ -1,0 +1,5 @@
+//! Tests of the rule lines.
+#![tactic(auto)]
+
+#[cfg(test)]
+mod rule_tests;

@@ -1,0 +1,5 @@
+//! Tests of cached rows.
+#![tactic(auto)]
+
+#[cfg(test)]
+mod row_tests;

@@ -1,0 +1,5 @@
+//! Tests of normal forms and of the parts of axioms.
+#![tactic(auto)]
+
+#[cfg(test)]
+mod normal_form_tests;
