@@ -1,4 +1,0 @@
-pub mod Smallest
-pub mod Order
-pub mod Nodes
-pub mod Laws

@@ -1,4 +1,0 @@
-pub mod Meaning
-pub mod Asked
-pub mod Listed
-pub mod InOrder
