@@ -1,2 +1,0 @@
-mod InLimit
-mod Within
