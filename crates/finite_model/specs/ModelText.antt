@@ -1,5 +1,5 @@
 -- The text of a model in a certificate, from its line `model N` on, and what it stands for.
-use Rattle.std.specs.Prelude.{ℕ, ◌+◌, Bool, true, false, ◌&&◌, ◌||◌, nat_eq, nat_lt, nat_le, List, [], ◌∷◌, take, drop, codes, position, Option, Some, None, option_map, option_and_then, if◌then◌else◌}
+use Rattle.std.specs.Prelude.{◌≡◌, ℕ, ◌+◌, Bool, true, false, ◌&&◌, ◌||◌, nat_eq, nat_lt, nat_le, List, [], ◌∷◌, take, drop, codes, position, Option, Some, None, option_map, option_and_then, if◌then◌else◌}
 use Rattle.std.specs.List.{list_all, list_any}
 use Rattle.std.specs.Ordering.{nat_cmp}
 use Rattle.std.specs.BTreeSet.{insert_key}
@@ -99,6 +99,13 @@ class_read o b ws = option_and_then (with_class b) (class_line_in o b.model.size
 
 abbrev pub role_read : Listed → Body → List (List ℕ) → Option Body
 role_read o b ws = option_and_then (with_role b) (role_line_in o b.model.size ws)
+
+-- a line of a class, or of a role, leads from what is read so far to the next
+abbrev pub ReadsClass : Listed → List (List ℕ) → Body → Body → Type 0
+ReadsClass o ws before after = class_read o before ws ≡ Some after
+
+abbrev pub ReadsRole : Listed → List (List ℕ) → Body → Body → Type 0
+ReadsRole o ws before after = role_read o before ws ≡ Some after
 
 abbrev pub model_words_read : Listed → Body → List (List ℕ) → Option Body
 model_words_read o b ws = if is_role_line ws then role_read o b ws else class_read o b ws

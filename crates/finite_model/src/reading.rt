@@ -2,7 +2,7 @@
 ghost use Rattle.std.specs.Prelude.{◌≡◌, ◌<◌, ◌≤◌, map, length, nat_eq, position, All, Some, IfOk, IfErr, OnOk, IfSome, codes};
 ghost use Rattle.certificate_lines.specs.Lines.{bytes_of};
 ghost use Rattle.certificate_lines.specs.Malformed.{IsFaultOf, IsFaultAt, IsFaultOfLine};
-ghost use Rattle.finite_model.specs.ModelText.{element_in, elements_from, pair_at, pair_in, pair_from, pairs_in, subject_in, class_line_in, role_line_in, with_class, with_role, with_elements, with_pairs, is_role_line, class_read, role_read, model_line_read, model_body, size_line, model_of};
+ghost use Rattle.finite_model.specs.ModelText.{element_in, elements_from, pair_at, pair_in, pair_from, pairs_in, subject_in, class_line_in, role_line_in, with_class, with_role, with_elements, with_pairs, is_role_line, class_read, role_read, ReadsClass, ReadsRole, model_line_read, model_body, size_line, model_of};
 ghost use Rattle.finite_model.specs.Malformed.{malformed_model_line, malformed_in_model};
 ghost use Rattle.finite_model.specs.BodyRead.{body_of, class_of, role_of};
 
@@ -124,7 +124,7 @@ fn add_class_line(
     ontology: &Ontology,
     body: &mut BodyRead,
 ) -> Result<(), ModelFault>
-    ensures read { OnOk result (class_read ontology.now (body_of body.old) (bytes_of words.now) ≡ Some (body_of body.new)) }
+    ensures read { OnOk result (ReadsClass ontology.now (bytes_of words.now) (body_of body.old) (body_of body.new)) }
     ensures fault { IfErr result (IsFaultAt number (class_read ontology.now (body_of body.old) (bytes_of words.now))) }
 {
     let line = read_class_line(alloc, words, number, ontology, body.model.size())?;
@@ -138,7 +138,7 @@ fn add_role_line(
     ontology: &Ontology,
     body: &mut BodyRead,
 ) -> Result<(), ModelFault>
-    ensures read { OnOk result (role_read ontology.now (body_of body.old) (bytes_of words.now) ≡ Some (body_of body.new)) }
+    ensures read { OnOk result (ReadsRole ontology.now (bytes_of words.now) (body_of body.old) (body_of body.new)) }
     ensures fault { IfErr result (IsFaultAt number (role_read ontology.now (body_of body.old) (bytes_of words.now))) }
 {
     let line = read_role_line(alloc, words, number, ontology, body.model.size())?;

@@ -1,7 +1,7 @@
 -- What set of numbers a list of words of 64 bits stands for.
 use Rattle.std.specs.Prelude.{◌≡◌, ℕ, zero, suc, ◌+◌, ◌*◌, ◌/◌, ◌%◌, ◌==◌, ◌<◌, ◌≤◌, Bool, true, false, List, [], ◌∷◌, length, slice_index, if◌then◌else◌}
 use Rattle.std.specs.Int.{bit_at}
-use Rattle.std.specs.Ordering.{nat_cmp}
+use Rattle.std.specs.Ordering.{nat_cmp, MatchOrdering}
 use Rattle.std.specs.Cmp.Lexicographic.{slice_cmp}
 use Rattle.std.specs.declared.cmp.Ordering.{Ordering}
 use Rattle.std.specs.FinSet as set
@@ -55,3 +55,7 @@ LacksGreater s n = (k : ℕ) → n < k → set.contains s k ≡ false
 -- some member below the bound is greater than the number
 abbrev pub HasGreater : NumberSet → ℕ → ℕ → Type 0
 HasGreater s bound n = (k : ℕ) × (n < k) × (k < bound) × (set.contains s k ≡ true)
+
+-- where one of two sets alone has the number, below which both are the same: the order by which it comes first exactly where it goes on
+abbrev pub GoesOnAsOrdered : NumberSet → ℕ → ℕ → Ordering → Type 0
+GoesOnAsOrdered s bound n order = MatchOrdering order (HasGreater s bound n) ⊥ (LacksGreater s n)

@@ -2,9 +2,9 @@
 
 ghost use Rattle.std.specs.Prelude.{◌≡◌, ℕ, ◌+◌, ◌*◌, ◌^◌, ◌<◌, ◌≤◌, length, true, false, IfSome, IfNone, slice_index};
 ghost use Rattle.std.specs.FinSet as set;
-ghost use Rattle.std.specs.Ordering.{nat_cmp, MatchOrdering};
+ghost use Rattle.std.specs.Ordering.{nat_cmp};
 ghost use Rattle.std.specs.Cmp.Lexicographic.{slice_cmp};
-ghost use Rattle.lane_sieve.specs.Sets.{number_set, words_cmp, HasGreater, LacksGreater};
+ghost use Rattle.lane_sieve.specs.Sets.{number_set, words_cmp, GoesOnAsOrdered};
 
 use crate::members::next_number;
 use std::cmp::Ordering;
@@ -44,7 +44,7 @@ fn first_difference(xs: &[u64], ys: &[u64]) -> Option<usize>
 fn order_by_first(words: &[u64], first: usize) -> Ordering
     requires short { length words.now ≤ 2 ^ 26 }
     requires within { first < 64 * length words.now }
-    ensures { MatchOrdering result (HasGreater (number_set words.now) (64 * length words.now) first) ⊥ (LacksGreater (number_set words.now) first) }
+    ensures { GoesOnAsOrdered (number_set words.now) (64 * length words.now) first result }
 {
     match next_number(words, first + 1) {
         Some(_) => Ordering::Less,

@@ -32,7 +32,7 @@ pub fn run<S: Source, K: Sink>(
 ) -> Status
     // Where the source tells its bytes: the answer that belongs to the words and to all bytes that the source held, and
     // what is left of them.
-    ensures answers { AnsweredAll (S.left source.old) (K.taken sink.old) (K.taken sink.new) (texts_of words.now) result }
+    ensures answer { AnsweredAll (S.left source.old) (K.taken sink.old) (K.taken sink.new) (texts_of words.now) result }
     ensures leaves { Leaves (texts_of words.now) (S.left source.old) (S.left source.new) result }
 
     ensures read_fault { result ≡ Status.ReadFault → Rose (S.faults source.old) (S.faults source.new) }

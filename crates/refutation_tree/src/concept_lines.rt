@@ -23,7 +23,7 @@ pub(crate) fn read_concept_line(
     ontology: &Ontology,
     count: u32,
 ) -> Result<OwnedShape, CertFault>
-    ensures value { IfOk result (λ s. next_concept_in ontology.now count (bytes_of words.now) ≡ Some (form_of_owned s)) }
+    ensures read { IfOk result (λ s. next_concept_in ontology.now count (bytes_of words.now) ≡ Some (form_of_owned s)) }
     ensures room { IfOk result (λ s. count + 1 < 2 ^ 32) }
     ensures fault { IfErr result (IsFaultAt line (next_concept_in ontology.now count (bytes_of words.now))) }
 {

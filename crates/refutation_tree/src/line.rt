@@ -40,7 +40,7 @@ pub enum Line {
 
 impl Line {
     /// The number of the concept that the line names.
-    pub(crate) fn concept(&self) -> Option<u32>
+    pub fn concept(&self) -> Option<u32>
         ensures { NamesConcept (line_of self.now) result }
     {
         match self {

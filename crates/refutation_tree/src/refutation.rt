@@ -46,7 +46,7 @@ impl Model for Refutation {
 
 impl Refutation {
     /// A refutation with these axioms, and without concepts and lines.
-    pub(crate) fn new(alloc: Global, axioms: AxiomSet) -> Refutation
+    pub fn new(alloc: Global, axioms: AxiomSet) -> Refutation
         ensures { result ≡ begun axioms }
     {
         Refutation {
@@ -196,11 +196,11 @@ impl Refutation {
     }
 
     /// Gives the shape the next number, or changes nothing.
-    pub(crate) fn put_shape(&mut self, shape: OwnedShape) -> Result<(), NoMemory>
+    pub fn put_shape(&mut self, shape: OwnedShape) -> Result<(), NoMemory>
         requires room { length self.old.shapes + 1 < 2 ^ 32 }
         requires admitted { IsTrue (admits self.old.shapes (form_of_owned shape)) }
         requires lines { self.old.lines ≡ [] }
-        ensures put { OnOk result (self.new ≡ record self.old { shapes = self.old.shapes ++ form_of_owned shape ∷ [] }) }
+        ensures ok { OnOk result (self.new ≡ record self.old { shapes = self.old.shapes ++ form_of_owned shape ∷ [] }) }
         ensures unchanged { OnErr result (self.new ≡ self.old) }
     {
         self.shapes.insert(shape)?;
@@ -208,7 +208,7 @@ impl Refutation {
     }
 
     /// Puts the line last, or changes nothing.
-    pub(crate) fn put_line(&mut self, line: Line) -> Result<(), NoMemory>
+    pub fn put_line(&mut self, line: Line) -> Result<(), NoMemory>
         requires { IsTrue (names_concepts self.old.shapes (line_of line)) }
         ensures put { OnOk result (self.new ≡ record self.old { lines = self.old.lines ++ line_of line ∷ [] }) }
         ensures unchanged { OnErr result (self.new ≡ self.old) }

@@ -180,19 +180,19 @@ fn push_restriction(
 
 fn push_cardinality(
     alloc: Global,
-    text: &mut Vec<u8>,
-    keyword: &[u8],
+    out: &mut Vec<u8>,
+    word: &[u8],
     count: u32,
     role: u32,
     filler: u32,
     ontology: &Ontology,
 ) -> Result<(), NoMemory>
     requires { role < length ontology.now.roles }
-    ensures { OnOk result (text.new.items ≡ text.old.items ++ cardinality_text ontology.now keyword.now count role filler) }
+    ensures { OnOk result (out.new.items ≡ out.old.items ++ cardinality_text ontology.now word.now count role filler) }
 {
-    push_word(text, keyword)?;
-    push_number(alloc, text, count)?;
-    push_role_and_concept(alloc, text, role, filler, ontology)
+    push_word(out, word)?;
+    push_number(alloc, out, count)?;
+    push_role_and_concept(alloc, out, role, filler, ontology)
 }
 
 fn push_role_and_concept(
