@@ -1,7 +1,9 @@
 -- The ascending list of a set's members, for callers that go over it.
-use Rattle.std.proofs.Common.{◌≡◌, ℕ, ◌+◌, ◌<◌, ◌≤◌, true, length, get_or, arith}
+use Rattle.std.proofs.Common.{◌≡◌, ℕ, ◌+◌, ◌<◌, ◌≤◌, ◌∙◌, true, false, length, get_or, ap, arith, inl, inr}
 use Rattle.std.specs.FinSet as sets
-use Rattle.lane_sieve.proofs.Ranges.{passing-at, passing-place, passing-ascends}
+use Rattle.std.proofs.lemmas.Bool.{cases_Bool}
+use Rattle.lane_sieve.specs.Sets.{passing}
+use Rattle.lane_sieve.proofs.Ranges.{passing-at, passing-place, passing-ascends, passing_from, length-passing-le}
 use Rattle.axiom_sets.specs.Sets.{Limited, IsWithin, member_list}
 
 -- what stands in the list is a member
@@ -15,3 +17,16 @@ member_list-place s within k member = passing-place (sets.contains s.members) 0 
 -- the list ascends
 pub member_list-ascends : (s : Limited) (i j : ℕ) → i < j → j < length (member_list s) → get_or (member_list s) i 0 < get_or (member_list s) j 0
 member_list-ascends s = passing-ascends (sets.contains s.members) 0 (s.limit + 1)
+
+-- there are no more members than numbers
+pub member_list-short : (s : Limited) → IsWithin s.limit s.members → length (member_list s) ≤ s.limit
+member_list-short s within =
+    let e : s.limit + 1 ≡ 1 + s.limit = omega arith in
+    let p = sets.contains s.members in
+    let none : p 0 ≡ false = elim (cases_Bool (p 0)) [ inr f ↦ f | inl t ↦ absurd (omega (arith, (within 0 t).0)) ] in
+    let split : member_list s ≡ passing p 1 s.limit =
+    ap (passing p 0) e
+    ∙ passing_from p 0 1 s.limit (λ k low high.
+    let z : k ≡ 0 = omega arith in
+    ap p z ∙ none) in
+    omega (arith, ap length split, length-passing-le p 1 s.limit (s.limit + 1) (λ k low h. omega (arith, (within k h).1)))

@@ -138,14 +138,6 @@ impl AxiomSet {
         do_meet(&self.words, &other.words)
     }
 
-    /// Whether both sets have the same members.
-    pub fn is_same(&self, other: &AxiomSet) -> bool
-        requires { self.now.limit ≡ other.now.limit }
-        ensures { IsTrue result ↔ (self.now ≡ other.now) }
-    {
-        self.contains_all(other) && other.contains_all(self)
-    }
-
     /// How the ascending lists of the two sets compare: lexicographically, a proper prefix first.
     pub fn cmp_list(&self, other: &AxiomSet) -> Ordering
         requires { self.now.limit ≡ other.now.limit }

@@ -7,6 +7,7 @@
 #![tactic(auto)]
 
 mod axiom_set;
+mod comparing;
 
 pub use axiom_set::AxiomSet;
 pub use lane_sieve::Numbers;

@@ -1,37 +1,36 @@
-// A set of marks: mark k is bit k % 64 of word k / 64.
+// A set of marks: their ascending list, shared by the sets that are equal.
 
-ghost use Rattle.std.specs.Prelude.{◌≡◌, ℕ, ◌+◌, ◌-◌, ◌*◌, ◌/◌, ◌<◌, ◌≤◌, ◌↔◌, true, IsNone, IfSome, IfOk, length};
-ghost use Rattle.std.specs.Bool.{MatchBool};
+ghost use Rattle.std.specs.Prelude.{◌≡◌, ℕ, ◌==◌, ◌↔◌, not, true, IsNone, IfSome, IfOk, filter};
+ghost use Rattle.std.specs.List.{list_all};
+ghost use Rattle.std.specs.List.Sorted.{IsStrictlyIncreasing};
 ghost use Rattle.std.specs.FinSet as set;
-ghost use Rattle.lane_sieve.specs.Sets.{number_set};
-ghost use Rattle.dependency_sets.specs.Marks.{IsTrimmed, IsGreatest, HasOther, LacksOther};
+ghost use Rattle.dependency_sets.specs.Marks.{marks_set, is_mark, IsGreatest, AreUnited};
 
-use lane_sieve::{
-    copy_words, has_number, last_number, put_number, repeat_word, take_number, unite,
-};
 use shq_base::NoMemory;
 use std::alloc::Global;
 use std::marker::Model;
+use std::rc::Rc;
 
-/// A set of marks, which contracts see as a set of numbers. It takes one bit for each mark up to its greatest.
+/// A set of marks, which contracts see as a set of numbers.
 #[derive(Drop)]
 pub struct Deps {
-    words: Option<Vec<u64>>,
+    marks: Option<Rc<Vec<u32>>>,
 }
 
 impl Model for Deps {
     ghost use Rattle.std.specs.Coded.{coded_ℕ};
     ghost use Rattle.std.specs.FinSet as set;
-    ghost use Rattle.lane_sieve.specs.Sets.{NumberSet, number_set};
-    ghost use Rattle.dependency_sets.specs.Marks.{words_or_none, IsTrimmed};
+    ghost use Rattle.std.specs.List.Sorted.{IsStrictlyIncreasing};
+    ghost use Rattle.lane_sieve.specs.Sets.{NumberSet};
+    ghost use Rattle.dependency_sets.specs.Marks.{marks_or_none, marks_set};
 
     ghost Value = { NumberSet };
 
     ghost coded = { set.code coded_ℕ };
 
-    ghost view = { λ d. number_set (words_or_none (λ v. v.items) d.words) };
+    ghost view = { λ d. marks_set (marks_or_none (λ r. r.value.items) d.marks) };
 
-    ghost invariant = { λ d. IsTrimmed (words_or_none (λ v. v.items) d.words) };
+    ghost invariant = { λ d. IsStrictlyIncreasing (marks_or_none (λ r. r.value.items) d.marks) };
 }
 
 impl Deps {
@@ -39,55 +38,86 @@ impl Deps {
     pub fn none() -> Self
         ensures { result ≡ set.empty }
     {
-        Deps { words: None }
+        Deps { marks: None }
     }
 
     /// The set of one mark.
+    ///
+    /// # Errors
+    /// Memory may be refused.
     pub fn one(alloc: Global, mark: u32) -> Result<Self, NoMemory>
         ensures { IfOk result (λ d. d ≡ set.insert set.empty mark) }
     {
-        let mut words = repeat_word(alloc, 0, mark as usize / 64 + 1)?;
-        put_number(&mut words, mark);
-        Ok(Deps { words: Some(words) })
+        let mut marks = Vec::new(alloc);
+        marks.push(mark)?;
+        Ok(Deps {
+            marks: Some(Rc::new(alloc, marks)?),
+        })
     }
 
-    /// The marks of both sets.
+    /// The marks of both sets. Where one of the sets has them all, it is that set, shared.
+    ///
+    /// # Errors
+    /// Memory may be refused.
     pub fn union(&self, alloc: Global, other: &Deps) -> Result<Self, NoMemory>
         ensures { IfOk result (λ d. d ≡ set.union self.now other.now) }
     {
-        let words = self.words();
-        let others = other.words();
-        if words.len() < others.len() {
-            united(alloc, others, words)
-        } else {
-            united(alloc, words, others)
+        if is_part(other.marks(), self.marks()) {
+            return self.try_clone();
         }
+        if is_part(self.marks(), other.marks()) {
+            return other.try_clone();
+        }
+        let marks = united(alloc, self.marks(), other.marks())?;
+        Ok(Deps {
+            marks: Some(Rc::new(alloc, marks)?),
+        })
     }
 
-    /// The marks but the given one.
+    /// The marks but the given one. Where that is no member, it is the same set, shared.
+    ///
+    /// # Errors
+    /// Memory may be refused.
     pub fn without(&self, alloc: Global, mark: u32) -> Result<Self, NoMemory>
         ensures { IfOk result (λ d. d ≡ set.remove self.now mark) }
     {
-        let words = self.words();
-        let len = len_without(words, mark);
-        let mut kept = copy_words(alloc, &words[..len])?;
-        take_mark(&mut kept, mark);
-        Ok(Deps { words: Some(kept) })
+        if self.has(mark) {
+            self.with_others(alloc, mark)
+        } else {
+            self.try_clone()
+        }
     }
 
-    /// The same set once more.
-    pub fn try_clone(&self, alloc: Global) -> Result<Self, NoMemory>
+    // A list of its own of the marks but the given one.
+    fn with_others(&self, alloc: Global, mark: u32) -> Result<Self, NoMemory>
+        ensures { IfOk result (λ d. d ≡ set.remove self.now mark) }
+    {
+        let marks = others(alloc, self.marks(), mark)?;
+        Ok(Deps {
+            marks: Some(Rc::new(alloc, marks)?),
+        })
+    }
+
+    /// The same set once more, which shares its marks.
+    ///
+    /// # Errors
+    /// As many sets share them as can be counted.
+    pub fn try_clone(&self) -> Result<Self, NoMemory>
         ensures { IfOk result (λ d. d ≡ self.now) }
     {
-        let words = copy_words(alloc, self.words())?;
-        Ok(Deps { words: Some(words) })
+        match &self.marks {
+            Some(marks) => Ok(Deps {
+                marks: Some(marks.clone()?),
+            }),
+            None => Ok(Deps { marks: None }),
+        }
     }
 
     /// Whether the mark is in the set.
     pub fn has(&self, mark: u32) -> bool
         ensures { result ≡ set.contains self.now mark }
     {
-        has_number(self.words(), mark)
+        has_mark(self.marks(), mark)
     }
 
     /// The greatest mark.
@@ -95,70 +125,61 @@ impl Deps {
         ensures none { IsNone result ↔ (self.now ≡ set.empty) }
         ensures greatest { IfSome result (IsGreatest self.now) }
     {
-        let words = self.words();
-        if words.is_empty() {
+        let marks = self.marks();
+        if marks.is_empty() {
             return None;
         }
-        Some(last_number(words) as u32)
+        Some(marks[marks.len() - 1])
     }
 
-    /// The words that are kept.
-    fn words(&self) -> &[u64]
-        ensures members { number_set result.now ≡ self.now }
-        ensures trimmed { IsTrimmed result.now }
+    /// Its marks, ascending.
+    fn marks(&self) -> &[u32]
+        ensures members { marks_set result.now ≡ self.now }
+        ensures ascending { IsStrictlyIncreasing result.now }
     {
-        match &self.words {
-            Some(words) => words,
+        match &self.marks {
+            Some(marks) => marks.as_slice(),
             None => &[],
         }
     }
 }
 
-/// The marks of two sets, of which the first has no fewer words.
-fn united(alloc: Global, long: &[u64], short: &[u64]) -> Result<Deps, NoMemory>
-    requires longer { length short.now ≤ length long.now }
-    requires trimmed { IsTrimmed long.now }
-    ensures { IfOk result (λ d. d ≡ set.union (number_set long.now) (number_set short.now)) }
+/// Whether the mark is in the list.
+fn has_mark(marks: &[u32], mark: u32) -> bool
+    requires { IsStrictlyIncreasing marks.now }
+    ensures { result ≡ is_mark marks.now mark }
 {
-    let mut words = copy_words(alloc, long)?;
-    unite(&mut words, short);
-    Ok(Deps { words: Some(words) })
-}
-
-/// Takes the mark out of words that need not reach to it.
-fn take_mark(words: &mut [u64], mark: u32)
-    ensures { number_set words.new ≡ set.remove (number_set words.old) mark }
-{
-    if (mark as usize / 64) < words.len() {
-        take_number(words, mark);
+    match marks.binary_search(&mark) {
+        Ok(_) => true,
+        Err(_) => false,
     }
 }
 
-/// How many of the words are left once the mark is taken out and no bits are kept above the greatest mark that stays.
-fn len_without(words: &[u64], mark: u32) -> usize
-    ensures within { result ≤ length words.now }
-    ensures above { (k : ℕ) → 64 * result ≤ k → set.contains (number_set words.now) k ≡ true → k ≡ mark }
-    ensures last { 0 < result → HasOther (number_set words.now) (result - 1) mark }
+/// Whether each mark of the first list is in the second.
+fn is_part(marks: &[u32], others: &[u32]) -> bool
+    requires { IsStrictlyIncreasing others.now }
+    ensures { result ≡ list_all (is_mark others.now) marks.now }
 {
-    let mut len = words.len();
-    while len > 0 {
-        if has_other(words, len - 1, mark) {
-            return len;
-        }
-        len -= 1;
-    }
-    0
+    marks.iter().all(|mark| has_mark(others, *mark))
 }
 
-/// Whether the word at `place` has a mark other than the given one.
-fn has_other(words: &[u64], place: usize, mark: u32) -> bool
-    requires { place < length words.now }
-    ensures { MatchBool result (HasOther (number_set words.now) place mark) (LacksOther (number_set words.now) place mark) }
+/// The marks of both lists.
+fn united(alloc: Global, marks: &[u32], others: &[u32]) -> Result<Vec<u32>, NoMemory>
+    ensures members { IfOk result (λ v. AreUnited marks.now others.now v.items) }
+    ensures ascending { IfOk result (λ v. IsStrictlyIncreasing v.items) }
 {
-    let word = words[place];
-    if mark as usize / 64 == place {
-        word & !(1 << (mark % 64)) != 0
-    } else {
-        word != 0
-    }
+    let mut all = Vec::with_capacity(alloc, marks.len() + others.len())?;
+    all.extend_from_slice(marks)?;
+    all.extend_from_slice(others)?;
+    all.sort_unstable();
+    all.dedup();
+    Ok(all)
+}
+
+/// The marks but the given one.
+fn others(alloc: Global, marks: &[u32], mark: u32) -> Result<Vec<u32>, NoMemory>
+    ensures { IfOk result (λ v. v.items ≡ filter (λ m. not (m == mark)) marks.now) }
+{
+    let rest = marks.iter().copied().filter(|m| *m != mark).collect(alloc)?;
+    Ok(rest)
 }

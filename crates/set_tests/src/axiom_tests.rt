@@ -1,5 +1,6 @@
 use axiom_sets::AxiomSet;
 use std::alloc::Global;
+use std::collections::HashSet;
 use std::process::Abort;
 use std::test::Fail;
 
@@ -78,10 +79,7 @@ fn against_lists(rt: HostRuntime) -> Result<(), Fail> {
         assert_eq!(rt; set.len() as u64 + rest.len() as u64, limit as u64);
         assert!(rt; !rest.meets(&set), "rest at {limit}");
         rest.put_all(&set);
-        assert!(rt;
-            rest.is_same(&full) && !rest.is_same(&set),
-            "both at {limit}"
-        );
+        assert!(rt; rest == full && rest != set, "both at {limit}");
         let last = set_of(rt.alloc(), limit, &[limit])?;
         assert_eq!(rt; last.limit(), limit);
         assert!(rt; copy.meets(&last) && !set.meets(&last), "last of {limit}");
@@ -120,6 +118,23 @@ fn order_of_lists(rt: HostRuntime) -> Result<(), Fail> {
                 "{left:?} and {right:?}"
             );
         }
+    }
+    Ok(())
+}
+
+#[test]
+fn sets_as_keys(rt: HostRuntime) -> Result<(), Fail> {
+    let lists: [(u32, &[u32]); 5] = [
+        (70, &[]),
+        (70, &[1]),
+        (70, &[1, 64]),
+        (71, &[1]),
+        (70, &[1]),
+    ];
+    let mut kept = HashSet::new(rt.alloc());
+    for (place, (limit, numbers)) in lists.iter().enumerate() {
+        let is_new = kept.insert(set_of(rt.alloc(), *limit, numbers)?)?;
+        assert_eq!(rt; is_new, place < 4, "set {place}");
     }
     Ok(())
 }

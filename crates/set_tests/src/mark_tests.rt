@@ -31,7 +31,7 @@ fn against_lists(rt: HostRuntime) -> Result<(), Fail> {
         compare_with(&rt, &up, &MARKS[..i + 1]);
         compare_with(&rt, &down, &MARKS[12 - i..]);
     }
-    let mut rest = up.try_clone(rt.alloc())?;
+    let mut rest = up.try_clone()?;
     for i in 0..13 {
         rest = rest.without(rt.alloc(), MARKS[12 - i])?;
         compare_with(&rt, &rest, &MARKS[..12 - i]);
