@@ -1,0 +1,2 @@
+pub mod Territory
+pub mod Weight

@@ -1,0 +1,5 @@
+pub mod Stepping
+pub mod Opening
+pub mod Path
+pub mod Settling
+pub mod Finding

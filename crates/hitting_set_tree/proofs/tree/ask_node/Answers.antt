@@ -1,0 +1,37 @@
+use Rattle.std.proofs.Common.{List, sym, subst}
+use Rattle.std.proofs.lemmas.Result.{on_ok_weaker}
+use Rattle.justification_shrink.proofs.Shrinking.{keeps_on}
+use Rattle.axiom_sets.specs.Sets.{Limited}
+use Rattle.axiom_sets.proofs.Same.{same_limited}
+use Rattle.set_questions.specs.Asked.{Answers}
+use Rattle.hitting_set_tree.specs.Tree.{lists, others}
+use Rattle.hitting_set_tree.specs.Open.{HasPending}
+use Rattle.hitting_set_tree.proofs.Opening.{asked_rest}
+use Rattle.hitting_set_tree.proofs.Settling.{node_still}
+use Rattle.hitting_set_tree.proofs.Stepping.{keeps_listed}
+use Rattle.hitting_set_tree.proofs.tree.ask_node.Goals as goal
+
+pub settle-requires-clause-node : goal.settle-requires-clause-node
+settle-requires-clause-node g c = node_still (g.E.Entail.meaning c.args.entail.now) (g.E.Entail.meaning c.ask.new.self) c.args.node c.ask.ensures.keeps c.requires.node
+
+pub settle-requires-clause-listed : goal.settle-requires-clause-listed
+settle-requires-clause-listed g c = keeps_listed (g.E.Entail.meaning c.args.entail.now) (g.E.Entail.meaning c.ask.new.self) (lists c.args.tree.now) c.ask.ensures.keeps c.requires.listed
+
+pub settle-requires-clause-pending : goal.settle-requires-clause-pending
+settle-requires-clause-pending g c = subst (λ (t : List Limited). HasPending t (lists c.args.tree.now) c.args.node) (sym c.ask.ensures.taken) c.requires.pending
+
+pub settle-requires-clause-answer : goal.settle-requires-clause-answer
+settle-requires-clause-answer g c =
+    let m = g.E.Entail.meaning c.ask.new.self in
+    let rest = c.in_ok-rest.rest in
+    subst (λ (s : Limited). Answers m s c.in_ok-answer.answer) (same_limited rest (others c.args.node) c.in_ok-rest.ensures.limit c.in_ok-rest.ensures.members) c.in_ok-answer.ensures.answer
+
+pub returns-clause-keeps : goal.returns-clause-keeps
+returns-clause-keeps g c = keeps_on (g.E.Entail.meaning c.args.entail.now) (g.E.Entail.meaning c.ask.new.self) (g.E.Entail.meaning c.settle.new.entail) c.ask.ensures.keeps c.settle.ensures.keeps
+
+pub returns-clause-asked : goal.returns-clause-asked
+returns-clause-asked g c =
+    let m = g.E.Entail.meaning c.args.entail.now in
+    let m1 = g.E.Entail.meaning c.ask.new.self in
+    let m2 = g.E.Entail.meaning c.settle.new.entail in
+    on_ok_weaker c.settle.result (λ asked. asked_rest m m1 m2 c.in_ok-answer.ensures.counted c.ask.ensures.keeps.same_size asked) c.settle.ensures.asked

@@ -1,0 +1,64 @@
+use Rattle.std.proofs.Common.{◌∙◌, List, sym, subst, arith, inl, inr}
+use Rattle.axiom_sets.specs.Sets.{Limited}
+use Rattle.justification_shrink.specs.Shrunk.{ShrinksTo}
+use Rattle.justification_shrink.specs.declared.Shrunk.TheVariants.{Just, Spent}
+use Rattle.hitting_set_tree.specs.Tree.{lists}
+use Rattle.hitting_set_tree.specs.Open.{HasOpen, IsEnded}
+use Rattle.hitting_set_tree.proofs.Opening.{ended_pending}
+use Rattle.hitting_set_tree.proofs.Settling.{own_limit, node_still, few_in_rest, labelled_step, labelled_open}
+use Rattle.hitting_set_tree.proofs.Stepping.{keeps_listed, apart_from_rest, step_spent}
+use Rattle.hitting_set_tree.proofs.tree.label_node.Goals as goal
+
+pub add_label-requires-clause-node : goal.add_label-requires-clause-node
+add_label-requires-clause-node g c = own_limit _ c.args.node c.requires.node
+
+pub add_label-requires-clause-limit : goal.add_label-requires-clause-limit
+add_label-requires-clause-limit g c =
+    let m' = g.E.Entail.meaning c.shrink.new.entail in
+    let shrunk : ShrinksTo m' c.args.part.now (Just c.in-Just.just) = rw c.in-Just.is at c.in_ok-just.ensures.shrunk in
+    shrunk.0 ∙ c.requires.part.0
+
+pub add_label-requires-clause-apart : goal.add_label-requires-clause-apart
+add_label-requires-clause-apart g c =
+    let m' = g.E.Entail.meaning c.shrink.new.entail in
+    let shrunk : ShrinksTo m' c.args.part.now (Just c.in-Just.just) = rw c.in-Just.is at c.in_ok-just.ensures.shrunk in
+    apart_from_rest c.args.node.hit c.args.part.now.members c.in-Just.just.members shrunk.1 c.requires.part.1
+
+pub returns-in_ok-add_label-in-Just-clause-step : goal.returns-in_ok-add_label-in-Just-clause-step
+returns-in_ok-add_label-in-Just-clause-step g c =
+    let m = g.E.Entail.meaning c.args.entail.now in
+    let m' = g.E.Entail.meaning c.shrink.new.entail in
+    let keeps = c.shrink.ensures.keeps in
+    let shrunk : ShrinksTo m' c.args.part.now (Just c.in-Just.just) = rw c.in-Just.is at c.in_ok-just.ensures.shrunk in
+    let good = node_still m m' c.args.node keeps c.requires.node in
+    let shown : m'.shown_yes c.in-Just.just.members = elim shrunk.3 [
+      | inl e ↦ subst m'.shown_yes (sym e) (keeps.keeps_yes c.args.part.now.members c.requires.part.3)
+      | inr s ↦ s
+    ] in
+    labelled_step (lists c.args.tree.now) (lists c.add_label.new.tree) c.add_label.new.tree.rooted c.args.node m' good (keeps_listed m m' (lists c.args.tree.now) keeps c.requires.listed) c.in-Just.just c.in_ok-add_label-in-Just.ensures
+    (shrunk.0 ∙ c.requires.part.0 ∙ good.hit_limit) shrunk.2 shown
+
+pub returns-in_ok-add_label-in-Just-clause-open : goal.returns-in_ok-add_label-in-Just-clause-open
+returns-in_ok-add_label-in-Just-clause-open g c =
+    let m = g.E.Entail.meaning c.args.entail.now in
+    let new = c.add_label.new.tree in
+    subst (λ (t : List Limited). HasOpen t (lists new) new.rooted) (sym c.shrink.ensures.taken)
+    (labelled_open (lists c.args.tree.now) (lists new) new.rooted c.args.node m.taken c.requires.pending c.in-Just.just c.in_ok-add_label-in-Just.ensures)
+
+pub returns-in_ok-add_label-in-Just-clause-asked : goal.returns-in_ok-add_label-in-Just-clause-asked
+returns-in_ok-add_label-in-Just-clause-asked g c = omega (arith, c.shrink.ensures.asked, few_in_rest c.args.node.hit c.args.part.now (g.E.Entail.meaning c.args.entail.now).size c.requires.part.1 c.requires.part.0 c.requires.node.hit_limit)
+
+pub returns-in-Spent-clause-step : goal.returns-in-Spent-clause-step
+returns-in-Spent-clause-step g c =
+    let m = g.E.Entail.meaning c.args.entail.now in
+    let m' = g.E.Entail.meaning c.shrink.new.entail in
+    let spent : ShrinksTo m' c.args.part.now Spent = rw c.in-Spent.is at c.in_ok-just.ensures.shrunk in
+    step_spent m' (lists c.args.tree.now) c.args.node (keeps_listed m m' (lists c.args.tree.now) c.shrink.ensures.keeps c.requires.listed) spent
+
+pub returns-in-Spent-clause-open : goal.returns-in-Spent-clause-open
+returns-in-Spent-clause-open g c =
+    let m = g.E.Entail.meaning c.args.entail.now in
+    subst (λ (t : List Limited). IsEnded t (lists c.args.tree.now)) (sym c.shrink.ensures.taken) (ended_pending m.taken (lists c.args.tree.now) c.args.node c.requires.pending.0 c.requires.pending.1)
+
+pub returns-in-Spent-clause-asked : goal.returns-in-Spent-clause-asked
+returns-in-Spent-clause-asked g c = omega (arith, c.shrink.ensures.asked, few_in_rest c.args.node.hit c.args.part.now (g.E.Entail.meaning c.args.entail.now).size c.requires.part.1 c.requires.part.0 c.requires.node.hit_limit)

@@ -1,0 +1,20 @@
+use Rattle.set_questions.specs.Meaning.{Keeps}
+use Rattle.hitting_set_frames.specs.Weight.{weight}
+use Rattle.hitting_set_tree.specs.Tree.{lists, IsListed, IsCovered}
+use Rattle.hitting_set_tree.specs.Open.{HasOpen, AsksFew}
+use Rattle.hitting_set_tree.proofs.tree.run.Given as goal
+
+abbrev pub invariant-loop-frame : goal.invariant-loop-frame
+invariant-loop-frame g l =
+    let m = g.E.Entail.meaning l.entail in
+    let before = g.E.Entail.meaning l.fn.entail in
+    record {
+      keeps : Keeps before m;
+      listed : IsListed m (lists l.tree);
+      open' : HasOpen m.taken (lists l.tree) l.tree.rooted;
+      covered : IsCovered (lists l.tree) (λ _. ⊥);
+      asked : AsksFew before.size before m;
+    }
+
+abbrev pub decreases-loop-frame : goal.decreases-loop-frame
+decreases-loop-frame g l = weight l.tree.frames.items

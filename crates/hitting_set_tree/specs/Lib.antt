@@ -1,0 +1,3 @@
+pub mod Tree
+pub mod Open
+pub mod Found

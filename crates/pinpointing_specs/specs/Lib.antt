@@ -1,0 +1,4 @@
+pub mod Smallest
+pub mod Order
+pub mod Nodes
+pub mod Laws

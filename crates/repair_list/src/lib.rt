@@ -1,0 +1,116 @@
+//! Repairs: the smallest sets whose removal leaves no yes-set.
+//!
+//! A hitting-set tree ends in leaves whose rests are no yes-sets, but not every leaf is a smallest one (the remark of
+//! Russell Greiner, Barbara Smith and Ralph Wilkerson on Reiter's algorithm, Artificial Intelligence 41, 1989). A leaf is
+//! one exactly where each of its members is the only one that it shares with some listed yes-set; that is told from the
+//! two lists, without an ask.
+#![tactic(auto)]
+
+ghost use Rattle.std.specs.Prelude.{◌≡◌, ◌≤◌, ◌↔◌, ◌++◌, IfOk, OnOk, IsTrue};
+ghost use Rattle.std.specs.List.{All};
+ghost use Rattle.pinpointing_specs.specs.Smallest.{IsHitAlone};
+ghost use Rattle.pinpointing_specs.specs.Order.{IsAscending};
+ghost use Rattle.set_questions.specs.InOrder.{HaveOneLimit};
+ghost use Rattle.repair_list.specs.Alone.{AreRepairs, FinishedRepairsAreAll, IsRepairAdded, NeedsAlone, HasAlone, HitsBeside};
+
+use axiom_sets::AxiomSet;
+use hitting_set_tree::Found;
+use set_questions::{Entail, put_in_order};
+use shq_base::NoMemory;
+use std::alloc::Global;
+
+/// The leaves in which each member is hit alone, in the order of sets, each once. Where the lists were finished, these are
+/// exactly the smallest sets whose removal leaves no yes-set, by [`finished_repairs_are_all`].
+///
+/// # Errors
+/// Where memory is refused.
+pub fn repairs(alloc: Global, found: &Found) -> Result<Vec<AxiomSet>, NoMemory>
+    requires { HaveOneLimit (found.now.justs.items ++ found.now.leaves.items) }
+    ensures order { IfOk result (λ v. IsAscending v.items) }
+    ensures repairs { IfOk result (λ v. AreRepairs found.now.justs.items found.now.leaves.items v.items) }
+{
+    let mut list = Vec::new(alloc);
+    for place in 0..found.leaves.len() {
+        add_repair(&mut list, &found.justs, &found.leaves[place])?;
+    }
+    Ok(list)
+}
+
+/// The repairs of finished lists of an object are exactly the smallest sets whose removal leaves no yes-set.
+pub fn finished_repairs_are_all<E: Entail>(_entail: &E)
+    ensures { FinishedRepairsAreAll (E.meaning _entail.now) }
+{}
+
+/// Puts a leaf into the ascending list if each of its members is hit alone.
+fn add_repair(list: &mut Vec<AxiomSet>, justs: &[AxiomSet], leaf: &AxiomSet) -> Result<(), NoMemory>
+    requires limits { All (λ s. s.limit ≡ leaf.now.limit) justs.now }
+    requires list_limits { All (λ s. s.limit ≡ leaf.now.limit) list.old.items }
+    requires order { IsAscending list.old.items }
+    ensures order { OnOk result (IsAscending list.new.items) }
+    ensures added { OnOk result (IsRepairAdded justs.now list.old.items leaf.now list.new.items) }
+{
+    let alone = is_hit_alone(justs, leaf)?;
+    if !alone {
+        return Ok(());
+    }
+    put_in_order(list, leaf.try_clone()?)?;
+    Ok(())
+}
+
+/// Whether each member of the set is hit alone by some listed set.
+fn is_hit_alone(justs: &[AxiomSet], set: &AxiomSet) -> Result<bool, NoMemory>
+    requires { All (λ s. s.limit ≡ set.now.limit) justs.now }
+    ensures { IfOk result (λ b. IsTrue b ↔ IsHitAlone justs.now set.now) }
+{
+    let limit = set.limit();
+    for place in 0..limit {
+        let fits = is_missing_or_alone(justs, set, place + 1)?;
+        if !fits {
+            return Ok(false);
+        }
+    }
+    Ok(true)
+}
+
+/// Whether the number is no member of the set, or is the only one that some listed set shares with it.
+fn is_missing_or_alone(justs: &[AxiomSet], set: &AxiomSet, number: u32) -> Result<bool, NoMemory>
+    requires limits { All (λ s. s.limit ≡ set.now.limit) justs.now }
+    requires low { 1 ≤ number }
+    requires high { number ≤ set.now.limit }
+    ensures { IfOk result (λ b. IsTrue b ↔ NeedsAlone justs.now set.now number) }
+{
+    if !set.has(number) {
+        return Ok(true);
+    }
+    let mut others = set.try_clone()?;
+    others.take(number);
+    Ok(is_hit_beside(justs, &others, number))
+}
+
+/// Whether some listed set has the number, and none of the others.
+fn is_hit_beside(justs: &[AxiomSet], others: &AxiomSet, number: u32) -> bool
+    requires limits { All (λ s. s.limit ≡ others.now.limit) justs.now }
+    requires low { 1 ≤ number }
+    requires high { number ≤ others.now.limit }
+    ensures { IsTrue result ↔ HitsBeside justs.now others.now.members number }
+{
+    for place in 0..justs.len() {
+        if has_alone(&justs[place], others, number) {
+            return true;
+        }
+    }
+    false
+}
+
+/// Whether the set has the number, and none of the others.
+fn has_alone(just: &AxiomSet, others: &AxiomSet, number: u32) -> bool
+    requires limit { just.now.limit ≡ others.now.limit }
+    requires low { 1 ≤ number }
+    requires high { number ≤ others.now.limit }
+    ensures { IsTrue result ↔ HasAlone just.now others.now.members number }
+{
+    if !just.has(number) {
+        return false;
+    }
+    !just.meets(others)
+}

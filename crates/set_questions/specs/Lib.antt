@@ -1,0 +1,4 @@
+pub mod Meaning
+pub mod Asked
+pub mod Listed
+pub mod InOrder

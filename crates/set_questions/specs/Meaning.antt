@@ -1,0 +1,31 @@
+-- What an object that answers questions about sets means, and what its calls leave as it is.
+use Rattle.std.specs.Prelude.{◌≡◌, ℕ, ◌+◌, ◌-◌, ◌^◌, ◌≤◌, ◌↔◌, List, min}
+use Rattle.lane_sieve.specs.Sets.{NumberSet}
+use Rattle.axiom_sets.specs.Sets.{Limited}
+
+pub record Meaning : Type 1 where
+  -- the greatest number
+  pub size : ℕ
+  -- the yes-sets
+  pub holds : NumberSet → Type 0
+  -- the budget that is left
+  pub left : ℕ
+  -- how many asks were answered
+  pub asks : ℕ
+  -- the sets that were taken as nodes
+  pub taken : List Limited
+  -- the sets that were shown to be yes-sets, and those that were shown to be none
+  pub shown_yes : NumberSet → Type 0
+  pub shown_no : NumberSet → Type 0
+
+-- what every call keeps: the yes-sets and the greatest number stay, the budget never rises, what was shown stays shown
+pub record Keeps (m m' : Meaning) : Type 0 where
+  pub same_size : m'.size ≡ m.size
+  pub same_question : (s : NumberSet) → m.holds s ↔ m'.holds s
+  pub left_falls : m'.left ≤ m.left
+  pub keeps_yes : (s : NumberSet) → m.shown_yes s → m'.shown_yes s
+  pub keeps_no : (s : NumberSet) → m.shown_no s → m'.shown_no s
+
+-- a count that is one higher, or stands at its greatest value
+abbrev pub one_more : ℕ → ℕ
+one_more n = min (n + 1) (2 ^ 64 - 1)
