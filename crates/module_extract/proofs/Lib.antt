@@ -1,0 +1,4 @@
+pub mod Taken
+pub mod Gained
+pub mod Placed
+pub mod Joined

@@ -1,0 +1,4 @@
+pub mod Signature
+pub mod Local
+pub mod LocalModule
+pub mod Laws
