@@ -27,12 +27,12 @@ use Rattle.tableau_specs.specs.Steps.{SearchContext, MayBranch, IsAlternative}
 use Rattle.tableau_specs.specs.Steps.MayBranch.{on_union, on_filler, on_pair}
 use Rattle.tableau_specs.specs.Steps.IsAlternative.{of_union, of_filler, of_complement, of_joining, of_parting}
 use Rattle.tableau_specs.specs.Reached.{start, IsReached}
-use Rattle.tableau_specs.proofs.TreeShaped.{count_pos, origin_is_node, origin_of_parent}
+use Rattle.tableau_specs.proofs.TreeShaped.{origin_is_node, origin_of_parent}
 use Rattle.tableau_specs.proofs.Listed.{listed}
 use Rattle.tableau_specs.proofs.Reached.{reached_built}
 use Rattle.search_bounds.specs.Closure.{IsClosure, asked_by, choices_of, most_made, most_parts, node_bound, step_bound}
 use Rattle.search_bounds.specs.Laws.{HasPath, RolesAreBelowThemselves, children, PathsAreShort, FewChildren, FewNodes, FewSteps, LegalRunsAreBounded}
-use Rattle.search_bounds.specs.Laws.HasPath.{at_top, below}
+use Rattle.search_bounds.specs.Laws.HasPath.{from_first, below}
 use Rattle.shape_specs.proofs.Unique.{part_list-parts_of}
 use Rattle.search_bounds.proofs.Grown.{IsGrown, facts_of-append}
 use Rattle.search_bounds.proofs.Grown.IsGrown.{at_first, by_add, by_make, by_choice}
@@ -177,7 +177,7 @@ paths_are_short theory sub sup cs table rows k trail closed r x n path =
     omega (arith, path_level fs l x n path)
   where
     path_node : (fs : List (Fact ℕ)) (x n : ℕ) → HasPath fs x n → x < node_count fs
-    path_node fs x n at_top = count_pos fs
+    path_node fs x n (from_first x' first) = first.is_node
     path_node fs x n (below x' p m h rest) = origin_is_node fs x' p (origin_of_parent fs x' p h)
 
 module _ (theory : Theory) (sub sup : Concept) (cs : List Concept) (table : List Shape) (rows : List Row) (itself : RolesAreBelowThemselves theory) (closed : IsClosure theory sub sup cs) where

@@ -14,7 +14,7 @@ use Rattle.tableau_specs.specs.Items.{facts_of}
 use Rattle.tableau_specs.specs.Steps.{SearchContext}
 use Rattle.tableau_specs.specs.Reached.{start}
 use Rattle.tableau_specs.proofs.TreeShaped.{no_origin, none_or_some}
-use Rattle.search_bounds.proofs.Counting.{count_agree}
+use Rattle.trail_laws.proofs.Counting.{count_agree, count_longer, count_no_more}
 use Rattle.search_bounds.specs.Laws.{is_at, children}
 use Rattle.search_bounds.proofs.Grown.{IsGrown, facts_of-append}
 use Rattle.search_bounds.proofs.Grown.IsGrown.{at_first, by_add, by_make, by_choice}
@@ -23,7 +23,7 @@ use Rattle.search_bounds.proofs.Rising.{AreIn, in_front}
 use Rattle.tableau_specs.proofs.GenerateLines.{count-fresh}
 use Rattle.search_bounds.proofs.Tally.{facts_after}
 use Rattle.search_bounds.proofs.Asked.{by_role, with_concept, is_met, met_stays, IsMaking, making, met_after}
-use Rattle.search_bounds.proofs.Nodes.{IsPlain, plain_count, alternative_plain, below_longer, below_no_more, times_le, times_more}
+use Rattle.search_bounds.proofs.Nodes.{IsPlain, plain_count, alternative_plain, times_le, times_more}
 use Rattle.search_bounds.proofs.Few.{made_by, made_few}
 
 -- ---- where edges begin
@@ -106,7 +106,7 @@ module _ (fs : List (Fact ℕ)) (x s e n : ℕ) where
 
   children_more : (y : ℕ) → children (fs ++ fresh) y ≤ children fs y + suc n
   children_more y =
-      let longer = below_longer (node_count fs) (suc n) (node_count (fs ++ fresh)) (λ z. is_at y (parent (fs ++ fresh) z)) (count-fresh fs x s e (suc n)) in
+      let longer = count_longer (node_count fs) (suc n) (node_count (fs ++ fresh)) (λ z. is_at y (parent (fs ++ fresh) z)) (count-fresh fs x s e (suc n)) in
       omega (arith, old_children y)
 
   not_at : (y z : ℕ) → ¬ (y ≡ x) → (o : Option ℕ) → ((p : ℕ) → o ≡ Some p → p ≡ x) → is_at y (cond (eqb z 0) None o) ≡ false
@@ -115,7 +115,7 @@ module _ (fs : List (Fact ℕ)) (x s e n : ℕ) where
 
   children_other : (y : ℕ) → ¬ (y ≡ x) → children (fs ++ fresh) y ≡ children fs y
   children_other y ne =
-      below_no_more (node_count fs) (suc n) (node_count (fs ++ fresh)) (λ z. is_at y (parent (fs ++ fresh) z)) (count-fresh fs x s e (suc n))
+      count_no_more (node_count fs) (suc n) (node_count (fs ++ fresh)) (λ z. is_at y (parent (fs ++ fresh) z)) (count-fresh fs x s e (suc n))
       (λ z from before. not_at y z ne (first_origin (fs ++ fresh) z) (λ p k. new_parent z p from k))
       ∙ old_children y
 

@@ -1,7 +1,7 @@
 -- A trail has few nodes.
-use Rattle.std.proofs.Common.{◌≡◌, ℕ, zero, suc, ◌+◌, ◌*◌, ◌^◌, ◌<◌, ◌≤◌, eqb, leb, cond, Bool, true, false, List, [], ◌∷◌, ◌++◌, length, ap, ◌∙◌, sym, subst, arith, inl, inr, le-leb, length-append}
+use Rattle.std.proofs.Common.{◌≡◌, ℕ, zero, suc, ◌+◌, ◌*◌, ◌^◌, ◌<◌, ◌≤◌, eqb, leb, cond, Bool, true, false, List, [], ◌∷◌, ◌++◌, length, None, ap, ◌∙◌, sym, subst, arith, inl, inr, le-leb, length-append}
 use Rattle.std.specs.List.{list_any}
-use Rattle.std.proofs.lemmas.Bool.{cases_lt}
+use Rattle.std.proofs.lemmas.Bool.{cases_Bool, cases_lt, eqb-true}
 use Rattle.std.proofs.lemmas.Nat.{mul-le}
 use Rattle.std.proofs.Math.Nat.{pow-zero, pow-suc}
 use Rattle.std.proofs.Math.Seq.{take-append_seam}
@@ -9,7 +9,7 @@ use Rattle.shape_specs.specs.Shape.{shape_of}
 use Rattle.shape_specs.specs.Shape.Shape.{top, at_least}
 use Rattle.fact_specs.specs.declared.Fact.{Fact}
 use Rattle.fact_specs.specs.declared.Fact.TheVariants.{Has}
-use Rattle.fact_specs.specs.State.{node_count, fresh_facts}
+use Rattle.fact_specs.specs.State.{node_count, parent, fresh_facts}
 use Rattle.tableau_specs.specs.declared.Item.{Item}
 use Rattle.tableau_specs.specs.declared.Item.TheVariants.{Fact as Says, Mark}
 use Rattle.tableau_specs.specs.Items.{facts_of, says}
@@ -17,9 +17,9 @@ use Rattle.tableau_specs.specs.Steps.{SearchContext}
 use Rattle.tableau_specs.specs.Reached.{start}
 use Rattle.tableau_specs.proofs.Built.{IsBuilt, built_take}
 use Rattle.tableau_specs.proofs.TreeShaped.{count_pos, origin_of_parent}
-use Rattle.search_bounds.proofs.Counting.{count_one}
+use Rattle.trail_laws.proofs.Counting.{count_all, count_one}
 use Rattle.search_bounds.specs.Laws.{HasPath}
-use Rattle.search_bounds.specs.Laws.HasPath.{at_top, below}
+use Rattle.search_bounds.specs.Laws.HasPath.{from_first, below}
 use Rattle.search_bounds.proofs.Grown.{IsGrown, facts_of-append}
 use Rattle.search_bounds.proofs.Grown.IsGrown.{at_first, by_add, by_make, by_choice}
 use Rattle.search_bounds.proofs.Rising.{AreIn, in_front}
@@ -28,15 +28,18 @@ use Rattle.search_bounds.proofs.Tally.{facts_after}
 use Rattle.search_bounds.proofs.Level.{level, IsLevel, levels_built, fresh_old, fresh_new}
 use Rattle.search_bounds.proofs.Paths.{had_in, few_above}
 use Rattle.search_bounds.proofs.Asked.{many, by_role, with_concept, IsMaking, making}
-use Rattle.search_bounds.proofs.Nodes.{IsPlain, plain_count, plain_level, alternative_plain, deep, filled, filled_most, Fits, fits_plain, fits_make, all_below}
+use Rattle.search_bounds.proofs.Nodes.{IsPlain, plain_count, plain_level, alternative_plain, deep, filled, filled_most, Fits, fits_plain, fits_make}
 
 built_before : (old new : List Item) → IsBuilt (old ++ new) → IsBuilt old
 built_before old new h = subst IsBuilt (take-append_seam old new) (built_take (old ++ new) (length old) h (omega (arith, length-append old new)))
 
--- ---- lines are levels
+-- ---- paths are levels
+
+first_level : (fs : List (Fact ℕ)) → IsLevel fs → (x : ℕ) → parent fs x ≡ None → level fs x ≡ 0
+first_level fs l x h = elim (cases_Bool (eqb x 0)) [ inl zero' ↦ ap (level fs) (eqb-true x 0 zero') ∙ l.zero_is | inr pos ↦ l.none x (rw pos at h) ]
 
 pub path_level : (fs : List (Fact ℕ)) → IsLevel fs → (x n : ℕ) → HasPath fs x n → n ≡ level fs x + 1
-path_level fs l x n at_top = omega (arith, l.zero_is)
+path_level fs l x n (from_first x' first) = omega (arith, first_level fs l x' first.has_no_parent)
 path_level fs l x n (below x' p m h path) = omega (arith, path_level fs l p m path, l.up x' p (origin_of_parent fs x' p h))
 
 module _ (w : SearchContext) (a b : ℕ) (ds : List ℕ) where
@@ -136,5 +139,5 @@ module _ (w : SearchContext) (a b : ℕ) (ds : List ℕ) where
 
     pub nodes_few : (fs : List (Fact ℕ)) (c : ℕ) → length ds ≤ c → IsLevel fs → ((h : ℕ) → Fits w ds most h fs) → Low fs → node_count fs ≤ (c * most + 1) ^ (2 ^ length ds)
     nodes_few fs c le l fit lows =
-        let all = all_below (node_count fs) (λ z. leb (level fs z) (2 ^ length ds)) (λ z lt. le-leb (level fs z) (2 ^ length ds) (lows z lt)) in
+        let all = count_all (node_count fs) (λ z. leb (level fs z) (2 ^ length ds)) (λ z lt. le-leb (level fs z) (2 ^ length ds) (lows z lt)) in
         omega (arith, all, deep_few fs c le l fit (2 ^ length ds))

@@ -1,6 +1,5 @@
 pub mod Concepts
 pub mod Grown
-pub mod Counting
 pub mod Sums
 pub mod Rising
 pub mod Counts

@@ -11,44 +11,14 @@ use Rattle.fact_specs.specs.State.{node_count, fresh_facts}
 use Rattle.tableau_specs.specs.declared.Branch.{Branch}
 use Rattle.tableau_specs.specs.Steps.{SearchContext, IsAlternative}
 use Rattle.tableau_specs.specs.Steps.IsAlternative.{of_union, of_filler, of_complement, of_joining, of_parting}
-use Rattle.search_bounds.proofs.Counting.{count_agree}
+use Rattle.trail_laws.proofs.Counting.{count_agree, count_longer, count_no_more}
 use Rattle.search_bounds.proofs.Sums.{sum_below, sum_le, sum_more, count_in, in_le, in_more, in_most}
 use Rattle.tableau_specs.proofs.GenerateLines.{count-append, count-fresh}
 use Rattle.search_bounds.proofs.Counts.{count_front}
 use Rattle.search_bounds.proofs.Level.{level, level_from, level-append, fresh_old, fresh_new}
 use Rattle.search_bounds.proofs.Asked.{by_role, with_concept, is_met, met_stays, IsMaking, met_after}
 
--- ---- longer counts
-
-one_at_most : (a : Bool) → cond a 1 0 ≤ 1
-one_at_most true = omega arith
-one_at_most false = omega arith
-
-none_counts : (n : ℕ) (b : Bool) → b ≡ false → n + cond b 1 0 ≡ n
-none_counts n b e = rw e (omega arith)
-
-one_counts : (n : ℕ) (b : Bool) → b ≡ true → n + cond b 1 0 ≡ n + 1
-one_counts n b e = rw e refl
-
-pub below_longer : (n k m : ℕ) (p : ℕ → Bool) → m ≡ n + k → count_below m p ≤ count_below n p + k
-below_longer n zero m p e = omega (arith, ap (λ (a : ℕ). count_below a p) e, zero_more)
-  where
-    zero_more : count_below (n + 0) p ≡ count_below n p
-    zero_more = (let e' : n + 0 ≡ n = omega arith in ap (λ (a : ℕ). count_below a p) e')
-below_longer n (suc k) m p e =
-    let m' : m ≡ suc (n + k) = omega (arith, e) in
-    let rest = below_longer n k (n + k) p refl in
-    let here = one_at_most (p (n + k)) in
-    omega (arith, ap (λ (a : ℕ). count_below a p) m')
-
--- where what is past the first n fails, it counts for nothing
-pub below_no_more : (n k m : ℕ) (p : ℕ → Bool) → m ≡ n + k → ((y : ℕ) → n ≤ y → y < m → p y ≡ false) → count_below m p ≡ count_below n p
-below_no_more n zero m p e out = let e' : m ≡ n = omega (arith, e) in ap (λ (a : ℕ). count_below a p) e'
-below_no_more n (suc k) m p e out =
-    let m' : m ≡ suc (n + k) = omega (arith, e) in
-    let rest = below_no_more n k (n + k) p refl (λ y from before. out y from (omega (arith, e))) in
-    let here = none_counts (count_below (n + k) p) (p (n + k)) (out (n + k) (omega arith) (omega (arith, e))) in
-    omega (arith, ap (λ (a : ℕ). count_below a p) m')
+-- ---- longer sums
 
 sum_longer : (n k m : ℕ) (f : ℕ → ℕ) → m ≡ n + k → sum_below n f ≤ sum_below m f
 sum_longer n zero m f e = let e' : m ≡ n = omega (arith, e) in omega (arith, ap (λ (a : ℕ). sum_below a f) e')
@@ -56,10 +26,6 @@ sum_longer n (suc k) m f e =
     let m' : m ≡ suc (n + k) = omega (arith, e) in
     let rest = sum_longer n k (n + k) f refl in
     omega (arith, ap (λ (a : ℕ). sum_below a f) m')
-
-pub all_below : (n : ℕ) (p : ℕ → Bool) → ((y : ℕ) → y < n → p y ≡ true) → count_below n p ≡ n
-all_below zero p imp = refl
-all_below (suc n) p imp = let rest = all_below n p (λ y lt. imp y (omega arith)) in let here = one_counts (count_below n p) (p n) (imp n (omega arith)) in omega arith
 
 -- a sum over those that pass
 sum_passing : (n m : ℕ) (p : ℕ → Bool) (f : ℕ → ℕ) → ((y : ℕ) → f y ≤ m) → sum_below n (λ y. cond (p y) (f y) 0) ≤ count_below n p * m
@@ -177,14 +143,14 @@ module _ (w : SearchContext) (ds : List ℕ) where
   deep_make : (h : ℕ) (fs : List (Fact ℕ)) (x s e n : ℕ) → deep h (fs ++ fresh_facts x s e (node_count fs) (suc n)) ≤ deep h fs + suc n
   deep_make h fs x s e n =
       let gs = fresh_facts x s e (node_count fs) (suc n) in
-      let longer = below_longer (node_count fs) (suc n) (node_count (fs ++ gs)) (λ z. leb (level (fs ++ gs) z) h) (count-fresh fs x s e (suc n)) in
+      let longer = count_longer (node_count fs) (suc n) (node_count (fs ++ gs)) (λ z. leb (level (fs ++ gs) z) h) (count-fresh fs x s e (suc n)) in
       omega (arith, deep_old h fs x s e (suc n))
 
   deep_make_none : (h : ℕ) (fs : List (Fact ℕ)) (x s e n : ℕ) → x < node_count fs → h ≤ level fs x → deep h (fs ++ fresh_facts x s e (node_count fs) (suc n)) ≡ deep h fs
   deep_make_none h fs x s e n lt high =
       let gs = fresh_facts x s e (node_count fs) (suc n) in
       let count = count-fresh fs x s e (suc n) in
-      below_no_more (node_count fs) (suc n) (node_count (fs ++ gs)) (λ z. leb (level (fs ++ gs) z) h) count (λ y from before.
+      count_no_more (node_count fs) (suc n) (node_count (fs ++ gs)) (λ z. leb (level (fs ++ gs) z) h) count (λ y from before.
       let up = fresh_new fs x s e (suc n) y lt from (omega arith) in
       false_from_ne_true (leb (level (fs ++ gs) y) h) (λ k. absurd (omega (arith, leb-true (level (fs ++ gs) y) h k, up))))
       ∙ deep_old h fs x s e (suc n)

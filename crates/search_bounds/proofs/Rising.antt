@@ -24,8 +24,8 @@ use Rattle.tableau_specs.proofs.PlainClash.{successor_is_node, successor_is_rep,
 use Rattle.tableau_specs.specs.Steps.{SearchContext, below_of, MayBranch, IsAlternative}
 use Rattle.tableau_specs.specs.Steps.MayBranch.{on_union, on_filler, on_pair}
 use Rattle.tableau_specs.specs.Steps.IsAlternative.{of_union, of_filler, of_complement, of_joining, of_parting}
-use Rattle.search_bounds.proofs.Counting.{count_le}
-use Rattle.search_bounds.proofs.Sums.{sum_below, sum_le, sum_more, sum_most, below_more, below_most, count_in, in_le, in_more, in_most}
+use Rattle.trail_laws.proofs.Counting.{count_le, count_more, count_most}
+use Rattle.search_bounds.proofs.Sums.{sum_below, sum_le, sum_more, sum_most, count_in, in_le, in_more, in_most}
 
 -- ---- facts
 
@@ -136,10 +136,10 @@ module _ (ds : List ℕ) (v : ℕ) where
   given_most fs = sum_most v (length ds) (λ x. count_in ds (λ d. list_any (is_has x d) fs)) (λ x lt. in_most ds (λ d. list_any (is_has x d) fs))
 
   pub joined_most : (fs : List (Fact ℕ)) → joined fs ≤ v
-  joined_most fs = below_most v (λ x. not (eqb (rep fs x) x))
+  joined_most fs = count_most v (λ x. not (eqb (rep fs x) x))
 
   pub parted_most : (fs : List (Fact ℕ)) → parted fs ≤ v * v
-  parted_most fs = sum_most v v (λ y. count_below v (λ z. list_any (is_apart y z) fs)) (λ y lt. below_most v (λ z. list_any (is_apart y z) fs))
+  parted_most fs = sum_most v v (λ y. count_below v (λ z. list_any (is_apart y z) fs)) (λ y lt. count_most v (λ z. list_any (is_apart y z) fs))
 
   -- no fact more makes them less
 
@@ -177,12 +177,12 @@ module _ (ds : List ℕ) (v : ℕ) where
   parted_more fs y z lt mt out =
       let gs = Apart y z ∷ [] in
       sum_more v (λ u. count_below v (λ x. list_any (is_apart u x) fs)) (λ u. count_below v (λ x. list_any (is_apart u x) (fs ++ gs))) y lt (λ u nt. parted_stays fs gs u)
-      (below_more v (λ x. list_any (is_apart y x) fs) (λ x. list_any (is_apart y x) (fs ++ gs)) z mt (λ x nt k. any_left (is_apart y x) fs gs k) (not_set_apart fs y z out) (apart_last fs y z))
+      (count_more v (λ x. list_any (is_apart y x) fs) (λ x. list_any (is_apart y x) (fs ++ gs)) z mt (λ x nt k. any_left (is_apart y x) fs gs k) (not_set_apart fs y z out) (apart_last fs y z))
 
   -- the greater of two representatives is joined to the lesser
   joined_at : (fs : List (Fact ℕ)) (y z h : ℕ) → h < v → rep fs h ≡ h → rep (fs ++ Same y z ∷ []) h < h → joined fs + 1 ≤ joined (fs ++ Same y z ∷ [])
   joined_at fs y z h lt is_rep falls =
-      below_more v (λ x. not (eqb (rep fs x) x)) (λ x. not (eqb (rep (fs ++ Same y z ∷ []) x) x)) h lt (λ x mt. stays_joined fs (Same y z ∷ []) x)
+      count_more v (λ x. not (eqb (rep fs x) x)) (λ x. not (eqb (rep (fs ++ Same y z ∷ []) x) x)) h lt (λ x mt. stays_joined fs (Same y z ∷ []) x)
       (ap not (eq-eqb (rep fs h) h is_rep)) (not_from_false (eqb (rep (fs ++ Same y z ∷ []) h) h) (ne_eqb (rep (fs ++ Same y z ∷ []) h) h (λ e. absurd (omega arith))))
 
   merged_falls : (y z : ℕ) → y < z → (merged y z z < z) × (merged z y z < z)

@@ -2,21 +2,7 @@
 use Rattle.std.proofs.Common.{◌≡◌, ℕ, zero, suc, ◌+◌, ◌*◌, ◌<◌, ◌≤◌, Bool, true, false, cond, eqb, List, [], ◌∷◌, length, refl, subst, arith, inl, inr}
 use Rattle.std.specs.List.{list_any}
 use Rattle.std.proofs.lemmas.Bool.{cases_eq, or_cases, eqb-true}
-use Rattle.shq_meaning.specs.Below.{count_below}
-use Rattle.search_bounds.proofs.Counting.{count_le}
-
--- ---- one test more
-
-cond_le : (a b : Bool) → (a ≡ true → b ≡ true) → cond a 1 0 ≤ cond b 1 0
-cond_le false b imp = omega arith
-cond_le true b imp = rw (imp refl) (omega arith)
-
-cond_more : (a b : Bool) → a ≡ false → b ≡ true → cond a 1 0 + 1 ≤ cond b 1 0
-cond_more a b out here = rw (out, here) (omega arith)
-
-cond_one : (a : Bool) → cond a 1 0 ≤ 1
-cond_one true = omega arith
-cond_one false = omega arith
+use Rattle.trail_laws.proofs.Counting.{cond_le, cond_more, cond_one}
 
 -- ---- sums
 
@@ -42,25 +28,6 @@ sum_more (suc n) f g y lt le more = elim (cases_eq y n) [
 pub sum_most : (n m : ℕ) (f : ℕ → ℕ) → ((y : ℕ) → y < n → f y ≤ m) → sum_below n f ≤ n * m
 sum_most zero m f le = omega arith
 sum_most (suc n) m f le = let rest = sum_most n m f (λ y lt. le y (omega arith)) in let here = le n (omega arith) in omega arith
-
--- ---- counts below a bound
-
-pub below_more : (n : ℕ) (p q : ℕ → Bool) (y : ℕ) → y < n → ((z : ℕ) → z < n → p z ≡ true → q z ≡ true) → p y ≡ false → q y ≡ true → count_below n p + 1 ≤ count_below n q
-below_more zero p q y lt imp out here = absurd (omega arith)
-below_more (suc n) p q y lt imp out here = elim (cases_eq y n) [
-  | inl e ↦
-      let rest = count_le n p q (λ z mt. imp z (omega arith)) in
-      let last = cond_more (p n) (q n) (subst (λ (z : ℕ). p z ≡ false) e out) (subst (λ (z : ℕ). q z ≡ true) e here) in
-      omega arith
-  | inr ne ↦
-      let rest = below_more n p q y (omega arith) (λ z mt. imp z (omega arith)) out here in
-      let last = cond_le (p n) (q n) (imp n (omega arith)) in
-      omega arith
-]
-
-pub below_most : (n : ℕ) (p : ℕ → Bool) → count_below n p ≤ n
-below_most zero p = omega arith
-below_most (suc n) p = let rest = below_most n p in let here = cond_one (p n) in omega arith
 
 -- ---- counts in a list
 

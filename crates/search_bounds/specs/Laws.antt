@@ -1,5 +1,5 @@
 -- The bounds of a search.
-use Rattle.std.specs.Prelude.{◌≡◌, ℕ, suc, ◌+◌, ◌*◌, ◌^◌, ◌≤◌, ◌==◌, Bool, true, false, List, [], ◌∷◌, length, Option, None, Some}
+use Rattle.std.specs.Prelude.{◌≡◌, ℕ, suc, ◌+◌, ◌*◌, ◌^◌, ◌<◌, ◌≤◌, ◌==◌, Bool, true, false, List, [], ◌∷◌, length, Option, None, Some}
 use Rattle.shq_meaning.specs.Below.{count_below}
 use Rattle.shq_terms.specs.declared.axioms.Numbered.{Numbered}
 use Rattle.shq_terms.specs.declared.axioms.Query.{Query}
@@ -50,9 +50,14 @@ FewMarks = (theory : Theory) (sub sup : Concept) (cs : List Concept) (table : Li
 
 -- ---- nodes
 
--- the path from node 0 to the node, by parents, has n nodes
+-- a first node is one without a parent; node 0 is one
+pub record IsFirst (fs : List (Fact ℕ)) (x : ℕ) : Type 0 where
+  pub is_node : x < node_count fs
+  pub has_no_parent : parent fs x ≡ None
+
+-- the path from a first node to the node, by parents, has n nodes
 pub data HasPath (fs : List (Fact ℕ)) : ℕ → ℕ → Type 0 where
-  at_top : HasPath fs 0 1
+  from_first : (x : ℕ) → IsFirst fs x → HasPath fs x 1
   below : (x p n : ℕ) → parent fs x ≡ Some p → HasPath fs p n → HasPath fs x (suc n)
 
 abbrev pub PathsAreShort : Type 0

@@ -33,7 +33,7 @@ pub fn concepts_are_in_the_closure()
     ensures { ConceptsAreInClosure }
 {}
 
-/// In a reached trail the path from node 0 to a node is short.
+/// In a reached trail the path from a first node to a node is short.
 pub fn paths_are_short()
     ensures { PathsAreShort }
 {}

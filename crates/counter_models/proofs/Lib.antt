@@ -1,0 +1,13 @@
+pub mod Nodes
+pub mod Chains
+pub mod Setting
+pub mod Truth
+pub mod Roles
+pub mod Rows
+pub mod Parts
+pub mod First
+pub mod Allowed
+pub mod AllowedParts
+pub mod Computed
+pub mod InLimit
+pub mod Laws

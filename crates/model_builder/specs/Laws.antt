@@ -1,0 +1,36 @@
+-- The structure of a trail, and the interpretation that it gives.
+use Rattle.std.specs.Prelude.{◌≡◌, ℕ, ◌<◌, List, length}
+use Rattle.shq_base.specs.Concept.{name}
+use Rattle.shq_terms.specs.Listed.{Listed}
+use Rattle.shq_terms.specs.declared.axioms.Query.{Query}
+use Rattle.shq_meaning.specs.Truth.{Interpretation}
+use Rattle.shape_specs.specs.Shape.{Shape}
+use Rattle.shape_specs.specs.Rows.{Row}
+use Rattle.role_box.specs.declared.role_axiom.RoleAxiom.{RoleAxiom}
+use Rattle.role_box.specs.RoleAxioms.{role_axioms}
+use Rattle.ontology_limits.specs.Limits.{IsInLimit}
+use Rattle.fact_specs.specs.declared.Fact.{Fact}
+use Rattle.refutation_truth.specs.Theory.{theory_of}
+use Rattle.tableau_specs.specs.declared.Item.{Item}
+use Rattle.tableau_specs.specs.Items.{facts_of}
+use Rattle.tableau_specs.specs.Steps.{SearchContext, has_name}
+use Rattle.tableau_specs.specs.Reached.{IsReached}
+use Rattle.counter_models.specs.Elements.{elements, node_at, original}
+use Rattle.counter_models.specs.Built.{IsBuilt}
+use Rattle.counter_models.specs.Computed.{leads_to}
+use Rattle.counter_models.specs.Laws.{context_of}
+use Rattle.structure_model.specs.declared.structure.Member.{Member}
+use Rattle.structure_model.specs.declared.structure.Edge.{Edge}
+use Rattle.structure_model.specs.Structure.{is_member_of, leads, IsInterpretation}
+
+-- the members and edges are those of the elements of the trail: of the nodes that these are like
+pub record AreOfElements (w : SearchContext) (fs : List (Fact ℕ)) (roles : List RoleAxiom) (members : List Member) (edges : List Edge) : Type 0 where
+  pub members_are : (a v : ℕ) → v < length (elements fs) → is_member_of members a v ≡ has_name w fs (original fs (node_at fs v)) (name a)
+  pub edges_are : (s v u : ℕ) → v < length (elements fs) → u < length (elements fs) → leads roles edges s v u ≡ leads_to w fs s v u
+
+abbrev pub StructuresAreBuilt : Type 0
+StructuresAreBuilt = (o : Listed) (ks : List ℕ) (q : Query) (table : List Shape) (rows : List Row) (k : ℕ) (trail : List Item) (members : List Member) (edges : List Edge) (i : Interpretation)
+    → IsInLimit o q → IsReached (theory_of o.axioms ks) q.sub q.sup table rows k trail
+    → AreOfElements (context_of o ks table rows) (facts_of trail) (role_axioms o.axioms ks) members edges
+    → IsInterpretation (length (elements (facts_of trail))) (length o.roles) members (role_axioms o.axioms ks) edges i
+    → IsBuilt (context_of o ks table rows) (facts_of trail) i

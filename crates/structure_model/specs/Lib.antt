@@ -1,0 +1,3 @@
+pub mod Structure
+pub mod Gains
+pub mod Walks
