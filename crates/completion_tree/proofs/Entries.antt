@@ -1,0 +1,77 @@
+-- Lists of entries and the facts in them.
+use Rattle.std.proofs.Common.{◌≡◌, ℕ, zero, suc, ◌+◌, ◌-◌, ◌<◌, ◌≤◌, List, [], ◌∷◌, ◌++◌, length, take, drop, get_or, add-one, drop-cons, append_assoc, Some, refl, ap, sym, ◌∙◌, arith}
+use Rattle.std.specs.Prelude.{slice_get}
+use Rattle.std.proofs.lemmas.List.{take-append-drop, length-append, length-drop, take_more, get_or-drop}
+use Rattle.std.proofs.Math.Seq.{take-append_seam, drop-append_seam, take-length}
+use Rattle.fact_specs.specs.declared.Fact.{Fact}
+use Rattle.completion_tree.specs.declared.tree.By.{By}
+use Rattle.completion_tree.specs.declared.tree.Entry.{Entry}
+use Rattle.completion_tree.specs.declared.tree.Entry.TheVariants.{Fact as Grounded, Mark}
+use Rattle.completion_tree.specs.Trail.{facts_in, fact_count, grounded}
+
+pub facts_in-append : (es more : List Entry) → facts_in (es ++ more) ≡ facts_in es ++ facts_in more
+facts_in-append [] more = refl
+facts_in-append (Grounded f by ∷ es) more = ap (λ (fs : List (Fact ℕ)). f ∷ fs) (facts_in-append es more)
+facts_in-append (Mark c ∷ es) more = facts_in-append es more
+
+pub facts_in-grounded : (by : By) (fs : List (Fact ℕ)) → facts_in (grounded by fs) ≡ fs
+facts_in-grounded by [] = refl
+facts_in-grounded by (f ∷ fs) = ap (λ (gs : List (Fact ℕ)). f ∷ gs) (facts_in-grounded by fs)
+
+-- the facts of the first entries are the first facts
+pub facts_in-take : (n : ℕ) (es : List Entry) → facts_in (take n es) ≡ take (length (facts_in es) - length (facts_in (drop n es))) (facts_in es)
+facts_in-take n es =
+    let first = facts_in (take n es) in
+    let rest = facts_in (drop n es) in
+    let all : facts_in es ≡ first ++ rest = ap facts_in (sym (take-append-drop n es)) ∙ facts_in-append (take n es) (drop n es) in
+    let len : length first ≡ length (facts_in es) - length rest = omega (arith, ap length all, length-append first rest) in
+    sym (take-append_seam first rest) ∙ (λ i. take (len i) (sym all i))
+
+pub count-at : (es : List Entry) (i : ℕ) (d : Entry) → i < length es → length (facts_in (drop i es)) ≡ fact_count (get_or es i d) + length (facts_in (drop (i + 1) es))
+count-at es i d lt = rw (add-one, drop-cons es i d) (by (get_or es i d))
+  where
+    by : (e : Entry) → length (facts_in (e ∷ drop (suc i) es)) ≡ fact_count e + length (facts_in (drop (suc i) es))
+    by (Grounded f g) = omega arith
+    by (Mark c) = omega arith
+
+-- one fact more of those from a place on
+pub more_taken : (fs : List (Fact ℕ)) (from place : ℕ) (f : Fact ℕ) → from ≤ place → place < length fs → slice_get fs place ≡ Some f
+    → take (place + 1 - from) (drop from fs) ≡ take (place - from) (drop from fs) ++ f ∷ []
+more_taken fs from place f le lt is =
+    let i = place - from in
+    let next : place + 1 - from ≡ i + 1 = omega (arith, le) in
+    let at : from + i ≡ place = omega (arith, le) in
+    let here : get_or (drop from fs) i f ≡ f = get_or-drop from fs i f ∙ ap (λ (n : ℕ). get_or fs n f) at ∙ read fs place f is in
+    ap (λ (n : ℕ). take n (drop from fs)) next ∙ take_more (drop from fs) i f (omega (arith, lt, le, length-drop from fs)) ∙ ap (λ (g : Fact ℕ). take i (drop from fs) ++ g ∷ []) here
+  where
+    read : (gs : List (Fact ℕ)) (k : ℕ) (g : Fact ℕ) → slice_get gs k ≡ Some g → get_or gs k g ≡ g
+    read [] k g e = cc
+    read (h ∷ gs) zero g e = cc
+    read (h ∷ gs) (suc k) g e = read gs k g e
+
+pub grounded-append : (by : By) (fs gs : List (Fact ℕ)) → grounded by (fs ++ gs) ≡ grounded by fs ++ grounded by gs
+grounded-append by [] gs = refl
+grounded-append by (f ∷ fs) gs = ap (λ (es : List Entry). Grounded f by ∷ es) (grounded-append by fs gs)
+
+pub more_grounded : (old es now : List Entry) (by by' : By) (part fs : List (Fact ℕ)) (f : Fact ℕ) → es ≡ old ++ grounded by part → now ≡ es ++ Grounded f by' ∷ [] → by' ≡ by → fs ≡ part ++ f ∷ []
+    → now ≡ old ++ grounded by fs
+more_grounded old es now by by' part fs f is put same more =
+    put ∙ (λ i. is i ++ Grounded f (same i) ∷ []) ∙ append_assoc old (grounded by part) (Grounded f by ∷ []) ∙ ap (λ (us : List Entry). old ++ us) (sym (grounded-append by part (f ∷ [])) ∙ ap (grounded by) (sym more))
+
+-- where entries follow the facts that were put
+pub rest-followed : (fs new part : List (Fact ℕ)) (len : ℕ) → len ≡ length fs → new ≡ fs ++ part → drop len new ≡ part
+rest-followed fs new part len at made = (λ i. drop (at i) (made i)) ∙ drop-append_seam fs part
+
+pub facts-followed : (es now : List Entry) (by : By) (fs new part : List (Fact ℕ)) (len : ℕ) → fs ≡ facts_in es → len ≡ length fs → new ≡ fs ++ part → now ≡ es ++ grounded by (drop len new)
+    → new ≡ facts_in now
+facts-followed es now by fs new part len before at made put =
+    let whole : now ≡ es ++ grounded by part = put ∙ ap (λ (gs : List (Fact ℕ)). es ++ grounded by gs) (rest-followed fs new part len at made) in
+    made ∙ (λ i. before i ++ sym (facts_in-grounded by part) i) ∙ sym (facts_in-append es (grounded by part)) ∙ ap facts_in (sym whole)
+
+pub length-facts_in-drop : (n : ℕ) (es : List Entry) → length (facts_in (drop n es)) ≤ length (facts_in es)
+length-facts_in-drop n es =
+    let all : facts_in es ≡ facts_in (take n es) ++ facts_in (drop n es) = ap facts_in (sym (take-append-drop n es)) ∙ facts_in-append (take n es) (drop n es) in
+    omega (arith, ap length all, length-append (facts_in (take n es)) (facts_in (drop n es)))
+
+pub take-rest : (n : ℕ) (es : List Entry) → take (length es - n) (drop n es) ≡ drop n es
+take-rest n es = ap (λ (k : ℕ). take k (drop n es)) (sym (length-drop n es)) ∙ take-length (drop n es)

@@ -1,0 +1,72 @@
+-- What a fact of a trail's state rests on.
+use Rattle.std.specs.Prelude.{◌≡◌, ℕ, ◌==◌, ◌||◌, Bool, true, false, List, [], ◌∷◌, if◌then◌else◌}
+use Rattle.std.specs.List.{list_any}
+use Rattle.std.specs.FinSet as set
+use Rattle.lane_sieve.specs.Sets.{NumberSet}
+use Rattle.fact_specs.specs.declared.Fact.{Fact}
+use Rattle.fact_specs.specs.declared.Fact.TheVariants.{Has, Edge, Apart, Same}
+use Rattle.fact_specs.specs.Joins.{rep}
+use Rattle.fact_specs.specs.State.{has, has_edge, are_apart, gives_concept, gives_edge, gives_apart}
+use Rattle.completion_tree.specs.declared.tree.Entry.{Entry}
+use Rattle.completion_tree.specs.declared.tree.Entry.TheVariants.{Fact as Grounded, Mark}
+use Rattle.completion_tree.specs.Trail.{facts_in}
+
+-- the facts that rest on these marks alone
+abbrev pub facts_within : NumberSet → List Entry → List (Fact ℕ)
+facts_within u [] = []
+facts_within u (Grounded f by ∷ es) = if set.is_subset by.marks u then f ∷ facts_within u es else facts_within u es
+facts_within u (Mark c ∷ es) = facts_within u es
+
+-- whether what the fact says is so in the state of the facts: an edge by its very role
+abbrev pub holds : List (Fact ℕ) → Fact ℕ → Bool
+holds fs (Has x c) = has fs x c
+holds fs (Edge r x y) = has_edge fs (λ s. s == r) x y
+holds fs (Apart x y) = are_apart fs x y
+holds fs (Same x y) = rep fs x == rep fs y
+
+-- whether a fact alone says what is asked, where m leads each node to its representative; that two nodes are one is said by joins
+abbrev pub gives : (ℕ → ℕ) → Fact ℕ → Fact ℕ → Bool
+gives m (Has x c) f = gives_concept (λ d. d == c) m (m x) f
+gives m (Edge r x y) f = gives_edge (λ s. s == r) m (m x) (m y) f
+gives m (Apart x y) f = gives_apart m (m x) (m y) f
+gives m (Same x y) f = false
+
+-- the nodes that are asked about
+abbrev pub first_node : Fact ℕ → ℕ
+first_node (Has x c) = x
+first_node (Edge r x y) = x
+first_node (Apart x y) = x
+first_node (Same x y) = x
+
+abbrev pub second_node : Fact ℕ → ℕ
+second_node (Has x c) = x
+second_node (Edge r x y) = y
+second_node (Apart x y) = y
+second_node (Same x y) = y
+
+-- whether the fact joins nodes with one of these representatives
+abbrev pub is_join : (ℕ → ℕ) → ℕ → ℕ → Fact ℕ → Bool
+is_join m a b (Same v w) = m v == a || m v == b
+is_join m a b (Has y c) = false
+is_join m a b (Edge r y z) = false
+is_join m a b (Apart y z) = false
+
+-- the facts that pass the test rest on these marks alone
+abbrev pub AreWithin : (Fact ℕ → Bool) → NumberSet → List Entry → Type 0
+AreWithin p u [] = Unit {0}
+AreWithin p u (Grounded f by ∷ es) = (p f ≡ true → set.is_subset by.marks u ≡ true) × AreWithin p u es
+AreWithin p u (Mark c ∷ es) = AreWithin p u es
+
+-- where some fact passes the test, some does that rests on these marks alone
+abbrev pub SomeWithin : (Fact ℕ → Bool) → NumberSet → List Entry → Type 0
+SomeWithin p u es = list_any p (facts_in es) ≡ true → list_any p (facts_within u es) ≡ true
+
+-- whether the entry is a fact that passes the test
+abbrev pub passes : (Fact ℕ → Bool) → Entry → Bool
+passes p (Grounded f by) = p f
+passes p (Mark c) = false
+
+-- the marks that an entry rests on; a mark rests on none
+abbrev pub marks_at : Entry → NumberSet
+marks_at (Grounded f by) = by.marks
+marks_at (Mark c) = set.empty

@@ -1,0 +1,47 @@
+-- The entries of a trail.
+use Rattle.std.specs.Prelude.{◌≡◌, ℕ, List, [], ◌∷◌, ◌++◌, Some, map, slice_get}
+use Rattle.fact_specs.specs.declared.Fact.{Fact}
+use Rattle.fact_specs.specs.State.{node_count, fresh_facts}
+use Rattle.tableau_specs.specs.declared.Choice.{Choice}
+use Rattle.tableau_specs.specs.declared.Item.{Item}
+use Rattle.tableau_specs.specs.declared.Item.TheVariants.{Fact as Says, Mark as Marks}
+use Rattle.completion_tree.specs.declared.tree.By.{By}
+use Rattle.completion_tree.specs.declared.tree.Entry.{Entry}
+use Rattle.completion_tree.specs.declared.tree.Entry.TheVariants.{Fact as Grounded, Mark}
+
+-- the facts of the entries, in order
+abbrev pub facts_in : List Entry → List (Fact ℕ)
+facts_in [] = []
+facts_in (Grounded f by ∷ es) = f ∷ facts_in es
+facts_in (Mark c ∷ es) = facts_in es
+
+-- how many facts an entry is
+abbrev pub fact_count : Entry → ℕ
+fact_count (Grounded f by) = 1
+fact_count (Mark c) = 0
+
+-- the entries without what their facts rest on
+abbrev pub item_of : Entry → Item
+item_of (Grounded f by) = Says f
+item_of (Mark c) = Marks c
+
+abbrev pub items_of : List Entry → List Item
+items_of es = map item_of es
+
+-- the facts, each of which rests on the same
+abbrev pub grounded : By → List (Fact ℕ) → List Entry
+grounded by fs = map (λ f. Grounded f by) fs
+
+-- the entries with those of new nodes behind them, as many as `count`
+abbrev pub with_fresh : List Entry → ℕ → ℕ → ℕ → ℕ → By → List Entry
+with_fresh es x s e count by = es ++ grounded by (fresh_facts x s e (node_count (facts_in es)) count)
+
+-- at this place stands a fact that rests on `by`
+pub record RestsOn (es : List Entry) (place : ℕ) (by : By) : Type 0 where
+  pub fact : Fact ℕ
+  pub stands : slice_get es place ≡ Some (Grounded fact by)
+
+-- at this place stands a mark
+pub record IsMarkAt (es : List Entry) (place : ℕ) : Type 0 where
+  pub choice : Choice
+  pub stands : slice_get es place ≡ Some (Mark choice)

@@ -1,0 +1,353 @@
+// The trail, and what its facts say.
+ghost use Rattle.std.specs.Prelude.{◌≡◌, ℕ, ◌+◌, ◌<◌, ◌≤◌, ◌^◌, [], ◌∷◌, ◌++◌, OnOk, OnErr, IfOk, length, take, drop, slice_get, Some, true, IfSome, IfNone};
+ghost use Rattle.fact_specs.specs.Joins.{rep};
+ghost use Rattle.fact_specs.specs.State.{node_count, has, are_apart, parent as parent_of};
+ghost use Rattle.fact_tree.specs.Entries.{IsFit};
+ghost use Rattle.fact_tree.specs.Told.{IsLabel, IsOnce, AreEdges};
+ghost use Rattle.fact_specs.specs.declared.Fact.TheVariants.{Same};
+ghost use Rattle.completion_tree.specs.declared.tree.Entry.TheVariants.{Fact as Grounded, Mark as Marks};
+ghost use Rattle.completion_tree.specs.Trail.{facts_in, item_of, items_of, grounded, fact_count, with_fresh, RestsOn, IsMarkAt};
+ghost use Rattle.completion_tree.specs.Marks.{holds, facts_within};
+
+use crate::marks::marks_behind;
+use dependency_sets::Deps;
+use fact_specs::Fact;
+use fact_tree::FactTree;
+use shq_base::NoMemory;
+use std::alloc::{Allocator, Global};
+use std::marker::Model;
+use tableau_specs::{Choice, Item};
+use trail_core::Mark;
+
+/// What a fact rests on.
+#[derive(Drop)]
+pub struct By {
+    /// The number of the line of the trace that gave it.
+    pub line: u32,
+    /// The marks behind it: the numbers of the lines of the trace that made the choices.
+    pub marks: Deps,
+}
+
+impl By {
+    /// The same once more, which shares the marks.
+    ///
+    /// # Errors
+    /// As many share the marks as can be counted.
+    pub fn try_clone(&self) -> Result<By, NoMemory>
+        ensures { IfOk result (λ by. by ≡ self.now) }
+    {
+        Ok(By {
+            line: self.line,
+            marks: self.marks.try_clone()?,
+        })
+    }
+}
+
+/// One entry of a trail.
+#[derive(Drop)]
+pub enum Entry {
+    /// A fact, whose concepts are numbers of the search's table, and what it rests on.
+    Fact(Fact<u32>, By),
+    /// A mark, which stands before the facts that rest on its choice.
+    Mark(Choice),
+}
+
+/// A trail, and what its facts say of their nodes.
+#[derive(Drop)]
+pub struct Tree<A: Allocator> {
+    facts: FactTree<A>,
+    entries: Vec<Entry, A>,
+}
+
+impl<A: Allocator> Model for Tree<A> {
+    ghost use Rattle.std.specs.Prelude.{◌≡◌, ◌<◌, ◌^◌, List, length};
+    ghost use Rattle.completion_tree.specs.declared.tree.Entry.{Entry as PlainEntry};
+    ghost use Rattle.completion_tree.specs.Trail.{facts_in};
+    ghost use Rattle.std.specs.Coded.{codes};
+    ghost use Rattle.dependency_sets.specs.contracts.deps.Deps as deps;
+
+    ghost Value = { List PlainEntry };
+
+    ghost coded = { Prim.hlevel (codes, deps.the_row.coded) };
+
+    ghost view = { λ t. t.entries.items };
+
+    ghost invariant = { λ t. (t.facts ≡ facts_in t.entries.items) × (length t.entries.items < 2 ^ 32) };
+}
+
+// There are never more entries.
+const MOST: usize = u32::MAX as usize;
+
+impl<A: Allocator + Copy> Tree<A> {
+    /// Node 0, of which nothing is known.
+    ///
+    /// # Errors
+    /// Memory may be refused.
+    pub fn new_in(alloc: A) -> Result<Tree<A>, NoMemory>
+        ensures { IfOk result (λ t. t ≡ []) }
+    {
+        Ok(Tree {
+            facts: FactTree::new_in(alloc)?,
+            entries: Vec::new(alloc),
+        })
+    }
+
+    /// How many entries the trail has.
+    pub fn len(&self) -> u32
+        ensures { result ≡ length self.now }
+    {
+        self.entries.len() as u32
+    }
+
+    /// The fact or the mark at a place, from 0.
+    pub fn item(&self, place: u32) -> Item
+        requires { place < length self.now }
+        ensures { slice_get (items_of self.now) place ≡ Some result }
+    {
+        item_at(&self.entries[place as usize])
+    }
+
+    /// What the fact at a place, from 0, rests on; none where a mark stands there.
+    pub fn by(&self, place: u32) -> Option<&By>
+        requires { place < length self.now }
+        ensures some { IfSome result (λ by. RestsOn self.now place by.now) }
+        ensures none { IfNone result (IsMarkAt self.now place) }
+    {
+        match &self.entries[place as usize] {
+            Entry::Fact(_, by) => Some(by),
+            Entry::Mark(_) => None,
+        }
+    }
+
+    /// How many nodes there are.
+    pub fn nodes(&self) -> u32
+        ensures count { result ≡ node_count (facts_in self.now) }
+        ensures small { result + 200 < 2 ^ 32 }
+    {
+        let _ = &self.entries;
+        self.facts.nodes()
+    }
+
+    /// The least of the nodes that are one with a node.
+    pub fn representative(&self, node: u32) -> u32
+        ensures { result ≡ rep (facts_in self.now) node }
+    {
+        let _ = &self.entries;
+        self.facts.representative(node)
+    }
+
+    /// The node from which the first edge leads to a node, which node 0 does not have.
+    pub fn parent(&self, node: u32) -> Option<u32>
+        requires { node < node_count (facts_in self.now) }
+        ensures { result ≡ parent_of (facts_in self.now) node }
+    {
+        let _ = &self.entries;
+        self.facts.parent(node)
+    }
+
+    /// Whether a node has a concept. Each node has concept 0.
+    pub fn has(&self, node: u32, concept: u32) -> bool
+        ensures { result ≡ has (facts_in self.now) node concept }
+    {
+        let _ = &self.entries;
+        self.facts.has(node, concept)
+    }
+
+    /// What a node has, each concept once, in some order.
+    pub fn label(&self, node: u32) -> &[u32]
+        ensures held { IsLabel (facts_in self.now) node result.now }
+        ensures once { IsOnce result.now }
+    {
+        let _ = &self.entries;
+        self.facts.label(node)
+    }
+
+    /// The edges that begin at a node, each as its role and a node, whose representative is the end.
+    pub fn edges(&self, node: u32) -> &[(u32, u32)]
+        ensures { AreEdges (facts_in self.now) node result.now }
+    {
+        let _ = &self.entries;
+        self.facts.edges(node)
+    }
+
+    /// Whether two nodes are apart.
+    pub fn are_apart(&self, first: u32, second: u32) -> bool
+        requires first { first < node_count (facts_in self.now) }
+        requires second { second < node_count (facts_in self.now) }
+        ensures { result ≡ are_apart (facts_in self.now) first second }
+    {
+        let _ = &self.entries;
+        self.facts.are_apart(first, second)
+    }
+
+    /// Marks such that the fact holds in the state of those facts alone that rest on no other marks. An edge holds by its very
+    /// role.
+    ///
+    /// # Errors
+    /// Memory may be refused.
+    pub fn marks_of(&self, alloc: Global, fact: Fact<u32>) -> Result<Deps, NoMemory>
+        requires { holds (facts_in self.now) fact ≡ true }
+        ensures { IfOk result (λ marks. holds (facts_within marks self.now) fact ≡ true) }
+    {
+        marks_behind(alloc, self.entries.as_slice(), &self.facts, fact)
+    }
+
+    /// Puts a fact last, with what it rests on. Its nodes are there, or it is an edge to the next new node.
+    ///
+    /// # Errors
+    /// Memory may be refused; nothing has changed then.
+    pub fn add(&mut self, fact: Fact<u32>, by: By) -> Result<(), NoMemory>
+        requires { IsFit (node_count (facts_in self.old)) fact }
+        ensures added { OnOk result (self.new ≡ self.old ++ Grounded fact by ∷ []) }
+        ensures unchanged { OnErr result (self.new ≡ self.old) }
+    {
+        if self.entries.len() >= MOST {
+            return Err(NoMemory);
+        }
+        let len = self.facts.len();
+        self.facts.add(fact)?;
+        match push(&mut self.entries, Entry::Fact(fact, by)) {
+            Ok(()) => Ok(()),
+            Err(error) => {
+                self.facts.undo_to(len);
+                Err(error)
+            }
+        }
+    }
+
+    /// Puts last that two nodes are one.
+    ///
+    /// # Errors
+    /// Memory may be refused; nothing has changed then.
+    pub fn join(&mut self, first: u32, second: u32, by: By) -> Result<(), NoMemory>
+        requires first { first < node_count (facts_in self.old) }
+        requires second { second < node_count (facts_in self.old) }
+        ensures joined { OnOk result (self.new ≡ self.old ++ Grounded (Same first second) by ∷ []) }
+        ensures unchanged { OnErr result (self.new ≡ self.old) }
+    {
+        self.add(Fact::Same(first, second), by)
+    }
+
+    /// Makes nodes at the ends of edges from a node, each with the concept, and pairwise apart, and answers the first. All
+    /// these facts rest on the same, and stand in the order of the definition.
+    ///
+    /// # Errors
+    /// Memory may be refused; nothing has changed then.
+    pub fn fresh(
+        &mut self,
+        node: u32,
+        role: u32,
+        concept: u32,
+        count: u32,
+        by: By,
+    ) -> Result<u32, NoMemory>
+        requires node { node < node_count (facts_in self.old) }
+        requires count { count ≤ 101 }
+        ensures first { IfOk result (λ first. first ≡ node_count (facts_in self.old)) }
+        ensures made { OnOk result (self.new ≡ with_fresh self.old node role concept count by) }
+        ensures unchanged { OnErr result (self.new ≡ self.old) }
+    {
+        let len = self.facts.len();
+        let entries = self.entries.len();
+        let first = self.facts.fresh(node, role, concept, count)?;
+        match follow(&mut self.entries, &self.facts, len, &by) {
+            Ok(()) => Ok(first),
+            Err(error) => {
+                self.facts.undo_to(len);
+                self.entries.truncate(entries);
+                Err(error)
+            }
+        }
+    }
+
+    /// Puts the mark of a choice last, and answers the length of the trail before it.
+    ///
+    /// # Errors
+    /// Memory may be refused; nothing has changed then.
+    pub fn put_mark(&mut self, choice: Choice) -> Result<Mark, NoMemory>
+        ensures before { IfOk result (λ mark. mark.len ≡ length self.old) }
+        ensures marked { OnOk result (self.new ≡ self.old ++ Marks choice ∷ []) }
+        ensures unchanged { OnErr result (self.new ≡ self.old) }
+    {
+        let len = self.entries.len();
+        if len >= MOST {
+            return Err(NoMemory);
+        }
+        push(&mut self.entries, Entry::Mark(choice))?;
+        Ok(Mark { len: len as u32 })
+    }
+
+    /// Takes out the entries from the mark on.
+    pub fn back(&mut self, mark: Mark)
+        requires { mark.len ≤ length self.old }
+        ensures { self.new ≡ take mark.len self.old }
+    {
+        let later = count_facts(&self.entries[mark.len as usize..]);
+        self.facts.undo_to(self.facts.len() - later);
+        self.entries.truncate(mark.len as usize);
+    }
+}
+
+// The fact or the mark of an entry.
+fn item_at(entry: &Entry) -> Item
+    ensures { result ≡ item_of entry.now }
+{
+    match entry {
+        Entry::Fact(fact, _) => Item::Fact(*fact),
+        Entry::Mark(choice) => Item::Mark(*choice),
+    }
+}
+
+// Puts an entry last.
+fn push<A: Allocator + Copy>(entries: &mut Vec<Entry, A>, entry: Entry) -> Result<(), NoMemory>
+    ensures put { OnOk result (entries.new.items ≡ entries.old.items ++ entry ∷ []) }
+    ensures unchanged { OnErr result (entries.new.items ≡ entries.old.items) }
+{
+    entries.push(entry)?;
+    Ok(())
+}
+
+// Puts the facts from a place on last, as entries that rest on the same.
+fn follow<A: Allocator + Copy>(
+    entries: &mut Vec<Entry, A>,
+    facts: &FactTree<A>,
+    from: usize,
+    by: &By,
+) -> Result<(), NoMemory>
+    requires { from ≤ length facts.now }
+    ensures put { OnOk result (entries.new.items ≡ entries.old.items ++ grounded by.now (drop from facts.now)) }
+    ensures small { OnOk result (length entries.old.items < 2 ^ 32 → length entries.new.items < 2 ^ 32) }
+    ensures begins { OnErr result (take (length entries.old.items) entries.new.items ≡ entries.old.items) }
+{
+    for place in from..facts.len() {
+        if entries.len() >= MOST {
+            return Err(NoMemory);
+        }
+        let by = by.try_clone()?;
+        push(entries, Entry::Fact(facts.fact(place), by))?;
+    }
+    Ok(())
+}
+
+// How many of the entries are facts.
+fn count_facts(entries: &[Entry]) -> usize
+    requires { length entries.now < 2 ^ 32 }
+    ensures { result ≡ length (facts_in entries.now) }
+{
+    let mut count = 0;
+    for entry in entries {
+        count += facts_of(entry);
+    }
+    count
+}
+
+// How many facts the entry is, one or none.
+fn facts_of(entry: &Entry) -> usize
+    ensures count { result ≡ fact_count entry.now }
+    ensures small { result ≤ 1 }
+{
+    match entry {
+        Entry::Fact(_, _) => 1,
+        Entry::Mark(_) => 0,
+    }
+}

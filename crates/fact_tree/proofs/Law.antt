@@ -1,0 +1,118 @@
+-- What is kept of facts that speak of nodes: as many nodes as there are, and links to their representatives.
+use Rattle.std.proofs.Common.{◌≡◌, ℕ, zero, suc, ◌+◌, ◌<◌, ◌≤◌, min, max, Bool, true, false, List, [], ◌∷◌, ◌++◌, length, get_or, refl, ap, sym, subst, ◌∙◌, arith, inl, inr}
+use Rattle.std.specs.Prelude.{◌==◌, ◌&&◌, ◌||◌, nat_lt, if◌then◌else◌}
+use Rattle.std.proofs.lemmas.Bool.{cases_eq, cases_lt, eq-eqb, ne_eqb}
+use Rattle.std.proofs.lemmas.Bool.Decides.{nat_tests}
+use Rattle.std.proofs.lemmas.List.{length-set, length-append}
+use Rattle.fact_specs.specs.declared.Fact.{Fact}
+use Rattle.fact_specs.specs.declared.Fact.TheVariants.{Has, Edge, Apart, Same}
+use Rattle.fact_specs.specs.Joins.{rep_after, rep}
+use Rattle.fact_specs.specs.State.{node_count}
+use Rattle.fact_specs.proofs.Joined.{by_last, rep-snoc}
+use Rattle.fact_tree.specs.Kept.{Lists, Kept, new_lists, bare, having, leading, parted, absorbing, lists_at, grown, made, linked, at_of, high_of, after, kept_of}
+use Rattle.fact_tree.specs.Entries.{IsLinked, IsFit, AreFit, IsPlace, AreOrdered, is_in}
+use Rattle.fact_tree.proofs.Linked.{kept_of-snoc, count_after, node_count-snoc, fit_before, fit_last, after_linked, member_links, high_stays}
+
+-- ---- how many nodes there are
+
+made_count : (k : Kept) (from to : ℕ) → to ≤ length k.nodes → length (made from to k).nodes ≡ max (to + 1) (length k.nodes)
+made_count k from to le = elim (cases_eq to (length k.nodes)) [
+  | inl same ↦
+      ap (λ (b : Bool). length (if b then grown from k else k).nodes) (eq-eqb to (length k.nodes) same) ∙ length-append k.nodes (new_lists (length k.nodes) from ∷ [])
+      ∙ (let e : length k.nodes + length (new_lists (length k.nodes) from ∷ []) ≡ max (to + 1) (length k.nodes) = omega (arith, same) in e)
+  | inr other ↦ ap (λ (b : Bool). length (if b then grown from k else k).nodes) (ne_eqb to (length k.nodes) other) ∙ (let e : length k.nodes ≡ max (to + 1) (length k.nodes) = omega (arith, le, other) in e)
+]
+
+pub joined_count : (k : Kept) (at high : ℕ) → length (if at == high then k else linked high at k).nodes ≡ length k.nodes
+joined_count k at high = by (at == high)
+  where
+    by : (b : Bool) → length (if b then k else linked high at k).nodes ≡ length k.nodes
+    by true = refl
+    by false = length-set k.nodes at (absorbing (lists_at k high) (lists_at k at))
+
+after_count : (m : ℕ → ℕ) (k : Kept) (f : Fact ℕ) → IsFit (length k.nodes) f → length (after m f k).nodes ≡ count_after f (length k.nodes)
+after_count m k (Has y c) fit = length-set k.nodes (m y) (having c (lists_at k (m y)))
+after_count m k (Edge r y z) fit = length-set (made y z k).nodes (m y) (leading r z (lists_at (made y z k) (m y))) ∙ made_count k y z fit.1
+after_count m k (Apart y z) fit = length-set k.nodes (m y) (parted z (lists_at k (m y)))
+after_count m k (Same y z) fit = joined_count k (min (m y) (m z)) (max (m y) (m z))
+
+pub count_is : (fs : List (Fact ℕ)) → AreFit fs → length (kept_of fs).nodes ≡ node_count fs
+count_is = by_last {X = Fact ℕ} (λ fs. AreFit fs → length (kept_of fs).nodes ≡ node_count fs) (λ fit. refl)
+    (λ fs f ih fit.
+    let before = ih (fit_before fs (f ∷ []) fit) in
+    let here : IsFit (length (kept_of fs).nodes) f = subst (λ (n : ℕ). IsFit n f) (sym before) (fit_last fs f fit) in
+    ap (λ (k : Kept). length k.nodes) (kept_of-snoc fs f) ∙ after_count (rep fs) (kept_of fs) f here ∙ ap (count_after f) before ∙ sym (node_count-snoc fs f))
+
+-- ---- links
+
+one_link : (x d : ℕ) → x < 1 → get_or (0 ∷ []) x d ≡ x
+one_link zero d lt = refl
+one_link (suc x) d lt = absurd (omega (arith, lt))
+
+only : (x : ℕ) → x < 1 → get_or (bare ∷ []) x bare ≡ bare
+only zero lt = refl
+only (suc x) lt = absurd (omega (arith, lt))
+
+only_member : (x r : ℕ) → r < 1 → (0 == x || false) ≡ (nat_lt x 1 && x == r)
+only_member x r lt = grind (arith, nat_tests)
+
+pub kept_linked : (fs : List (Fact ℕ)) → AreFit fs → IsLinked (rep fs) (kept_of fs)
+kept_linked = by_last {X = Fact ℕ} (λ fs. AreFit fs → IsLinked (rep fs) (kept_of fs))
+    (λ fit. record {
+      equal = refl;
+      some = omega arith;
+      leads = record { each = one_link };
+      below = λ x. omega arith;
+      twice = λ x. refl;
+      beyond = λ x le. refl;
+      members = λ r x lt own. ap (λ (l : Lists). is_in x l.members) (only r lt) ∙ only_member x r lt;
+      heads = λ r d lt. ap (λ (l : Lists). get_or l.members 0 d) (only r lt) ∙ (let e : 0 ≡ r = omega (arith, lt) in e);
+    })
+    (λ fs f ih fit.
+    let first = fit_before fs (f ∷ []) fit in
+    let here : IsFit (length (kept_of fs).nodes) f = subst (λ (n : ℕ). IsFit n f) (sym (count_is fs first)) (fit_last fs f fit) in
+    let all : rep (fs ++ f ∷ []) ≡ rep_after (rep fs) f = λ i x. rep-snoc fs f x i in
+    subst (λ (k : Kept). IsLinked (rep (fs ++ f ∷ [])) k) (sym (kept_of-snoc fs f)) (subst (λ (m : ℕ → ℕ). IsLinked m (after (rep fs) f (kept_of fs))) (sym all) (after_linked (rep fs) (kept_of fs) f (ih first) here)))
+
+pub links_count : (fs : List (Fact ℕ)) → AreFit fs → length (kept_of fs).links ≡ node_count fs
+links_count fs fit = (kept_linked fs fit).equal ∙ count_is fs fit
+
+-- what a link is read as
+pub root_is : (fs : List (Fact ℕ)) (k : Kept) (x at : ℕ) → AreFit fs → k ≡ kept_of fs → (x < length k.links → at ≡ get_or k.links x 0) → (length k.links ≤ x → at ≡ x) → at ≡ rep fs x
+root_is fs k x at fit is linked beyond =
+    let links = kept_linked fs fit in
+    let same = ap (λ (j : Kept). length j.links) is in
+    elim (cases_lt x (length k.links)) [
+      | inl lt ↦ linked lt ∙ ap (λ (j : Kept). get_or j.links x 0) is ∙ links.leads.each x 0 (omega (arith, lt, same))
+      | inr ge ↦ beyond ge ∙ sym (links.beyond x (omega (arith, ge, same, links.equal)))
+    ]
+
+-- ---- the nodes of a fact
+
+place_by : (m : ℕ → ℕ) (k : Kept) (at high : ℕ) → IsLinked m k → at < length k.nodes → high < length k.nodes → m high ≡ high → IsPlace at high k
+place_by m k at high h lt high-in own = record {
+  node_exists = lt;
+  high_exists = high-in;
+  equal = h.equal;
+  head = h.heads high 0 high-in;
+  own = λ x there. member_links m k high x h high-in own there;
+}
+
+place_at : (m : ℕ → ℕ) (k : Kept) (y : ℕ) → IsLinked m k → y < length k.nodes → IsPlace (m y) (m y) k
+place_at m k y h lt = let within : m y < length k.nodes = omega (arith, h.below y, lt) in place_by m k (m y) (m y) h within within (h.twice y)
+
+place_two : (m : ℕ → ℕ) (k : Kept) (y z : ℕ) → IsLinked m k → y < length k.nodes → z < length k.nodes → IsPlace (min (m y) (m z)) (max (m y) (m z)) k
+place_two m k y z h ly lz =
+    place_by m k (min (m y) (m z)) (max (m y) (m z)) h (omega (arith, h.below y, ly)) (omega (arith, h.below y, h.below z, ly, lz)) (high_stays m k y z h ly lz)
+
+pub place_of : (m : ℕ → ℕ) (k : Kept) (f : Fact ℕ) → IsLinked m k → IsFit (length k.nodes) f → IsPlace (at_of m f) (high_of m f) k
+place_of m k (Has y c) h fit = place_at m k y h fit
+place_of m k (Edge r y z) h fit = place_at m k y h fit.0
+place_of m k (Apart y z) h fit = place_at m k y h fit.0
+place_of m k (Same y z) h fit = place_two m k y z h fit.0 fit.1
+
+pub ordered_of : (m : ℕ → ℕ) (f : Fact ℕ) → AreOrdered (at_of m f) (high_of m f) f
+ordered_of m (Has y c) = tt
+ordered_of m (Edge r y z) = tt
+ordered_of m (Apart y z) = tt
+ordered_of m (Same y z) = omega arith

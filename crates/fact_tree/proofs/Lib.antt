@@ -1,0 +1,12 @@
+pub mod Each
+pub mod Growing
+pub mod Undone
+pub mod Absorbed
+pub mod Linked
+pub mod Law
+pub mod Entries
+pub mod Content
+pub mod Reading
+pub mod Parents
+pub mod Distinct
+pub mod Fresh

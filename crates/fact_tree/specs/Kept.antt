@@ -1,0 +1,136 @@
+-- What a tree keeps of a list of facts, as a fold over it: a link for each node, to its representative, and the lists of each
+-- node, of which those of representatives are read.
+use Rattle.std.specs.Prelude.{◌≡◌, ℕ, ◌==◌, min, max, List, [], ◌∷◌, ◌++◌, length, take, get_or, if◌then◌else◌, slice_set}
+use Rattle.std.specs.List.{list_any}
+use Rattle.fact_specs.specs.declared.Fact.{Fact}
+use Rattle.fact_specs.specs.declared.Fact.TheVariants.{Has, Edge, Apart, Same}
+use Rattle.fact_specs.specs.Joins.{rep_after}
+
+-- the lists of a node
+pub record Lists : Type 0 where
+  pub parent : ℕ
+  pub members : List ℕ
+  pub concepts : List ℕ
+  pub edges : List (ℕ × ℕ)
+  pub aparts : List ℕ
+
+pub record Kept : Type 0 where
+  pub links : List ℕ
+  pub nodes : List Lists
+
+-- ---- one node
+
+abbrev pub new_lists : ℕ → ℕ → Lists
+new_lists node parent = record { parent = parent; members = node ∷ []; concepts = 0 ∷ []; edges = []; aparts = [] }
+
+abbrev pub with_concept : List ℕ → ℕ → List ℕ
+with_concept cs c = if list_any (λ d. d == c) cs then cs else cs ++ c ∷ []
+
+abbrev pub with_concepts : List ℕ → List ℕ → List ℕ
+with_concepts cs [] = cs
+with_concepts cs (d ∷ ds) = with_concepts (with_concept cs d) ds
+
+abbrev pub having : ℕ → Lists → Lists
+having c n = record n { concepts = with_concept n.concepts c }
+
+abbrev pub leading : ℕ → ℕ → Lists → Lists
+leading role end n = record n { edges = n.edges ++ (role, end) ∷ [] }
+
+abbrev pub parted : ℕ → Lists → Lists
+parted other n = record n { aparts = n.aparts ++ other ∷ [] }
+
+-- with several concepts put last, of which each that is there already stays where it is
+abbrev pub putting : List ℕ → Lists → Lists
+putting cs n = record n { concepts = with_concepts n.concepts cs }
+
+-- with what another node has put behind
+abbrev pub absorbing : Lists → Lists → Lists
+absorbing other n = record n {
+  members = n.members ++ other.members;
+  concepts = with_concepts n.concepts other.concepts;
+  edges = n.edges ++ other.edges;
+  aparts = n.aparts ++ other.aparts;
+}
+
+-- the later lists begin with the earlier ones
+pub record Begins (earlier later : Lists) : Type 0 where
+  pub parent : later.parent ≡ earlier.parent
+  pub members : take (length earlier.members) later.members ≡ earlier.members
+  pub concepts : take (length earlier.concepts) later.concepts ≡ earlier.concepts
+  pub edges : take (length earlier.edges) later.edges ≡ earlier.edges
+  pub aparts : take (length earlier.aparts) later.aparts ≡ earlier.aparts
+
+abbrev pub cut_lists : ℕ → ℕ → ℕ → ℕ → Lists → Lists
+cut_lists members concepts edges aparts n = record n {
+  members = take members n.members;
+  concepts = take concepts n.concepts;
+  edges = take edges n.edges;
+  aparts = take aparts n.aparts;
+}
+
+-- ---- all nodes
+
+abbrev pub bare : Lists
+bare = new_lists 0 0
+
+abbrev pub lists_at : Kept → ℕ → Lists
+lists_at k x = get_or k.nodes x bare
+
+abbrev pub changed_at : ℕ → (Lists → Lists) → Kept → Kept
+changed_at x change k = record { links = k.links; nodes = slice_set k.nodes x (change (lists_at k x)) }
+
+-- with a new node, a representative
+abbrev pub grown : ℕ → Kept → Kept
+grown parent k = record { links = k.links ++ length k.links ∷ []; nodes = k.nodes ++ new_lists (length k.nodes) parent ∷ [] }
+
+-- the nodes, of which the lower of two has the lists of the higher put behind its own
+abbrev pub absorbed_at : ℕ → ℕ → List Lists → List Lists
+absorbed_at high low ns = slice_set ns low (absorbing (get_or ns high bare) (get_or ns low bare))
+
+-- the list with this value at each of the places
+abbrev pub set_each : List ℕ → ℕ → List ℕ → List ℕ
+set_each [] v xs = xs
+set_each (p ∷ ps) v xs = set_each ps v (slice_set xs p v)
+
+-- the lower of two representatives gets the lists of the higher, whose members are linked to it
+abbrev pub linked : ℕ → ℕ → Kept → Kept
+linked high low k = record { links = set_each (lists_at k high).members low k.links; nodes = slice_set k.nodes low (absorbing (lists_at k high) (lists_at k low)) }
+
+-- an edge makes its end where that is the next number
+abbrev pub made : ℕ → ℕ → Kept → Kept
+made from to k = if to == length k.nodes then grown from k else k
+
+-- the node whose lists a fact changes, where m leads each node to its representative
+abbrev pub at_of : (ℕ → ℕ) → Fact ℕ → ℕ
+at_of m (Has y c) = m y
+at_of m (Edge r y z) = m y
+at_of m (Apart y z) = m y
+at_of m (Same y z) = min (m y) (m z)
+
+-- the node that it links, if it links any
+abbrev pub high_of : (ℕ → ℕ) → Fact ℕ → ℕ
+high_of m (Has y c) = m y
+high_of m (Edge r y z) = m y
+high_of m (Apart y z) = m y
+high_of m (Same y z) = max (m y) (m z)
+
+-- after one fact more, where these are the two nodes
+abbrev pub after_at : ℕ → ℕ → Fact ℕ → Kept → Kept
+after_at at high (Has y c) k = changed_at at (having c) k
+after_at at high (Edge r y z) k = changed_at at (leading r z) (made y z k)
+after_at at high (Apart y z) k = changed_at at (parted z) k
+after_at at high (Same y z) k = if at == high then k else linked high at k
+
+abbrev pub after : (ℕ → ℕ) → Fact ℕ → Kept → Kept
+after m f k = after_at (at_of m f) (high_of m f) f k
+
+abbrev pub kept_from : (ℕ → ℕ) → List (Fact ℕ) → Kept → Kept
+kept_from m [] k = k
+kept_from m (f ∷ fs) k = kept_from (rep_after m f) fs (after m f k)
+
+abbrev pub empty : Kept
+empty = record { links = 0 ∷ []; nodes = bare ∷ [] }
+
+-- what is kept of a list of facts; node 0 is there
+abbrev pub kept_of : List (Fact ℕ) → Kept
+kept_of fs = kept_from (λ x. x) fs empty

@@ -1,0 +1,4 @@
+pub mod Kept
+pub mod Short
+pub mod Entries
+pub mod Told

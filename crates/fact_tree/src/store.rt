@@ -1,0 +1,269 @@
+// What is kept of all nodes, and how it is undone.
+ghost use Rattle.std.specs.Prelude.{◌≡◌, ℕ, ◌+◌, ◌^◌, ◌<◌, ◌≤◌, ◌==◌, length, OnOk, OnErr, IfOk, [], ◌∷◌, if◌then◌else◌, slice_set, get_or};
+ghost use Rattle.fact_tree.specs.Kept.{absorbed_at, lists_at, changed_at, having, leading, parted, made, grown, linked, absorbing, bare, after_at, empty, set_each};
+ghost use Rattle.fact_tree.specs.Entries.{lengths_of, undone, relinked, Undoes, IsPlace, AreOrdered, AreLonger, IsLonger, HasMore};
+
+use crate::node::Node;
+use fact_specs::Fact;
+use shq_base::NoMemory;
+use std::alloc::Allocator;
+use std::marker::Model;
+
+// There are never more nodes.
+const MOST_NODES: usize = u32::MAX as usize - 200;
+
+/// How much was kept before a fact.
+#[derive(Clone, Copy, Debug, PartialEq, Eq)]
+pub(crate) struct Lengths {
+    /// How many nodes there were.
+    pub(crate) nodes: u32,
+    /// The node whose lists the fact makes longer.
+    pub(crate) node: u32,
+    /// How long the node's lists were.
+    pub(crate) members: u32,
+    pub(crate) concepts: u32,
+    pub(crate) edges: u32,
+    pub(crate) aparts: u32,
+}
+
+/// The links and the lists of all nodes.
+#[derive(Drop)]
+pub(crate) struct Store<A: Allocator> {
+    alloc: A,
+    links: Vec<u32, A>,
+    nodes: Vec<Node<A>, A>,
+}
+
+impl<A: Allocator> Model for Store<A> {
+    ghost use Rattle.std.specs.Prelude.{ℕ, length, ◌+◌, ◌<◌, ◌^◌};
+    ghost use Rattle.fact_tree.specs.Kept.{absorbed_at, Kept};
+
+    ghost Value = { Kept };
+
+    ghost view = { λ s. record { links = s.links.items; nodes = s.nodes.items } };
+
+    ghost invariant = { λ s. length s.nodes.items + 200 < 2 ^ 32 };
+}
+
+impl<A: Allocator + Copy> Store<A> {
+    /// Node 0 alone.
+    pub(crate) fn new_in(alloc: A) -> Result<Store<A>, NoMemory>
+        ensures { IfOk result (λ s. s ≡ empty) }
+    {
+        let mut links = Vec::new(alloc);
+        links.push(0)?;
+        let mut nodes = Vec::new(alloc);
+        nodes.push(Node::new_in(alloc, 0, 0)?)?;
+        Ok(Store {
+            alloc,
+            links,
+            nodes,
+        })
+    }
+
+    /// How many nodes there are.
+    pub(crate) fn count(&self) -> u32
+        ensures count { result ≡ length self.now.nodes }
+        ensures small { result + 200 < 2 ^ 32 }
+    {
+        self.nodes.len() as u32
+    }
+
+    /// The node to which a node is linked.
+    pub(crate) fn root(&self, node: u32) -> u32
+        ensures linked { node < length self.now.links → result ≡ get_or self.now.links node 0 }
+        ensures beyond { length self.now.links ≤ node → result ≡ node }
+    {
+        if node as usize >= self.links.len() {
+            return node;
+        }
+        self.links[node as usize]
+    }
+
+    /// What is kept of a node.
+    pub(crate) fn node(&self, node: u32) -> &Node<A>
+        requires { node < length self.now.nodes }
+        ensures { result.now ≡ lists_at self.now node }
+    {
+        &self.nodes[node as usize]
+    }
+
+    /// How much is kept, before a fact that concerns these nodes.
+    pub(crate) fn lengths(&self, node: u32) -> Lengths
+        requires { node < length self.now.nodes }
+        ensures { result ≡ lengths_of node self.now }
+    {
+        let (members, concepts, edges, aparts) = self.nodes[node as usize].lengths();
+        Lengths {
+            nodes: self.nodes.len() as u32,
+            node,
+            members,
+            concepts,
+            edges,
+            aparts,
+        }
+    }
+
+    /// Takes back what was put since there was so much.
+    pub(crate) fn undo(&mut self, lengths: Lengths)
+        requires node { lengths.node < lengths.nodes }
+        requires nodes { lengths.nodes ≤ length self.old.nodes }
+        requires links { lengths.nodes ≤ length self.old.links }
+        ensures { self.new ≡ undone lengths self.old }
+    {
+        self.links.truncate(lengths.nodes as usize);
+        self.nodes.truncate(lengths.nodes as usize);
+        let node = &mut self.nodes[lengths.node as usize];
+        relink(&mut self.links, node.later_members(lengths.members));
+        node.cut(
+            lengths.members,
+            lengths.concepts,
+            lengths.edges,
+            lengths.aparts,
+        );
+    }
+
+    fn put_concept(&mut self, at: u32, concept: u32) -> Result<(), NoMemory>
+        requires { at < length self.old.nodes }
+        ensures put { OnOk result (self.new ≡ changed_at at (having concept) self.old) }
+        ensures unchanged { OnErr result (self.new ≡ self.old) }
+    {
+        self.nodes[at as usize].put_concept(concept)
+    }
+
+    fn put_edge(&mut self, at: u32, role: u32, end: u32) -> Result<(), NoMemory>
+        requires { at < length self.old.nodes }
+        ensures put { OnOk result (self.new ≡ changed_at at (leading role end) self.old) }
+        ensures unchanged { OnErr result (self.new ≡ self.old) }
+    {
+        self.nodes[at as usize].put_edge(role, end)
+    }
+
+    fn put_apart(&mut self, at: u32, other: u32) -> Result<(), NoMemory>
+        requires { at < length self.old.nodes }
+        ensures put { OnOk result (self.new ≡ changed_at at (parted other) self.old) }
+        ensures unchanged { OnErr result (self.new ≡ self.old) }
+    {
+        self.nodes[at as usize].put_apart(other)
+    }
+
+    /// Keeps one fact more, at these two nodes.
+    ///
+    /// # Errors
+    ///
+    /// Want of memory. What was kept is kept, and `undo` leads back to it.
+    pub(crate) fn put(&mut self, fact: &Fact<u32>, at: u32, high: u32) -> Result<(), NoMemory>
+        requires place { IsPlace at high self.old }
+        requires ordered { AreOrdered at high fact.now }
+        ensures put { OnOk result (self.new ≡ after_at at high fact.now self.old) }
+        ensures back { OnErr result (Undoes (lengths_of at self.old) self.new self.old) }
+    {
+        match *fact {
+            Fact::Has(_, concept) => self.put_concept(at, concept),
+            Fact::Edge(role, from, to) => self.put_made(at, role, from, to),
+            Fact::Apart(_, other) => self.put_apart(at, other),
+            Fact::Same(_, _) => self.join_two(high, at),
+        }
+    }
+
+    // Makes the edge's end too, where that is the next number.
+    fn put_made(&mut self, at: u32, role: u32, from: u32, to: u32) -> Result<(), NoMemory>
+        requires { at < length self.old.nodes }
+        ensures put { OnOk result (self.new ≡ changed_at at (leading role to) (made from to self.old)) }
+        ensures begins { OnErr result (HasMore self.old self.new) }
+    {
+        self.make(from, to)?;
+        self.put_edge(at, role, to)
+    }
+
+    fn make(&mut self, from: u32, to: u32) -> Result<(), NoMemory>
+        ensures put { OnOk result (self.new ≡ made from to self.old) }
+        ensures begins { OnErr result (HasMore self.old self.new) }
+    {
+        if to as usize == self.nodes.len() {
+            return self.grow(from);
+        }
+        Ok(())
+    }
+
+    fn join_two(&mut self, high: u32, low: u32) -> Result<(), NoMemory>
+        requires falls { low ≤ high }
+        requires exists { high < length self.old.nodes }
+        requires links { high < length self.old.links }
+        ensures put { OnOk result (self.new ≡ if low == high then self.old else linked high low self.old) }
+        ensures begins { OnErr result (IsLonger low self.old self.new) }
+    {
+        if low == high {
+            return Ok(());
+        }
+        self.join(high, low)
+    }
+
+    /// Makes a node, which is a representative.
+    fn grow(&mut self, parent: u32) -> Result<(), NoMemory>
+        ensures put { OnOk result (self.new ≡ grown parent self.old) }
+        ensures begins { OnErr result (HasMore self.old self.new) }
+    {
+        if self.nodes.len() >= MOST_NODES || self.links.len() >= MOST_NODES {
+            return Err(NoMemory);
+        }
+        let node = Node::new_in(self.alloc, self.nodes.len() as u32, parent)?;
+        self.links.push(self.links.len() as u32)?;
+        self.nodes.push(node)?;
+        Ok(())
+    }
+
+    /// Puts the lists of the higher of two representatives behind those of the lower, and links its members.
+    fn join(&mut self, high: u32, low: u32) -> Result<(), NoMemory>
+        requires falls { low < high }
+        requires exists { high < length self.old.nodes }
+        requires links { high < length self.old.links }
+        ensures put { OnOk result (self.new ≡ linked high low self.old) }
+        ensures begins { OnErr result (IsLonger low self.old self.new) }
+    {
+        absorb_at(self.nodes.as_mut_slice(), high, low)?;
+        link_each(&mut self.links, self.nodes[high as usize].members(), low);
+        Ok(())
+    }
+}
+
+fn absorb_at<A: Allocator + Copy>(
+    nodes: &mut [Node<A>],
+    high: u32,
+    low: u32,
+) -> Result<(), NoMemory>
+    requires falls { low < high }
+    requires exists { high < length nodes.old }
+    ensures put { OnOk result (nodes.new ≡ absorbed_at high low nodes.old) }
+    ensures begins { OnErr result (AreLonger low nodes.old nodes.new) }
+{
+    let (front, back) = nodes.split_at_mut(high as usize);
+    front[low as usize].absorb(&back[0])
+}
+
+// Links each of the nodes to this one.
+fn link_each(links: &mut [u32], nodes: &[u32], to: u32)
+    ensures { links.new ≡ set_each nodes.now to links.old }
+{
+    for node in nodes {
+        link(links, *node, to);
+    }
+}
+
+// Links a node to this one, if it is there.
+fn link(links: &mut [u32], node: u32, to: u32)
+    ensures { links.new ≡ slice_set links.old node to }
+{
+    if (node as usize) < links.len() {
+        links[node as usize] = to;
+    }
+}
+
+// Links the nodes to the first of them.
+fn relink(links: &mut [u32], nodes: &[u32])
+    ensures { links.new ≡ relinked nodes.now links.old }
+{
+    if let Some(first) = nodes.first() {
+        link_each(links, nodes, *first);
+    }
+}

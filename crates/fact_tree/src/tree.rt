@@ -1,0 +1,346 @@
+// Facts, and what they say.
+ghost use Rattle.std.specs.Prelude.{◌≡◌, ℕ, ◌+◌, ◌-◌, ◌<◌, ◌≤◌, ◌^◌, [], ◌∷◌, ◌++◌, OnOk, OnErr, IfOk, length, take, slice_get, Some};
+ghost use Rattle.fact_specs.specs.Joins.{rep};
+ghost use Rattle.fact_specs.specs.State.{node_count, has, are_apart, parent as parent_of, new_nodes, apart_from, pairwise_apart, fresh_facts};
+ghost use Rattle.fact_specs.specs.declared.Fact.TheVariants.{Has, Edge};
+ghost use Rattle.fact_tree.specs.Kept.{Kept, kept_of, after_at, at_of, high_of};
+ghost use Rattle.fact_tree.specs.Entries.{IsFit, IsPlace, AreOrdered, Undoes, Leads, lengths_of};
+ghost use Rattle.fact_tree.specs.Told.{with_fresh, IsLabel, IsOnce, AreEdges, AreAparts, is_first_apart};
+
+use crate::node::Node;
+use crate::store::{Lengths, Store};
+use fact_specs::Fact;
+use shq_base::NoMemory;
+use std::alloc::Allocator;
+use std::marker::Model;
+
+/// A fact, and how much was kept before it.
+#[derive(Clone, Copy, Debug, PartialEq, Eq)]
+pub(crate) struct Entry {
+    pub(crate) fact: Fact<u32>,
+    pub(crate) lengths: Lengths,
+}
+
+/// The facts of a trail, and what they say of their nodes.
+#[derive(Drop)]
+pub struct FactTree<A: Allocator> {
+    store: Store<A>,
+    entries: Vec<Entry, A>,
+}
+
+impl<A: Allocator> Model for FactTree<A> {
+    ghost use Rattle.std.specs.Prelude.{◌≡◌, ℕ, List};
+    ghost use Rattle.fact_specs.specs.declared.Fact.{Fact as PlainFact};
+    ghost use Rattle.fact_tree.specs.Kept.{kept_of};
+    ghost use Rattle.fact_tree.specs.Entries.{facts_of, AreEntries, AreFit};
+
+    ghost Value = { List (PlainFact ℕ) };
+
+    ghost view = { λ t. facts_of t.entries.items };
+
+    ghost invariant = { λ t. (t.store ≡ kept_of (facts_of t.entries.items)) × AreEntries t.entries.items × AreFit (facts_of t.entries.items) };
+}
+
+impl<A: Allocator + Copy> FactTree<A> {
+    /// Node 0, of which nothing is known.
+    ///
+    /// # Errors
+    ///
+    /// Want of memory.
+    pub fn new_in(alloc: A) -> Result<FactTree<A>, NoMemory>
+        ensures { IfOk result (λ t. t ≡ []) }
+    {
+        Ok(FactTree {
+            store: Store::new_in(alloc)?,
+            entries: Vec::new(alloc),
+        })
+    }
+
+    /// How many facts there are.
+    pub fn len(&self) -> usize
+        ensures { result ≡ length self.now }
+    {
+        self.entries.len()
+    }
+
+    /// The fact at a place, from 0.
+    pub fn fact(&self, place: usize) -> Fact<u32>
+        requires { place < length self.now }
+        ensures { slice_get self.now place ≡ Some result }
+    {
+        self.entries[place].fact
+    }
+
+    /// How many nodes there are.
+    pub fn nodes(&self) -> u32
+        ensures count { result ≡ node_count self.now }
+        ensures small { result + 200 < 2 ^ 32 }
+    {
+        let _ = &self.entries;
+        self.store.count()
+    }
+
+    /// The representative of a node.
+    pub fn representative(&self, node: u32) -> u32
+        ensures { result ≡ rep self.now node }
+    {
+        let _ = &self.entries;
+        self.store.root(node)
+    }
+
+    /// What a node has, each concept once.
+    pub fn label(&self, node: u32) -> &[u32]
+        ensures held { IsLabel self.now node result.now }
+        ensures once { IsOnce result.now }
+    {
+        let _ = &self.entries;
+        if node >= self.nodes() {
+            return &[0];
+        }
+        self.lists(node).concepts()
+    }
+
+    /// The edges that begin at a node, each as its role and a node, whose representative is the end.
+    pub fn edges(&self, node: u32) -> &[(u32, u32)]
+        ensures { AreEdges self.now node result.now }
+    {
+        let _ = &self.entries;
+        if node >= self.nodes() {
+            return &[];
+        }
+        self.lists(node).edges()
+    }
+
+    /// Whether a node has a concept.
+    pub fn has(&self, node: u32, concept: u32) -> bool
+        ensures { result ≡ has self.now node concept }
+    {
+        self.label(node).contains(&concept)
+    }
+
+    /// The parent of a node, which node 0 does not have.
+    pub fn parent(&self, node: u32) -> Option<u32>
+        requires { node < node_count self.now }
+        ensures { result ≡ parent_of self.now node }
+    {
+        let _ = &self.entries;
+        if node == 0 {
+            return None;
+        }
+        Some(self.store.node(node).parent())
+    }
+
+    // The lists of a node's representative.
+    fn lists(&self, node: u32) -> &Node<A>
+        requires { node < node_count self.now }
+        ensures label { IsLabel self.now node result.now.concepts }
+        ensures once { IsOnce result.now.concepts }
+        ensures edges { AreEdges self.now node result.now.edges }
+        ensures aparts { AreAparts self.now node result.now.aparts }
+    {
+        let _ = &self.entries;
+        self.store.node(self.store.root(node))
+    }
+
+    /// Whether two nodes are apart.
+    #[tactic(auto, using(crate::proofs::Reading::apart_is_either))]
+    pub fn are_apart(&self, first: u32, second: u32) -> bool
+        requires first { first < node_count self.now }
+        requires second { second < node_count self.now }
+        ensures { result ≡ are_apart self.now first second }
+    {
+        self.names_apart(first, second) || self.names_apart(second, first)
+    }
+
+    // Whether a fact keeps two nodes apart that names the first of them first.
+    fn names_apart(&self, first: u32, second: u32) -> bool
+        requires { first < node_count self.now }
+        ensures { result ≡ is_first_apart self.now first second }
+    {
+        let root = self.representative(second);
+        let mut is_met = false;
+        for other in self.lists(first).aparts() {
+            is_met = is_met || self.representative(*other) == root;
+        }
+        is_met
+    }
+
+    /// Knows one fact more.
+    ///
+    /// # Errors
+    ///
+    /// Want of memory; nothing has changed.
+    pub fn add(&mut self, fact: Fact<u32>) -> Result<(), NoMemory>
+        requires { IsFit (node_count self.old) fact }
+        ensures added { OnOk result (self.new ≡ self.old ++ fact ∷ []) }
+        ensures unchanged { OnErr result (self.new ≡ self.old) }
+    {
+        let (at, high) = places(&self.store, fact);
+        let lengths = self.store.lengths(at);
+        let entry = Entry { fact, lengths };
+        let outcome = put(&mut self.store, &mut self.entries, entry, high);
+        if outcome.is_err() {
+            self.store.undo(lengths);
+        }
+        outcome
+    }
+
+    /// Makes nodes at the ends of edges from a node, each with the concept, and pairwise apart, and answers the first.
+    ///
+    /// # Errors
+    ///
+    /// Want of memory; nothing has changed.
+    pub fn fresh(&mut self, from: u32, role: u32, concept: u32, count: u32) -> Result<u32, NoMemory>
+        requires from { from < node_count self.old }
+        requires count { count ≤ 101 }
+        ensures first { IfOk result (λ first. first ≡ node_count self.old) }
+        ensures made { OnOk result (self.new ≡ with_fresh self.old from role concept count) }
+        ensures unchanged { OnErr result (self.new ≡ self.old) }
+    {
+        let len = self.len();
+        let first = self.nodes();
+        match self.put_fresh(from, role, concept, first, count) {
+            Ok(()) => Ok(first),
+            Err(error) => {
+                self.undo_to(len);
+                Err(error)
+            }
+        }
+    }
+
+    fn put_fresh(
+        &mut self,
+        from: u32,
+        role: u32,
+        concept: u32,
+        first: u32,
+        count: u32,
+    ) -> Result<(), NoMemory>
+        requires from { from < node_count self.old }
+        requires count { count ≤ 101 }
+        requires first { first ≡ node_count self.old }
+        requires small { first + count < 2 ^ 32 }
+        ensures made { OnOk result (self.new ≡ self.old ++ fresh_facts from role concept first count) }
+        ensures begins { OnErr result (take (length self.old) self.new ≡ self.old) }
+    {
+        self.put_nodes(from, role, concept, first, count)?;
+        self.put_pairwise(first, count)
+    }
+
+    fn put_nodes(
+        &mut self,
+        from: u32,
+        role: u32,
+        concept: u32,
+        first: u32,
+        count: u32,
+    ) -> Result<(), NoMemory>
+        requires from { from < node_count self.old }
+        requires count { count ≤ 101 }
+        requires first { first ≡ node_count self.old }
+        requires small { first + count < 2 ^ 32 }
+        ensures made { OnOk result (self.new ≡ self.old ++ new_nodes from role concept first count) }
+        ensures count { OnOk result (node_count self.new ≡ first + count) }
+        ensures begins { OnErr result (take (length self.old) self.new ≡ self.old) }
+    {
+        for place in 0..count {
+            self.put_node(from, role, concept, first + place)?;
+        }
+        Ok(())
+    }
+
+    fn put_node(&mut self, from: u32, role: u32, concept: u32, node: u32) -> Result<(), NoMemory>
+        requires from { from < node_count self.old }
+        requires node { node ≡ node_count self.old }
+        ensures made { OnOk result (self.new ≡ self.old ++ Edge role from node ∷ Has node concept ∷ []) }
+        ensures nodes { OnOk result (node_count self.new ≡ node + 1) }
+        ensures begins { OnErr result (take (length self.old) self.new ≡ self.old) }
+    {
+        self.add(Fact::Edge(role, from, node))?;
+        self.add(Fact::Has(node, concept))
+    }
+
+    fn put_pairwise(&mut self, first: u32, count: u32) -> Result<(), NoMemory>
+        requires others { first + count ≤ node_count self.old }
+        requires small { first + count < 2 ^ 32 }
+        ensures made { OnOk result (self.new ≡ self.old ++ pairwise_apart first count) }
+        ensures begins { OnErr result (take (length self.old) self.new ≡ self.old) }
+    {
+        for place in 0..count {
+            self.put_apart_from(first + place, first + place + 1, count - place - 1)?;
+        }
+        Ok(())
+    }
+
+    fn put_apart_from(&mut self, node: u32, first: u32, count: u32) -> Result<(), NoMemory>
+        requires node { node < node_count self.old }
+        requires others { first + count ≤ node_count self.old }
+        requires small { first + count < 2 ^ 32 }
+        ensures made { OnOk result (self.new ≡ self.old ++ apart_from node first count) }
+        ensures nodes { OnOk result (node_count self.new ≡ node_count self.old) }
+        ensures begins { OnErr result (take (length self.old) self.new ≡ self.old) }
+    {
+        for place in 0..count {
+            self.add(Fact::Apart(node, first + place))?;
+        }
+        Ok(())
+    }
+
+    /// Forgets the facts after the first so many.
+    pub fn undo_to(&mut self, len: usize)
+        requires { len ≤ length self.old }
+        ensures { self.new ≡ take len self.old }
+    {
+        for _ in len..self.entries.len() {
+            self.pop();
+        }
+    }
+
+    // Forgets the last fact.
+    fn pop(&mut self)
+        requires { 0 < length self.old }
+        ensures { self.new ≡ take (length self.old - 1) self.old }
+    {
+        let last = self.entries.len() - 1;
+        self.store.undo(self.entries[last].lengths);
+        self.entries.truncate(last);
+    }
+}
+
+// The representatives that a fact speaks of.
+fn places<A: Allocator + Copy>(store: &Store<A>, fact: Fact<u32>) -> (u32, u32)
+    requires { IsFit (length store.now.links) fact }
+    ensures at { (m : ℕ → ℕ) → Leads m store.now.links → result.0 ≡ at_of m fact }
+    ensures high { (m : ℕ → ℕ) → Leads m store.now.links → result.1 ≡ high_of m fact }
+{
+    match fact {
+        Fact::Has(x, _) | Fact::Edge(_, x, _) | Fact::Apart(x, _) => {
+            let root = store.root(x);
+            (root, root)
+        }
+        Fact::Same(x, y) => {
+            let (x, y) = (store.root(x), store.root(y));
+            (x.min(y), x.max(y))
+        }
+    }
+}
+
+// Keeps one entry more.
+fn put<A: Allocator + Copy>(
+    store: &mut Store<A>,
+    entries: &mut Vec<Entry, A>,
+    entry: Entry,
+    high: u32,
+) -> Result<(), NoMemory>
+    requires place { IsPlace entry.lengths.node high store.old }
+    requires ordered { AreOrdered entry.lengths.node high entry.fact }
+    requires lengths { entry.lengths ≡ lengths_of entry.lengths.node store.old }
+    ensures store { OnOk result (store.new ≡ after_at entry.lengths.node high entry.fact store.old) }
+    ensures entries { OnOk result (entries.new.items ≡ entries.old.items ++ entry ∷ []) }
+    ensures back { OnErr result (Undoes entry.lengths store.new store.old) }
+    ensures unchanged { OnErr result (entries.new.items ≡ entries.old.items) }
+{
+    store.put(&entry.fact, entry.lengths.node, high)?;
+    entries.push(entry)?;
+    Ok(())
+}
