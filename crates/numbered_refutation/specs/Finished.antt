@@ -1,0 +1,61 @@
+-- The refutation of lines whose concepts are numbers of a table.
+use Rattle.std.specs.Prelude.{◌≡◌, ℕ, nat_lt, Bool, true, List, ◌++◌, map, length, All}
+use Rattle.std.specs.List.{list_all}
+use Rattle.axiom_sets.specs.Sets.{Limited}
+use Rattle.shape_specs.specs.Shape.{Shape}
+use Rattle.refutation_specs.specs.Line.{Line}
+use Rattle.refutation_specs.specs.Valid.{concept_at}
+use Rattle.refutation_tree.specs.declared.line.Line.{Line as Kept}
+use Rattle.refutation_tree.specs.RuleLine.{line_of, concept_numbers, names_concepts}
+use Rattle.refutation_tree.specs.RefutationLists.{RefutationLists}
+use Rattle.tableau_specs.specs.Lines.{concept_in}
+use Rattle.closing_specs.specs.Renumbered.{renumbered, Reads}
+use Rattle.numbered_refutation.specs.Numbers.{are_used, number_in}
+use Rattle.numbered_refutation.specs.Naming.{IsNaming, Grows}
+use Rattle.numbered_refutation.specs.declared.naming.Naming.{Naming}
+
+-- whether each concept that a line names is one of the table's first n numbers
+abbrev pub is_over : ℕ → Line → Bool
+is_over n line = list_all (λ c. nat_lt c n) (concept_numbers line)
+
+abbrev pub are_over : ℕ → List Line → Bool
+are_over n lines = list_all (is_over n) lines
+
+-- the refutation has these axioms and these lines, with numbers of its own that stand for the same concepts
+pub record IsNumbered (table : List Shape) (axioms : Limited) (lines : List Line) (r : RefutationLists) : Type 0 where
+  pub axioms_are : r.axioms ≡ axioms
+  pub number' : ℕ → ℕ
+  pub lines_are : r.lines ≡ map (renumbered number') lines
+  pub reads : All (Reads (concept_in table) (concept_at r.shapes) number') lines
+
+-- ---- while it is made
+
+-- each concept that the lines name is named
+abbrev pub lines_used : List ℕ → List Line → Bool
+lines_used used lines = list_all (λ l. are_used used (concept_numbers l)) lines
+
+-- the line's concepts are named, and it has their numbers
+pub record IsLine (table : List Shape) (old new : Naming) (line made : Line) : Type 0 where
+  pub naming : IsNaming table new
+  pub grown : Grows old new (length table)
+  pub used : are_used new.used.keys (concept_numbers line) ≡ true
+  pub is : made ≡ renumbered (number_in new.used.keys) line
+
+pub record AreLines (table : List Shape) (old new : Naming) (lines made : List Line) : Type 0 where
+  pub naming : IsNaming table new
+  pub grown : Grows old new (length table)
+  pub used : lines_used new.used.keys lines ≡ true
+  pub are : made ≡ map (renumbered (number_in new.used.keys)) lines
+
+-- the first of the lines are named and made, and the rest are over the table too
+pub record IsNamingLines (table : List Shape) (old now : Naming) (lines first rest made : List Kept) : Type 0 where
+  pub split : first ++ rest ≡ lines
+  pub over : are_over (length table) (map line_of rest) ≡ true
+  pub are : AreLines table old now (map line_of first) (map line_of made)
+
+-- of the lines that are to be put, the rest are left
+pub record IsPutting (old now : RefutationLists) (lines rest : List Kept) : Type 0 where
+  pub sum : now.lines ++ map line_of rest ≡ old.lines ++ map line_of lines
+  pub same_shapes : now.shapes ≡ old.shapes
+  pub same_axioms : now.axioms ≡ old.axioms
+  pub names : list_all (names_concepts old.shapes) (map line_of rest) ≡ true

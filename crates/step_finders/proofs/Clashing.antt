@@ -1,0 +1,113 @@
+-- Why there is a plain clash, and why there is none.
+use Rattle.step_finders.specs.Clashing.{IsMost, AreMosts, IsOfParent, HasMost, AnswersOverrun, NotOverrun, NoneByShape, NoneAbove, NoClashBy}
+use Rattle.clash_specs.specs.Near.{IsOverrun, ClashesBy}
+use Rattle.clash_specs.specs.Near.ClashesBy.{by_bottom, by_name, by_complement, by_most, by_filler}
+use Rattle.shape_specs.specs.Shape.Shape.{bottom, name, not_name, at_most}
+use Rattle.fact_specs.specs.State.{node_count, first_origin, parent, has, all_apart}
+use Rattle.fact_specs.specs.Joins.{rep}
+use Rattle.step_finders.proofs.Edges.{where_any, rep_twice}
+use Rattle.clash_specs.proofs.Moved.{overrun_at}
+use Rattle.std.proofs.lemmas.Bool.{cases_Bool, eqb-true, ltb-true, and_parts}
+use Rattle.std.specs.List.{All, list_all}
+use Rattle.clash_specs.specs.Near.{speaks_below, speak_of_nodes}
+use Rattle.fact_specs.specs.declared.Fact.TheVariants.{Has, Edge, Apart, Same}
+use Rattle.std.proofs.Common.{ltb, ◌&&◌, [], ◌∷◌, ◌≡◌, ℕ, ◌<◌, ◌≤◌, Bool, true, false, List, length, ap, ◌∙◌, sym, subst, arith, inl, inr, eqb, get_or, Some, None}
+use Rattle.shape_specs.specs.Shape.{Shape, shape_of}
+use Rattle.fact_specs.specs.declared.Fact.{Fact}
+use Rattle.tableau_specs.specs.Clash.{filled_successors}
+use Rattle.tableau_specs.specs.Steps.{SearchContext, below_of}
+use Rattle.step_finders.specs.Filled.{AreFilled, AreUnapart}
+use Rattle.step_finders.proofs.Members.{same_length, same_apart, same_unapart, pair_apart, contains_member}
+
+module _ (w : SearchContext) (fs : List (Fact ℕ)) (x n s e : ℕ) (ys : List ℕ) (is : AreFilled (below_of w) fs x s e ys) where
+  pub few : length ys ≤ n → AnswersOverrun w fs x n s e false
+  few le = λ more. absurd (omega (arith, more, le, same_length (below_of w) fs x s e ys is))
+
+  pub not_all : (y z : ℕ) → AreUnapart fs ys y z → AnswersOverrun w fs x n s e false
+  not_all y z two more = elim (cases_Bool (all_apart fs (filled_successors (below_of w) fs x s e))) [
+    | inr out ↦ out
+    | inl every ↦
+        let h = same_unapart fs (below_of w) x s e ys y z is two in
+        let k = pair_apart fs (filled_successors (below_of w) fs x s e) y z every (contains_member y (filled_successors (below_of w) fs x s e) h.has_one) (contains_member z (filled_successors (below_of w) fs x s e) h.has_other) h.differ in
+        let l = h.unapart in
+        cc
+  ]
+
+  pub all_of_them : n < length ys → all_apart fs ys ≡ true → AnswersOverrun w fs x n s e true
+  all_of_them more every = (omega (arith, more, same_length (below_of w) fs x s e ys is), same_apart fs (below_of w) x s e ys is every)
+
+same_most : (n s e m t d : ℕ) → at_most n s e ≡ at_most m t d → (n ≡ m) × (s ≡ t) × (e ≡ d)
+same_most n s e m t d h = (cc, cc, cc)
+
+module _ (w : SearchContext) (fs : List (Fact ℕ)) (x c n s e d : ℕ) (sh : at_most n s e ≡ shape_of w.table c) (most : IsMost w.table d c) where
+  is_filler : e ≡ d
+  is_filler = (same_most n s e most.count most.role d (sh ∙ most.shape)).2
+
+  shape_is : shape_of w.table c ≡ at_most n s d
+  shape_is = sym sh ∙ ap (λ (k : ℕ). at_most n s k) is_filler
+
+  pub most_found : (b : Bool) → b ≡ true → x < node_count fs → has fs x c ≡ true → AnswersOverrun w fs x n s d b → HasMost w fs x c
+  most_found true b lt h o = record { is_node = lt; count = n; role = s; filler = d; overrun = record { holds = h; shape = shape_is; more = o.0; every = o.1 } }
+  most_found false b lt h o = cc
+
+  not_that : (m t : ℕ) → AnswersOverrun w fs x n s d false → n ≡ m → s ≡ t → IsOverrun (below_of w) w.table fs x c m t d → ⊥
+  not_that m t none en es o =
+      let k = subst (λ (j : ℕ). AnswersOverrun w fs x j t d false) en (subst (λ (r : ℕ). AnswersOverrun w fs x n r d false) es none) in
+      (let l = k o.more in let p = o.every in cc)
+
+  pub most_none : (b : Bool) → b ≡ false → AnswersOverrun w fs x n s d b → NotOverrun w fs x d c
+  most_none true b h = cc
+  most_none false b h = record { none = λ m t o. let q = same_most n s d m t d (sym shape_is ∙ o.shape) in not_that m t h q.0 q.1 o }
+
+-- ---- above a node
+
+origin_below : (n : ℕ) (fs : List (Fact ℕ)) (v up : ℕ) → list_all (speaks_below n) fs ≡ true → first_origin fs v ≡ Some up → up < n
+origin_below n [] v up h o = cc
+origin_below n (Has x c ∷ fs) v up h o = origin_below n fs v up (and_parts (ltb x n) (list_all (speaks_below n) fs) h).1 o
+origin_below n (Apart x y ∷ fs) v up h o = origin_below n fs v up (and_parts (ltb x n && ltb y n) (list_all (speaks_below n) fs) h).1 o
+origin_below n (Same x y ∷ fs) v up h o = origin_below n fs v up (and_parts (ltb x n && ltb y n) (list_all (speaks_below n) fs) h).1 o
+origin_below n (Edge r x y ∷ fs) v up h o =
+    let t = and_parts (ltb x n && ltb y n) (list_all (speaks_below n) fs) h in
+    elim (cases_Bool (eqb y v)) [
+      | inl hit ↦ let e : Some x ≡ Some up = rw hit at o in let k : x ≡ up = cc in subst (λ (j : ℕ). j < n) k (ltb-true x n (and_parts (ltb x n) (ltb y n) t.0).0)
+      | inr miss ↦ origin_below n fs v up t.1 (rw miss at o)
+    ]
+
+pub parent_is_node : (fs : List (Fact ℕ)) (v up : ℕ) → speak_of_nodes fs ≡ true → parent fs v ≡ Some up → up < node_count fs
+parent_is_node fs v up h p = elim (cases_Bool (eqb v 0)) [
+  | inl zero' ↦ (let k = rw zero' at p in cc)
+  | inr pos ↦ origin_below (node_count fs) fs v up h (rw pos at p)
+]
+
+module _ (w : SearchContext) (fs : List (Fact ℕ)) (x d : ℕ) (above : IsOfParent fs x) where
+  pub none_above : (up : ℕ) (cs : List ℕ) → parent fs (rep fs x) ≡ Some up → AreMosts w.table d cs → All (NotOverrun w fs (rep fs up) d) cs → NoneAbove w fs x d
+  none_above up cs par mosts none = record {
+    none = λ z c n s edge o.
+        let b = above (λ r. below_of w r s) z edge in
+        let e : Some b.up ≡ Some up = sym b.is_parent ∙ par in
+        let k : b.up ≡ up = cc in
+        let same : rep fs z ≡ rep fs (rep fs up) = sym b.is_joined ∙ ap (rep fs) k ∙ sym (rep_twice fs up) in
+        where_any (λ j. eqb j c) ⊥ cs
+        (λ j q lt hit. (subst (NotOverrun w fs (rep fs up) d) (eqb-true (get_or cs j q) c hit) (none j q lt)).none n s (overrun_at fs (below_of w) w.table z (rep fs up) c n s d same o))
+        (mosts.every c n s o.shape);
+  }
+
+  pub none_at_root : parent fs (rep fs x) ≡ None → NoneAbove w fs x d
+  none_at_root par = record {
+    none = λ z c n s edge o.
+        let b = above (λ r. below_of w r s) z edge in
+        (let e : Some b.up ≡ None = sym b.is_parent ∙ par in cc);
+  }
+
+  by_shape : (sh : Shape) → shape_of w.table d ≡ sh → NoneByShape w fs x (shape_of w.table d) → NoneByShape w fs x sh
+  by_shape sh e h = subst (NoneByShape w fs x) e h
+
+  no_way : NoneByShape w fs x (shape_of w.table d) → NoneAbove w fs x d → ¬ ClashesBy (below_of w) w.table fs x d
+  no_way at over (by_bottom sh) = by_shape bottom sh at
+  no_way at over (by_name c a sh h th) = by_shape (name a) sh at c h th
+  no_way at over (by_complement c a sh h th) = by_shape (not_name a) sh at c h th
+  no_way at over (by_most n s e o) = (let k = by_shape (at_most n s e) o.shape at o.more in let l = o.every in cc)
+  no_way at over (by_filler z c n s lt edge o) = over.none z c n s edge o
+
+  pub no_clash : NoneByShape w fs x (shape_of w.table d) → NoneAbove w fs x d → NoClashBy w fs x d
+  no_clash at over = record { none = no_way at over }

@@ -1,0 +1,13 @@
+pub mod Each
+pub mod Edges
+pub mod Adding
+pub mod Filed
+pub mod Nothing
+pub mod Gathered
+pub mod Members
+pub mod InRow
+pub mod Making
+pub mod Ending
+pub mod Clashing
+pub mod Opposite
+pub mod Choosing

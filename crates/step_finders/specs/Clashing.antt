@@ -1,0 +1,81 @@
+-- A plain clash that a concept more makes, and what it means that there is none.
+use Rattle.std.specs.Prelude.{◌≡◌, ℕ, ◌<◌, ◌==◌, Bool, true, false, List, All, length}
+use Rattle.std.specs.List.{list_any}
+use Rattle.shape_specs.specs.Shape.{Shape, shape_of}
+use Rattle.shape_specs.specs.Shape.Shape.{bottom, name, not_name, at_most}
+use Rattle.fact_specs.specs.declared.Fact.{Fact}
+use Rattle.fact_specs.specs.State.{node_count, has, has_edge, all_apart}
+use Rattle.tableau_specs.specs.Clash.{filled_successors}
+use Rattle.tableau_specs.specs.Steps.{SearchContext, below_of}
+use Rattle.tableau_specs.specs.StepLaws.{IsChild}
+use Rattle.clash_specs.specs.Near.{IsOverrun, ClashesBy}
+use Rattle.step_finders.specs.declared.clash.Clash.{Clash}
+use Rattle.step_finders.specs.declared.clash.Clash.TheVariants.{Bottom, Both, Most}
+
+-- concept c is an 'at most' with this filler
+pub record IsMost (table : List Shape) (d c : ℕ) : Type 0 where
+  pub count : ℕ
+  pub role : ℕ
+  pub shape : shape_of table c ≡ at_most count role d
+
+-- the list has each 'at most' with this filler
+pub record AreMosts (table : List Shape) (d : ℕ) (cs : List ℕ) : Type 0 where
+  pub each : All (IsMost table d) cs
+  pub every : (c n s : ℕ) → shape_of table c ≡ at_most n s d → list_any (λ k. k == c) cs ≡ true
+
+-- each node with an edge to x is, by its representative, the parent of x
+abbrev pub IsOfParent : List (Fact ℕ) → ℕ → Type 0
+IsOfParent fs x = (roles : ℕ → Bool) (z : ℕ) → has_edge fs roles z x ≡ true → IsChild fs z x
+
+module _ (w : SearchContext) (fs : List (Fact ℕ)) where
+  pub record HasBottom (x : ℕ) : Type 0 where
+    pub is_node : x < node_count fs
+    pub concept : ℕ
+    pub holds : has fs x concept ≡ true
+    pub shape : shape_of w.table concept ≡ bottom
+
+  pub record HasBoth (x c : ℕ) : Type 0 where
+    pub is_node : x < node_count fs
+    pub other : ℕ
+    pub class : ℕ
+    pub holds : has fs x c ≡ true
+    pub shape : shape_of w.table c ≡ name class
+    pub holds_other : has fs x other ≡ true
+    pub shape_other : shape_of w.table other ≡ not_name class
+
+  pub record HasMost (x c : ℕ) : Type 0 where
+    pub is_node : x < node_count fs
+    pub count : ℕ
+    pub role : ℕ
+    pub filler : ℕ
+    pub overrun : IsOverrun (below_of w) w.table fs x c count role filler
+
+  -- the clash is a plain one
+  abbrev pub IsShown : Clash → Type 0
+  IsShown (Bottom x) = HasBottom x
+  IsShown (Both x c) = HasBoth x c
+  IsShown (Most x c) = HasMost x c
+
+  abbrev pub AnswersOverrun : ℕ → ℕ → ℕ → ℕ → Bool → Type 0
+  AnswersOverrun x n s e true = (n < length (filled_successors (below_of w) fs x s e)) × (all_apart fs (filled_successors (below_of w) fs x s e) ≡ true)
+  AnswersOverrun x n s e false = n < length (filled_successors (below_of w) fs x s e) → all_apart fs (filled_successors (below_of w) fs x s e) ≡ false
+
+  -- no 'at most' of p in the list is overrun
+  pub record NotOverrun (p d c : ℕ) : Type 0 where
+    pub none : (n s : ℕ) → ¬ IsOverrun (below_of w) w.table fs p c n s d
+
+  -- x has no concept that clashes with d, of this shape, at x itself
+  abbrev pub NoneByShape : ℕ → Shape → Type 0
+  NoneByShape x bottom = ⊥
+  NoneByShape x (name a) = (c : ℕ) → has fs x c ≡ true → ¬ (shape_of w.table c ≡ not_name a)
+  NoneByShape x (not_name a) = (c : ℕ) → has fs x c ≡ true → ¬ (shape_of w.table c ≡ name a)
+  NoneByShape x (at_most n s e) = AnswersOverrun x n s e false
+  NoneByShape x _ = Unit {0}
+
+  -- no 'at most' above x with filler d is overrun
+  pub record NoneAbove (x d : ℕ) : Type 0 where
+    pub none : (z c n s : ℕ) → has_edge fs (λ r. below_of w r s) z x ≡ true → ¬ IsOverrun (below_of w) w.table fs z c n s d
+
+  -- x has no plain clash by d
+  pub record NoClashBy (x d : ℕ) : Type 0 where
+    pub none : ¬ ClashesBy (below_of w) w.table fs x d

@@ -1,0 +1,27 @@
+-- The next step of a search, and when there is none.
+use Rattle.std.specs.Prelude.{ℕ, List}
+use Rattle.fact_specs.specs.declared.Fact.{Fact}
+use Rattle.tableau_specs.specs.declared.Item.{Item}
+use Rattle.tableau_specs.specs.Items.{facts_of}
+use Rattle.tableau_specs.specs.Steps.{SearchContext, IsSaturated, HasPlainClash}
+use Rattle.step_finders.specs.declared.step.Step.{Step}
+use Rattle.step_finders.specs.declared.step.Step.TheVariants.{Add, Generate, Choose}
+use Rattle.step_finders.specs.Found.{IsAddition, NothingToAdd}
+use Rattle.step_finders.specs.Choosing.{IsChoosable, NothingToChoose}
+use Rattle.step_finders.specs.Making.{IsMaking, NothingToMake}
+
+module _ (w : SearchContext) (fs : List (Fact ℕ)) where
+  -- the step can be made where there is no plain clash
+  abbrev pub IsStep : Step → Type 0
+  IsStep (Add x d) = IsAddition w fs x d
+  IsStep (Generate m) = IsMaking w fs m
+  IsStep (Choose b) = IsChoosable w fs b
+
+  pub record NoStep : Type 0 where
+    pub no_add : NothingToAdd w fs
+    pub no_making : NothingToMake w fs
+    pub no_choice : NothingToChoose w fs
+
+-- without a plain clash, a trail whose facts leave no step is saturated
+abbrev pub NoStepIsSaturated : Type 0
+NoStepIsSaturated = (w : SearchContext) (trail : List Item) → ¬ HasPlainClash w trail → NoStep w (facts_of trail) → IsSaturated w trail

@@ -1,0 +1,48 @@
+// Add: a concept that a rule without branches gives a node.
+ghost use Rattle.std.specs.Prelude.{◌≡◌, ◌<◌, MatchOption};
+ghost use Rattle.fact_specs.specs.Joins.{rep};
+ghost use Rattle.fact_specs.specs.State.{node_count};
+ghost use Rattle.step_finders.specs.Found.{IsAddition, NothingToAdd, NothingFrom};
+
+use crate::parts::find_at_node;
+use crate::rows::find_by_rows;
+use crate::{Rules, State};
+
+/// A node and a concept that is to be added to it; none exactly where there is none.
+pub fn find_add<S: State, R: Rules>(state: &S, rules: &R) -> Option<(u32, u32)>
+    ensures { let w = R.context rules.now in let fs = S.facts state.now in
+        MatchOption result (NothingToAdd w fs) (λ a. IsAddition w fs a.0 a.1) }
+{
+    for node in 0..state.nodes() {
+        match find_at_representative(state, rules, node) {
+            Some(addition) => return Some(addition),
+            None => {}
+        }
+    }
+    None
+}
+
+// What is to be added because of what the node has, where it is a representative.
+fn find_at_representative<S: State, R: Rules>(state: &S, rules: &R, node: u32) -> Option<(u32, u32)>
+    requires { node < node_count (S.facts state.now) }
+    ensures { let w = R.context rules.now in let fs = S.facts state.now in
+        MatchOption result (rep fs node ≡ node → NothingFrom w fs (R.files rules.now) node)
+        (λ a. IsAddition w fs a.0 a.1) }
+{
+    if state.representative(node) != node {
+        return None;
+    }
+    find_from(state, rules, node)
+}
+
+// What is to be added because of what the node has.
+fn find_from<S: State, R: Rules>(state: &S, rules: &R, node: u32) -> Option<(u32, u32)>
+    requires { node < node_count (S.facts state.now) }
+    ensures { let w = R.context rules.now in let fs = S.facts state.now in
+        MatchOption result (NothingFrom w fs (R.files rules.now) node) (λ a. IsAddition w fs a.0 a.1) }
+{
+    match find_at_node(state, rules, node) {
+        Some(addition) => Some(addition),
+        None => find_by_rows(state, rules, node),
+    }
+}

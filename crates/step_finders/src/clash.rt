@@ -1,0 +1,203 @@
+// A plain clash that a concept more makes.
+ghost use Rattle.std.specs.Prelude.{◌≡◌, ◌<◌, true, MatchOption, IfOk};
+ghost use Rattle.std.specs.List.{All};
+ghost use Rattle.shape_specs.specs.Shape.{shape_of};
+ghost use Rattle.fact_specs.specs.State.{node_count, has as holds};
+ghost use Rattle.shape_specs.specs.Tree.{IsComplement};
+ghost use Rattle.clash_specs.specs.Near.{speak_of_nodes};
+ghost use Rattle.step_finders.specs.Choosing.{LacksComplement};
+ghost use Rattle.step_finders.specs.Clashing.{IsShown, AnswersOverrun, NotOverrun, IsMost, NoneByShape, NoneAbove, NoClashBy, IsOfParent};
+
+use crate::counted::filled_successors;
+use crate::unapart::find_unapart;
+use crate::{NoMemory, Rules, State};
+use shq_nnf::Shape;
+use std::alloc::Global;
+
+/// A plain clash.
+#[derive(Clone, Copy, Debug, PartialEq, Eq)]
+pub enum Clash {
+    /// A node that has bottom.
+    Bottom(u32),
+    /// A node that has a class, as a concept, and its complement.
+    Both(u32, u32),
+    /// A node with an 'at most' of too many.
+    Most(u32, u32),
+}
+
+// Whether the successors with the filler are more than so many, and pairwise apart.
+fn is_overrun<S: State, R: Rules>(
+    alloc: Global,
+    state: &S,
+    rules: &R,
+    node: u32,
+    count: u32,
+    role: u32,
+    filler: u32,
+) -> Result<bool, NoMemory>
+    ensures { IfOk result (AnswersOverrun (R.context rules.now) (S.facts state.now) node count role filler) }
+{
+    let nodes = filled_successors(alloc, state, rules, node, role, filler)?;
+    if nodes.len() <= count as usize {
+        return Ok(false);
+    }
+    match find_unapart(state, &nodes) {
+        Some(_) => Ok(false),
+        None => Ok(true),
+    }
+}
+
+// A clash by an 'at most' with this filler, if the node has it.
+fn find_by_most<S: State, R: Rules>(
+    alloc: Global,
+    state: &S,
+    rules: &R,
+    node: u32,
+    filler: u32,
+    concept: u32,
+) -> Result<Option<Clash>, NoMemory>
+    requires is_node { node < node_count (S.facts state.now) }
+    requires shape { IsMost (R.context rules.now).table filler concept }
+    ensures { let w = R.context rules.now in let fs = S.facts state.now in
+        IfOk result (λ found. MatchOption found (NotOverrun w fs node filler concept) (IsShown w fs)) }
+{
+    if !state.has(node, concept) {
+        return Ok(None);
+    }
+    match rules.shape(concept) {
+        Shape::Max(count, role, _) => {
+            if is_overrun(alloc, state, rules, node, count, role, filler)? {
+                Ok(Some(Clash::Most(node, concept)))
+            } else {
+                Ok(None)
+            }
+        }
+        _ => Ok(None),
+    }
+}
+
+// A clash by one of these, which are all 'at most' with this filler.
+fn find_by_mosts<S: State, R: Rules>(
+    alloc: Global,
+    state: &S,
+    rules: &R,
+    node: u32,
+    filler: u32,
+    concepts: &[u32],
+) -> Result<Option<Clash>, NoMemory>
+    requires is_node { node < node_count (S.facts state.now) }
+    requires shapes { All (IsMost (R.context rules.now).table filler) concepts.now }
+    ensures { let w = R.context rules.now in let fs = S.facts state.now in
+        IfOk result (λ found. MatchOption found (All (NotOverrun w fs node filler) concepts.now) (IsShown w fs)) }
+{
+    for concept in concepts {
+        match find_by_most(alloc, state, rules, node, filler, *concept)? {
+            Some(clash) => return Ok(Some(clash)),
+            None => {}
+        }
+    }
+    Ok(None)
+}
+
+// A clash by the complement of the concept, where it is a class, or where it is the complement of one.
+fn find_opposite<S: State, R: Rules>(state: &S, rules: &R, node: u32, concept: u32) -> Option<u32>
+    ensures { let w = R.context rules.now in let fs = S.facts state.now in
+        MatchOption result (LacksComplement w fs node concept)
+        (λ c. IsComplement w.table concept c × (holds fs node c ≡ true)) }
+{
+    match rules.complement(concept) {
+        Some(complement) => {
+            if state.has(node, complement) {
+                Some(complement)
+            } else {
+                None
+            }
+        }
+        None => None,
+    }
+}
+
+// A clash at the node by the concept.
+fn find_at_node<S: State, R: Rules>(
+    alloc: Global,
+    state: &S,
+    rules: &R,
+    node: u32,
+    concept: u32,
+) -> Result<Option<Clash>, NoMemory>
+    requires is_node { node < node_count (S.facts state.now) }
+    requires holds { holds (S.facts state.now) node concept ≡ true }
+    ensures { let w = R.context rules.now in let fs = S.facts state.now in
+        IfOk result (λ found. MatchOption found (NoneByShape w fs node (shape_of w.table concept)) (IsShown w fs)) }
+{
+    match rules.shape(concept) {
+        Shape::Bottom => Ok(Some(Clash::Bottom(node))),
+        Shape::Name(_) => match find_opposite(state, rules, node, concept) {
+            Some(_) => Ok(Some(Clash::Both(node, concept))),
+            None => Ok(None),
+        },
+        Shape::NotName(_) => match find_opposite(state, rules, node, concept) {
+            Some(class) => Ok(Some(Clash::Both(node, class))),
+            None => Ok(None),
+        },
+        Shape::Max(count, role, filler) => {
+            if is_overrun(alloc, state, rules, node, count, role, filler)? {
+                Ok(Some(Clash::Most(node, concept)))
+            } else {
+                Ok(None)
+            }
+        }
+        _ => Ok(None),
+    }
+}
+
+// A clash above the node by its concept.
+fn find_above<S: State, R: Rules>(
+    alloc: Global,
+    state: &S,
+    rules: &R,
+    node: u32,
+    concept: u32,
+) -> Result<Option<Clash>, NoMemory>
+    requires is_node { node < node_count (S.facts state.now) }
+    requires speak { speak_of_nodes (S.facts state.now) ≡ true }
+    requires above { IsOfParent (S.facts state.now) node }
+    ensures { let w = R.context rules.now in let fs = S.facts state.now in
+        IfOk result (λ found. MatchOption found (NoneAbove w fs node concept) (IsShown w fs)) }
+{
+    let up = match state.parent(state.representative(node)) {
+        Some(up) => up,
+        None => return Ok(None),
+    };
+    let above = state.representative(up);
+    let found = find_by_mosts(alloc, state, rules, above, concept, rules.mosts(concept))?;
+    Ok(found)
+}
+
+/// A plain clash that is there since the node has the concept; none exactly where there is none.
+///
+/// # Errors
+///
+/// Want of memory.
+pub fn find_clash<S: State, R: Rules>(
+    alloc: Global,
+    state: &S,
+    rules: &R,
+    node: u32,
+    concept: u32,
+) -> Result<Option<Clash>, NoMemory>
+    requires is_node { node < node_count (S.facts state.now) }
+    requires holds { holds (S.facts state.now) node concept ≡ true }
+    requires speak { speak_of_nodes (S.facts state.now) ≡ true }
+    requires above { IsOfParent (S.facts state.now) node }
+    ensures { let w = R.context rules.now in let fs = S.facts state.now in
+        IfOk result (λ found. MatchOption found (NoClashBy w fs node concept) (IsShown w fs)) }
+{
+    match find_at_node(alloc, state, rules, node, concept)? {
+        Some(clash) => Ok(Some(clash)),
+        None => {
+            let found = find_above(alloc, state, rules, node, concept)?;
+            Ok(found)
+        }
+    }
+}

@@ -1,0 +1,233 @@
+// Generate: new nodes at the ends of edges.
+ghost use Rattle.std.specs.Prelude.{◌≡◌, ◌<◌, ◌≤◌, ◌+◌, ◌^◌, [], true, false, MatchOption, IfOk, IsTrue};
+ghost use Rattle.std.specs.List.{list_all, range_with_len};
+ghost use Rattle.shape_specs.specs.Shape.{shape_of};
+ghost use Rattle.shape_specs.specs.Shape.Shape.{at_least, some_of};
+ghost use Rattle.fact_specs.specs.Joins.{rep};
+ghost use Rattle.fact_specs.specs.State.{node_count, has as holds, are_apart, all_apart};
+ghost use Rattle.tableau_specs.specs.Clash.{filled_successors as all_filled};
+ghost use Rattle.tableau_specs.specs.Steps.{below_of, IsOpen};
+ghost use Rattle.step_finders.specs.Making.{IsMaking, HasFiller, AnswersRun, AnswersAmong, NoMakingByShape, NoMakingAt, NothingToMake};
+
+use crate::counted::filled_successors;
+use crate::{NoMemory, Rules, State};
+use shq_nnf::Shape;
+use std::alloc::Global;
+
+/// Nodes to be made: the node below which they are, the role and the concept, and how many.
+#[derive(Clone, Copy, Debug, PartialEq, Eq)]
+pub struct NewNodes {
+    pub parent: u32,
+    pub role: u32,
+    pub filler: u32,
+    pub count: u32,
+}
+
+// Whether a successor by a role below this one has the filler.
+fn has_filler<S: State, R: Rules>(state: &S, rules: &R, node: u32, role: u32, filler: u32) -> bool
+    ensures yes { IsTrue result → HasFiller (R.context rules.now) (S.facts state.now) node role filler }
+    ensures no { let w = R.context rules.now in let fs = S.facts state.now in
+        result ≡ false → all_filled (below_of w) fs node role filler ≡ [] }
+{
+    for edge in state.edges(node) {
+        if rules.is_below(edge.0, role) && state.has(edge.1, filler) {
+            return true;
+        }
+    }
+    false
+}
+
+// Whether the node is apart from each of so many nodes in a row.
+fn is_apart_from<S: State>(state: &S, node: u32, first: u32, count: u32) -> bool
+    requires room { first + count < 2 ^ 32 }
+    requires node { node < node_count (S.facts state.now) }
+    requires within { first + count ≤ node_count (S.facts state.now) }
+    ensures { result ≡ list_all (are_apart (S.facts state.now) node) (range_with_len first count) }
+{
+    let end = first + count;
+    for other in first..end {
+        if !state.are_apart(node, other) {
+            return false;
+        }
+    }
+    true
+}
+
+// Whether so many nodes in a row are pairwise apart.
+fn are_all_apart<S: State>(state: &S, first: u32, count: u32) -> bool
+    requires room { first + count < 2 ^ 32 }
+    requires within { first + count ≤ node_count (S.facts state.now) }
+    ensures { result ≡ all_apart (S.facts state.now) (range_with_len first count) }
+{
+    let end = first + count;
+    for node in first..end {
+        if !is_apart_from(state, node, node + 1, end - (node + 1)) {
+            return false;
+        }
+    }
+    true
+}
+
+// Whether so many nodes in a row are at ends of edges by roles below this one and have the filler, and are pairwise
+// apart. A node that has been joined to another is one of them where its representative is.
+fn has_run<S: State, R: Rules>(
+    alloc: Global,
+    state: &S,
+    rules: &R,
+    node: u32,
+    count: u32,
+    role: u32,
+    filler: u32,
+) -> Result<bool, NoMemory>
+    requires some { 0 < count }
+    requires few { count < 200 }
+    ensures { IfOk result (λ found. AnswersRun (R.context rules.now) (S.facts state.now) node count role filler found) }
+{
+    let ends = filled_successors(alloc, state, rules, node, role, filler)?;
+    Ok(has_run_among(state, &ends, state.nodes(), count))
+}
+
+// Whether so many nodes in a row below the bound have representatives in the list, and are pairwise apart. The nodes
+// from `start` to this one are such.
+fn has_run_among<S: State>(state: &S, ends: &[u32], bound: u32, count: u32) -> bool
+    requires some { 0 < count }
+    requires small { bound + count < 2 ^ 32 }
+    requires within { bound ≤ node_count (S.facts state.now) }
+    ensures { AnswersAmong (S.facts state.now) ends.now bound count result }
+{
+    let mut start = 0;
+    for node in 0..bound {
+        if !ends.contains(&state.representative(node)) {
+            start = node + 1;
+        } else if start + count <= node + 1 && are_all_apart(state, node + 1 - count, count) {
+            return true;
+        }
+    }
+    false
+}
+
+// What is to be made since the node has the concept.
+fn find_by_concept<S: State, R: Rules>(
+    alloc: Global,
+    state: &S,
+    rules: &R,
+    node: u32,
+    concept: u32,
+) -> Result<Option<NewNodes>, NoMemory>
+    requires is_open { IsOpen (R.context rules.now) (S.facts state.now) node }
+    requires holds { holds (S.facts state.now) node concept ≡ true }
+    ensures { let w = R.context rules.now in let fs = S.facts state.now in
+        IfOk result (λ found. MatchOption found (NoMakingByShape w fs node (shape_of w.table concept))
+        (IsMaking w fs)) }
+{
+    match rules.shape(concept) {
+        Shape::SomeOf(role, filler) => {
+            if has_filler(state, rules, node, role, filler) {
+                Ok(None)
+            } else {
+                Ok(Some(NewNodes {
+                    parent: node,
+                    role,
+                    filler,
+                    count: 1,
+                }))
+            }
+        }
+        Shape::Min(count, role, filler) => find_by_least(
+            alloc, state, rules, node, concept, count, role, filler,
+        ),
+        _ => Ok(None),
+    }
+}
+
+// What is to be made since the node has an 'at least'.
+#[tactic(auto, using(crate::proofs::Making::least_some, crate::proofs::Making::least_few))]
+fn find_by_least<S: State, R: Rules>(
+    alloc: Global,
+    state: &S,
+    rules: &R,
+    node: u32,
+    concept: u32,
+    count: u32,
+    role: u32,
+    filler: u32,
+) -> Result<Option<NewNodes>, NoMemory>
+    requires is_open { IsOpen (R.context rules.now) (S.facts state.now) node }
+    requires holds { holds (S.facts state.now) node concept ≡ true }
+    requires shape { shape_of (R.context rules.now).table concept ≡ at_least count role filler }
+    ensures { let w = R.context rules.now in let fs = S.facts state.now in
+        IfOk result (λ found. MatchOption found (NoMakingByShape w fs node (at_least count role filler))
+        (IsMaking w fs)) }
+{
+    if has_run(alloc, state, rules, node, count, role, filler)? {
+        return Ok(None);
+    }
+    Ok(Some(NewNodes {
+        parent: node,
+        role,
+        filler,
+        count,
+    }))
+}
+
+// What is to be made since the node has some concept.
+fn find_from<S: State, R: Rules>(
+    alloc: Global,
+    state: &S,
+    rules: &R,
+    node: u32,
+) -> Result<Option<NewNodes>, NoMemory>
+    requires { IsOpen (R.context rules.now) (S.facts state.now) node }
+    ensures { let w = R.context rules.now in let fs = S.facts state.now in
+        IfOk result (λ found. MatchOption found (NoMakingAt w fs node) (IsMaking w fs)) }
+{
+    for concept in state.label(node) {
+        match find_by_concept(alloc, state, rules, node, *concept)? {
+            Some(new) => return Ok(Some(new)),
+            None => {}
+        }
+    }
+    Ok(None)
+}
+
+// The same, where the node is clear and a representative.
+fn find_at_open<S: State, R: Rules>(
+    alloc: Global,
+    state: &S,
+    rules: &R,
+    node: u32,
+) -> Result<Option<NewNodes>, NoMemory>
+    requires { node < node_count (S.facts state.now) }
+    ensures { let w = R.context rules.now in let fs = S.facts state.now in
+        IfOk result (λ found. MatchOption found (IsOpen w fs node → NoMakingAt w fs node) (IsMaking w fs)) }
+{
+    if state.representative(node) != node {
+        return Ok(None);
+    }
+    if !state.is_clear(node) {
+        return Ok(None);
+    }
+    find_from(alloc, state, rules, node)
+}
+
+/// What nodes are to be made; none exactly where there are none.
+///
+/// # Errors
+///
+/// Want of memory.
+pub fn find_making<S: State, R: Rules>(
+    alloc: Global,
+    state: &S,
+    rules: &R,
+) -> Result<Option<NewNodes>, NoMemory>
+    ensures { let w = R.context rules.now in let fs = S.facts state.now in
+        IfOk result (λ found. MatchOption found (NothingToMake w fs) (IsMaking w fs)) }
+{
+    for node in 0..state.nodes() {
+        match find_at_open(alloc, state, rules, node)? {
+            Some(new) => return Ok(Some(new)),
+            None => {}
+        }
+    }
+    Ok(None)
+}

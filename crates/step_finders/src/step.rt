@@ -1,0 +1,65 @@
+// The next step, of any kind.
+ghost use Rattle.std.specs.Prelude.{◌≡◌, MatchOption, IfOk};
+ghost use Rattle.step_finders.specs.Stepping.{IsStep, NoStep, NoStepIsSaturated};
+ghost use Rattle.step_finders.specs.Making.{NothingToMake};
+ghost use Rattle.step_finders.specs.Choosing.{NothingToChoose};
+
+use crate::add::find_add;
+use crate::choose::find_choice;
+use crate::make::{NewNodes, find_making};
+use crate::{NoMemory, Rules, State};
+use std::alloc::Global;
+use tableau_specs::Branch;
+
+/// A step that is legal where there is no plain clash.
+#[derive(Clone, Copy, Debug, PartialEq, Eq)]
+pub enum Step {
+    /// A node gets a concept.
+    Add(u32, u32),
+    /// Nodes are made.
+    Generate(NewNodes),
+    /// There is something to choose.
+    Choose(Branch),
+}
+
+/// The next step; none exactly where there is none.
+///
+/// # Errors
+///
+/// Want of memory.
+pub fn find_step<S: State, R: Rules>(
+    alloc: Global,
+    state: &S,
+    rules: &R,
+) -> Result<Option<Step>, NoMemory>
+    ensures { let w = R.context rules.now in let fs = S.facts state.now in
+        IfOk result (λ found. MatchOption found (NoStep w fs) (IsStep w fs)) }
+{
+    match find_add(state, rules) {
+        Some((node, concept)) => Ok(Some(Step::Add(node, concept))),
+        None => find_branching(alloc, state, rules),
+    }
+}
+
+// A step that makes nodes or branches.
+fn find_branching<S: State, R: Rules>(
+    alloc: Global,
+    state: &S,
+    rules: &R,
+) -> Result<Option<Step>, NoMemory>
+    ensures { let w = R.context rules.now in let fs = S.facts state.now in
+        IfOk result (λ found. MatchOption found (NothingToMake w fs × NothingToChoose w fs) (IsStep w fs)) }
+{
+    match find_choice(alloc, state, rules)? {
+        Some(branch) => Ok(Some(Step::Choose(branch))),
+        None => match find_making(alloc, state, rules)? {
+            Some(new) => Ok(Some(Step::Generate(new))),
+            None => Ok(None),
+        },
+    }
+}
+
+/// Without a plain clash, a trail whose facts leave no step is saturated.
+pub fn no_step_is_saturated()
+    ensures { NoStepIsSaturated }
+{}
