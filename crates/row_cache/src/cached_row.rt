@@ -142,8 +142,13 @@ fn is_named(named: &AxiomSet, axiom: u32) -> bool
     named.has(axiom)
 }
 
-// The row of an inclusion, of numbers of the table.
-fn part_row(
+/// The row of an inclusion, whose conjuncts and right side are numbers of the table, for the name conjuncts at these
+/// positions, from 1. `None` where the positions do not ascend or one of them is not that of a name.
+///
+/// # Errors
+///
+/// Out of memory. The table keeps its numbers, and may have gained some.
+pub fn part_row(
     alloc: Global,
     concepts: &mut Concepts,
     conjuncts: &[u32],
@@ -209,7 +214,8 @@ fn conjunct_at(conjuncts: &[u32], position: u32) -> u32
     conjuncts[position as usize - 1]
 }
 
-fn is_name(concepts: &Concepts, concept: u32) -> bool
+/// Whether the number of the table is a class name.
+pub fn is_name(concepts: &Concepts, concept: u32) -> bool
     requires { concept < length concepts.now }
     ensures { result ≡ is_name (tree_of concepts.now concept) }
 {

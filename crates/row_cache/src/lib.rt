@@ -13,6 +13,6 @@ mod cache_entry;
 mod cached_row;
 mod row_cache;
 
-pub use cached_row::{CachedRange, CachedRow};
+pub use cached_row::{CachedRange, CachedRow, is_name, part_row};
 pub use row_cache::RowCache;
 pub use shq_base::NoMemory;

@@ -1,0 +1,4 @@
+pub mod Listed
+pub mod Filed
+pub mod Found
+pub mod Made

@@ -1,0 +1,11 @@
+use Rattle.std.proofs.Common.{take}
+use Rattle.shq_nnf.specs.Numbers.{Extends}
+use Rattle.refutation_truth.specs.Theory.{named_parts}
+use Rattle.absorption.specs.Rows.{AreRowsOf}
+use Rattle.absorption.proofs.rows.rows_of.Given as goal
+
+abbrev pub invariant-loop-number : goal.invariant-loop-number
+invariant-loop-number l = record {
+  rows : AreRowsOf l.concepts (named_parts l.ontology.axioms (take l.number-index l.numbers)) l.rows.items;
+  kept : Extends l.fn.concepts l.concepts;
+}

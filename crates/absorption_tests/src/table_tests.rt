@@ -1,0 +1,343 @@
+// Tables that were worked out by hand.
+ghost use Rattle.std.specs.Prelude.{◌≡◌, ◌≤◌, IfOk, OnOk, IsTrue, length};
+ghost use Rattle.shq_base.specs.Concept.{name};
+ghost use Rattle.shq_terms.specs.Uses.{axiom_uses_listed};
+ghost use Rattle.shq_nnf.specs.Parts.{axiom_parts, axiom_has_counts_within};
+ghost use Rattle.axiom_sets.specs.Sets.{IsWithin};
+ghost use Rattle.row_cache.specs.Rows.{AreInLimit};
+
+use absorption::{NoMemory, Row, RowTable, Trigger};
+use axiom_sets::AxiomSet;
+use shq_nnf::{Concepts, Shape};
+use shq_terms::{Axiom, Concept, ConceptList, Node, Ontology};
+use std::alloc::Global;
+use std::test::Fail;
+
+// The axioms of the tests, over classes 0 to 2 and role 0.
+#[derive(Clone, Copy, Debug, PartialEq, Eq)]
+enum Kind {
+    // What is in 0 and in 1 and has a successor in 0 is in 2.
+    TwoNames,
+    // What is in 0 is in 2.
+    OneName,
+    // What has a successor in 0 is in 2.
+    Edge,
+    // No two of the classes have a common element.
+    Disjoint,
+    // What has a successor is in 2.
+    Domain,
+    // What is a successor is in 2.
+    Range,
+    // Nothing has two successors.
+    Functional,
+}
+
+// A place of a table.
+#[derive(Clone, Copy, Debug, PartialEq, Eq)]
+enum Place {
+    Class(u32),
+    Role(u32),
+    Neither,
+}
+
+// What a row is to wait for, with the numbers of the names.
+#[derive(Clone, Copy, Debug, PartialEq, Eq)]
+enum Waits<'a> {
+    Nothing,
+    Names(&'a [u32], &'a [u32]),
+    Edge(u32),
+    End(u32),
+}
+
+fn class(number: u32) -> Concept
+    ensures { result ≡ name number }
+{
+    Concept {
+        node: Node::Name(number),
+    }
+}
+
+fn two_names(alloc: Global) -> Result<Axiom, NoMemory>
+    ensures uses { IfOk result (λ a. IsTrue (axiom_uses_listed 3 1 a)) }
+    ensures counts { IfOk result (λ a. IsTrue (axiom_has_counts_within 100 a)) }
+    ensures parts { IfOk result (λ a. length (axiom_parts a) ≡ 1) }
+{
+    let mut parts = Vec::new(alloc);
+    parts.push(class(0))?;
+    parts.push(class(1))?;
+    let filler = Box::new(alloc, class(0))?;
+    parts.push(Concept {
+        node: Node::SomeOf(0, filler),
+    })?;
+    let sub = Concept {
+        node: Node::And(parts),
+    };
+    Ok(Axiom::SubClassOf(sub, class(2)))
+}
+
+fn edge(alloc: Global) -> Result<Axiom, NoMemory>
+    ensures uses { IfOk result (λ a. IsTrue (axiom_uses_listed 3 1 a)) }
+    ensures counts { IfOk result (λ a. IsTrue (axiom_has_counts_within 100 a)) }
+    ensures parts { IfOk result (λ a. length (axiom_parts a) ≡ 1) }
+{
+    let filler = Box::new(alloc, class(0))?;
+    let sub = Concept {
+        node: Node::SomeOf(0, filler),
+    };
+    Ok(Axiom::SubClassOf(sub, class(2)))
+}
+
+fn disjoint(alloc: Global) -> Result<Axiom, NoMemory>
+    ensures uses { IfOk result (λ a. IsTrue (axiom_uses_listed 3 1 a)) }
+    ensures counts { IfOk result (λ a. IsTrue (axiom_has_counts_within 100 a)) }
+    ensures parts { IfOk result (λ a. length (axiom_parts a) ≡ 3) }
+{
+    let mut classes = ConceptList::new(alloc);
+    classes.push(class(0))?;
+    classes.push(class(1))?;
+    classes.push(class(2))?;
+    Ok(Axiom::DisjointClasses(classes))
+}
+
+fn axiom_of(alloc: Global, kind: Kind) -> Result<Axiom, NoMemory>
+    ensures uses { IfOk result (λ a. IsTrue (axiom_uses_listed 3 1 a)) }
+    ensures counts { IfOk result (λ a. IsTrue (axiom_has_counts_within 100 a)) }
+    ensures parts { IfOk result (λ a. length (axiom_parts a) ≤ 500000) }
+{
+    match kind {
+        Kind::TwoNames => two_names(alloc),
+        Kind::OneName => Ok(Axiom::SubClassOf(class(0), class(2))),
+        Kind::Edge => edge(alloc),
+        Kind::Disjoint => disjoint(alloc),
+        Kind::Domain => Ok(Axiom::Domain(0, class(2))),
+        Kind::Range => Ok(Axiom::Range(0, class(2))),
+        Kind::Functional => Ok(Axiom::Functional(0)),
+    }
+}
+
+fn names(alloc: Global) -> Result<Ontology, Fail>
+    ensures { IfOk result (λ o. length o.axioms ≡ 0) }
+{
+    let mut ontology = Ontology::new(alloc);
+    ontology.add_class("A")?;
+    ontology.add_class("B")?;
+    ontology.add_class("C")?;
+    ontology.add_role("r")?;
+    Ok(ontology)
+}
+
+#[tactic(auto, using(crate::proofs::Limits::one_more))]
+fn add(ontology: &mut Ontology, axiom: Axiom) -> Result<(), Fail>
+    requires within { AreInLimit ontology.old.axioms }
+    requires classes { length ontology.old.classes ≡ 3 }
+    requires roles { length ontology.old.roles ≡ 1 }
+    requires uses { IsTrue (axiom_uses_listed 3 1 «axiom») }
+    requires counts { IsTrue (axiom_has_counts_within 100 «axiom») }
+    requires parts { length (axiom_parts «axiom») ≤ 500000 }
+    ensures within { OnOk result (AreInLimit ontology.new.axioms) }
+{
+    ontology.add_axiom(axiom, 1)?;
+    Ok(())
+}
+
+// Puts the axiom last, if the names of the tests are there.
+fn add_kind(alloc: Global, ontology: &mut Ontology, kind: Kind) -> Result<(), Fail>
+    requires within { AreInLimit ontology.old.axioms }
+    ensures within { OnOk result (AreInLimit ontology.new.axioms) }
+{
+    if ontology.class_count() != 3 || ontology.role_count() != 1 {
+        return Err(Fail::from(NoMemory));
+    }
+    let axiom = axiom_of(alloc, kind)?;
+    add(ontology, axiom)
+}
+
+fn ontology_of(alloc: Global, kinds: &[Kind]) -> Result<Ontology, Fail>
+    ensures { IfOk result (λ o. AreInLimit o.axioms) }
+{
+    let mut ontology = names(alloc)?;
+    for kind in kinds {
+        add_kind(alloc, &mut ontology, *kind)?;
+    }
+    Ok(ontology)
+}
+
+// The numbers of all axioms.
+#[tactic(auto, using(crate::proofs::Limits::within_count))]
+fn all_of(alloc: Global, ontology: &Ontology) -> Result<AxiomSet, NoMemory>
+    ensures { IfOk result (λ s. IsWithin (length ontology.now.axioms) s.members) }
+{
+    let count = ontology.axiom_count();
+    let set = AxiomSet::full(alloc, count)?;
+    let _limit = set.limit();
+    Ok(set)
+}
+
+// The shapes that the rows of the tests are made of, with the numbers 1 to 10.
+fn concepts(alloc: Global) -> Result<Concepts, NoMemory> {
+    let mut concepts = Concepts::new(alloc)?;
+    for shape in [
+        Shape::Name(0),
+        Shape::Name(1),
+        Shape::SomeOf(0, 1),
+        Shape::Name(2),
+        Shape::NotName(0),
+        Shape::NotName(1),
+        Shape::AllOf(0, 5),
+        Shape::NotName(2),
+        Shape::Bottom,
+        Shape::AllOf(0, 9),
+    ] {
+        put(&mut concepts, shape)?;
+    }
+    Ok(concepts)
+}
+
+// Puts a shape of the kinds that these tests use. One that may not be put counts as out of memory.
+fn put(concepts: &mut Concepts, shape: Shape<'_>) -> Result<u32, NoMemory> {
+    match shape {
+        Shape::Bottom | Shape::Name(_) | Shape::NotName(_) => concepts.put(shape),
+        Shape::SomeOf(_, filler) | Shape::AllOf(_, filler) if filler < concepts.len() => {
+            concepts.put(shape)
+        }
+        _ => Err(NoMemory),
+    }
+}
+
+fn rows_at(table: &RowTable, place: Place) -> &[Row] {
+    match place {
+        Place::Class(class) => table.by_name(class),
+        Place::Role(role) => table.by_role(role),
+        Place::Neither => table.general(),
+    }
+}
+
+fn waits_for(row: &Row, wanted: Waits<'_>) -> bool {
+    match (&row.trigger, wanted) {
+        (Trigger::Always, Waits::Nothing) => row.premises.items().is_empty(),
+        (Trigger::Names(positions), Waits::Names(places, numbers)) => {
+            positions.items() == places && row.premises.items() == numbers
+        }
+        (Trigger::Edge(role), Waits::Edge(wanted)) => *role == wanted,
+        (Trigger::End(role), Waits::End(wanted)) => *role == wanted,
+        _ => false,
+    }
+}
+
+fn has_shape(concepts: &Concepts, row: &Row, shape: Shape<'_>) -> bool {
+    row.concept < concepts.len() && concepts.shape(row.concept) == shape
+}
+
+// Whether these are the numbers of the rows' axioms and parts.
+fn are_rows(rows: &[Row], wanted: &[(u32, u32)]) -> bool {
+    let mut right = rows.len() == wanted.len();
+    for (row, numbers) in rows.iter().zip(wanted) {
+        right = right && row.axiom == numbers.0 && row.part == numbers.1;
+    }
+    right
+}
+
+// Whether the rows at the place are these, and the last waits as wanted and has this concept.
+fn ask(
+    alloc: Global,
+    kinds: &[Kind],
+    place: Place,
+    numbers: &[(u32, u32)],
+    wanted: Option<(Waits<'_>, Shape<'_>)>,
+) -> Result<bool, Fail> {
+    let ontology = ontology_of(alloc, kinds)?;
+    let set = all_of(alloc, &ontology)?;
+    let mut concepts = concepts(alloc)?;
+    let table = RowTable::build(alloc, &ontology, &set, &mut concepts)?;
+    let rows = rows_at(&table, place);
+    Ok(are_rows(rows, numbers) && last_is(&concepts, rows, wanted))
+}
+
+fn last_is(concepts: &Concepts, rows: &[Row], wanted: Option<(Waits<'_>, Shape<'_>)>) -> bool {
+    match (rows.last(), wanted) {
+        (Some(row), Some((waits, shape))) => {
+            waits_for(row, waits) && has_shape(concepts, row, shape)
+        }
+        (None, None) => true,
+        _ => false,
+    }
+}
+
+#[test]
+fn rows_stand_where_they_wait(rt: HostRuntime) -> Result<(), Fail> {
+    let names = Waits::Names(&[1], &[1]);
+    let cases: [(
+        &[Kind],
+        Place,
+        &[(u32, u32)],
+        Option<(Waits<'_>, Shape<'_>)>,
+    ); 15] = [
+        (
+            &[Kind::TwoNames],
+            Place::Class(0),
+            &[(1, 1)],
+            Some((Waits::Names(&[1, 2], &[1, 2]), Shape::Or(&[7, 4]))),
+        ),
+        (&[Kind::TwoNames], Place::Class(1), &[], None),
+        (&[Kind::TwoNames], Place::Role(0), &[], None),
+        (&[Kind::TwoNames], Place::Neither, &[], None),
+        (
+            &[Kind::OneName, Kind::TwoNames],
+            Place::Class(1),
+            &[(2, 1)],
+            Some((Waits::Names(&[1, 2], &[1, 2]), Shape::Or(&[7, 4]))),
+        ),
+        (
+            &[Kind::OneName, Kind::TwoNames],
+            Place::Class(0),
+            &[(1, 1)],
+            Some((names, Shape::Name(2))),
+        ),
+        (
+            &[Kind::Edge],
+            Place::Role(0),
+            &[(1, 1)],
+            Some((Waits::Edge(0), Shape::Or(&[7, 4]))),
+        ),
+        (
+            &[Kind::Edge, Kind::Domain],
+            Place::Role(0),
+            &[(1, 1), (2, 1)],
+            Some((Waits::Edge(0), Shape::Or(&[10, 4]))),
+        ),
+        (
+            &[Kind::Domain, Kind::Range],
+            Place::Role(0),
+            &[(1, 1), (2, 1)],
+            Some((Waits::End(0), Shape::Name(2))),
+        ),
+        (&[Kind::Range], Place::Role(1), &[], None),
+        (
+            &[Kind::Disjoint],
+            Place::Class(0),
+            &[(1, 1), (1, 2)],
+            Some((names, Shape::NotName(2))),
+        ),
+        (
+            &[Kind::Disjoint],
+            Place::Class(1),
+            &[(1, 3)],
+            Some((Waits::Names(&[1], &[2]), Shape::NotName(2))),
+        ),
+        (&[Kind::Disjoint], Place::Class(2), &[], None),
+        (
+            &[Kind::Range, Kind::Functional],
+            Place::Neither,
+            &[(2, 1)],
+            Some((Waits::Nothing, Shape::Max(1, 0, 0))),
+        ),
+        (&[], Place::Neither, &[], None),
+    ];
+    for (kinds, place, numbers, wanted) in cases {
+        assert!(rt;
+            ask(rt.alloc(), kinds, place, numbers, wanted)?,
+            "{kinds:?} {place:?}"
+        );
+    }
+    Ok(())
+}

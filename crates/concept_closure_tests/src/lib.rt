@@ -1,0 +1,5 @@
+//! Tests of tables that are closed.
+#![tactic(auto)]
+
+#[cfg(test)]
+mod closing_tests;

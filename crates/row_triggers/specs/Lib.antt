@@ -1,0 +1,4 @@
+pub mod Triggers
+pub mod Truth
+pub mod Laws
+pub mod Examples
