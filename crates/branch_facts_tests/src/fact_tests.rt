@@ -21,20 +21,96 @@ fn two_edges(alloc: Global) -> Result<BranchFacts, NoMemory> {
     Ok(branch)
 }
 
+fn check_nodes(rt: &impl Abort, branch: &BranchFacts, table: &[(u32, bool)]) {
+    for (node, wanted) in table {
+        assert!(rt; branch.knows(*node) == *wanted, "node {node}");
+    }
+}
+
+fn check_concepts(rt: &impl Abort, branch: &BranchFacts, table: &[(u32, u32, bool)]) {
+    for (node, concept, wanted) in table {
+        assert!(rt;
+            branch.has(*node, *concept) == *wanted,
+            "concept {concept} of {node}"
+        );
+    }
+}
+
+fn check_edges(rt: &impl Abort, branch: &BranchFacts, table: &[(u32, u32, u32, bool)]) {
+    for (role, from, to, wanted) in table {
+        assert!(rt;
+            branch.has_edge(*role, *from, *to) == *wanted,
+            "edge {from} {to}"
+        );
+    }
+}
+
+fn check_aparts(rt: &impl Abort, branch: &BranchFacts, table: &[(u32, u32, bool)]) {
+    for (first, second, wanted) in table {
+        assert!(rt;
+            branch.are_apart(*first, *second) == *wanted,
+            "{first} and {second}"
+        );
+    }
+}
+
+fn check_representatives(rt: &impl Abort, branch: &BranchFacts, table: &[(u32, u32)]) {
+    for (node, wanted) in table {
+        assert!(rt;
+            branch.representative(*node) == *wanted,
+            "representative of {node}"
+        );
+    }
+}
+
 fn check_apart(rt: &impl Abort, branch: &BranchFacts) {
-    assert!(rt; branch.knows(3) && !branch.knows(4));
-    assert!(rt; branch.has(1, 0) && branch.has(1, 5) && !branch.has(1, 6) && !branch.has(0, 5));
-    assert!(rt; branch.has_edge(7, 0, 1) && !branch.has_edge(7, 1, 0) && !branch.has_edge(8, 0, 1));
-    assert!(rt; branch.are_apart(3, 1) && !branch.are_apart(1, 2));
-    assert_eq!(rt; branch.representative(2), 2);
+    check_nodes(rt, branch, &[(3, true), (4, false), (9, false)]);
+    check_concepts(
+        rt,
+        branch,
+        &[
+            (1, 0, true),
+            (1, 5, true),
+            (1, 6, false),
+            (0, 5, false),
+            (9, 5, false),
+        ],
+    );
+    check_edges(
+        rt,
+        branch,
+        &[(7, 0, 1, true), (7, 1, 0, false), (8, 0, 1, false)],
+    );
+    check_aparts(rt, branch, &[(3, 1, true), (1, 2, false)]);
+    check_representatives(rt, branch, &[(2, 2)]);
 }
 
 fn check_joined(rt: &impl Abort, branch: &BranchFacts) {
-    assert_eq!(rt; branch.representative(2), 0);
-    assert!(rt; branch.has_edge(8, 0, 3) && branch.has_edge(7, 2, 1));
-    assert_eq!(rt; branch.representative(3), 1);
-    assert!(rt; branch.has(1, 6) && branch.has(3, 5) && branch.has_edge(8, 0, 1));
-    assert!(rt; branch.are_apart(1, 1));
+    check_nodes(rt, branch, &[(9, true)]);
+    check_concepts(rt, branch, &[(1, 6, true), (3, 5, true), (9, 5, true)]);
+    check_edges(
+        rt,
+        branch,
+        &[(8, 0, 3, true), (7, 2, 1, true), (8, 0, 1, true)],
+    );
+    check_aparts(rt, branch, &[(1, 1, true)]);
+    check_representatives(rt, branch, &[(2, 0), (3, 1)]);
+}
+
+/// Joins two pairs of nodes, and makes a node with a concept.
+fn join_and_grow(branch: &mut BranchFacts) -> Result<(), NoMemory> {
+    join_all(branch, &[(2, 0), (1, 3)])?;
+    if !branch.knows(9) {
+        branch.add_node(9)?;
+    }
+    branch.add(Fact::Has(9, 5))
+}
+
+fn back_to(branch: &mut BranchFacts, mark: Mark) {
+    let now = branch.mark();
+    if mark.nodes <= now.nodes && mark.facts <= now.facts {
+        branch.undo_to(mark);
+    }
 }
 
 #[test]
@@ -42,21 +118,13 @@ fn facts_are_read_through_joined_nodes(rt: HostRuntime) -> Result<(), Fail> {
     let mut branch = two_edges(rt.alloc())?;
     check_apart(&rt, &branch);
     let mark = branch.mark();
-    branch.add(Fact::Same(2, 0))?;
-    branch.add(Fact::Same(1, 3))?;
-    if !branch.knows(9) {
-        branch.add_node(9)?;
-    }
-    branch.add(Fact::Has(9, 5))?;
+    assert!(rt; mark.nodes == 4 && mark.facts == 5);
+    join_and_grow(&mut branch)?;
     check_joined(&rt, &branch);
-    assert!(rt; branch.knows(9) && branch.has(9, 5));
     let now = branch.mark();
-    assert!(rt; mark.nodes == 4 && mark.facts == 5 && now.nodes == 5 && now.facts == 8);
-    prove!(mark.nodes <= now.nodes);
-    prove!(mark.facts <= now.facts);
-    branch.undo_to(mark);
+    assert!(rt; now.nodes == 5 && now.facts == 8);
+    back_to(&mut branch, mark);
     check_apart(&rt, &branch);
-    assert!(rt; !branch.knows(9) && !branch.has(9, 5));
     Ok(())
 }
 
@@ -76,13 +144,8 @@ fn check_joins(
 ) -> Result<(), NoMemory> {
     let mark = branch.mark();
     join_all(branch, pairs)?;
-    for (node, representative) in representatives {
-        assert_eq!(rt; branch.representative(*node), *representative);
-    }
-    let now = branch.mark();
-    if mark.nodes <= now.nodes && mark.facts <= now.facts {
-        branch.undo_to(mark);
-    }
+    check_representatives(rt, branch, representatives);
+    back_to(branch, mark);
     Ok(())
 }
 
