@@ -3,7 +3,7 @@ ghost use Rattle.std.specs.Prelude.{◌≡◌, ℕ, ◌+◌, ◌<◌, ◌≤◌,
 ghost use Rattle.fact_specs.specs.Joins.{rep};
 ghost use Rattle.fact_specs.specs.State.{node_count, has, are_apart, parent as parent_of};
 ghost use Rattle.fact_tree.specs.Entries.{IsFit};
-ghost use Rattle.fact_tree.specs.Told.{IsLabel, IsOnce, AreEdges};
+ghost use Rattle.fact_specs.specs.Listed.{IsLabel, IsOnce, AreEdges};
 ghost use Rattle.fact_specs.specs.declared.Fact.TheVariants.{Same};
 ghost use Rattle.completion_tree.specs.declared.tree.Entry.TheVariants.{Fact as Grounded, Mark as Marks};
 ghost use Rattle.completion_tree.specs.Trail.{facts_in, item_of, items_of, grounded, fact_count, with_fresh, RestsOn, IsMarkAt};

@@ -14,7 +14,7 @@ use Rattle.fact_specs.specs.Joins.{rep}
 use Rattle.fact_specs.proofs.Joined.{by_last}
 use Rattle.fact_specs.proofs.State.{eqb-comm}
 use Rattle.fact_tree.specs.Kept.{Lists, Kept, new_lists, bare, having, leading, parted, absorbing, with_concept, with_concepts, lists_at, changed_at, grown, made, linked, after, kept_of}
-use Rattle.fact_tree.specs.Told.{IsOnce}
+use Rattle.fact_specs.specs.Listed.{IsOnce}
 use Rattle.fact_tree.proofs.Linked.{kept_of-snoc}
 use Rattle.fact_tree.proofs.Content.{any_same}
 

@@ -11,7 +11,8 @@ use Rattle.fact_specs.specs.State.{node_count, has_edge, are_apart, gives_concep
 use Rattle.fact_specs.proofs.Joined.{by_last, rep-snoc}
 use Rattle.fact_tree.specs.Kept.{Lists, Kept, new_lists, bare, having, leading, parted, with_concept, with_concepts, lists_at, changed_at, grown, made, linked, after, kept_of}
 use Rattle.fact_tree.specs.Entries.{IsLinked, IsFit, AreFit}
-use Rattle.fact_tree.specs.Told.{IsLabel, AreEdges, AreAparts, gives_first}
+use Rattle.fact_specs.specs.Listed.{IsLabel, AreEdges}
+use Rattle.fact_tree.specs.Told.{AreAparts, gives_first}
 use Rattle.fact_tree.proofs.Linked.{kept_of-snoc, count_after, node_count-snoc, fit_before, fit_last, merged_one, low_stays, high_stays}
 use Rattle.fact_tree.proofs.Law.{count_is, kept_linked}
 use Rattle.fact_tree.proofs.Content.{any-append, any-snoc, or_false, or_assoc, any_or, any_same, gives_by, gives, Told, told_on, told_skip, told_put, told_grown, told_linked}

@@ -1,22 +1,10 @@
--- What a tree answers, as a property of lists.
+-- What a tree answers of nodes that are apart, and what it gains with new nodes.
 use Rattle.std.specs.Prelude.{◌≡◌, ℕ, ◌==◌, ◌&&◌, Bool, false, List, ◌++◌}
-use Rattle.std.specs.List.{list_any, IsDistinct}
+use Rattle.std.specs.List.{list_any}
 use Rattle.fact_specs.specs.declared.Fact.{Fact}
 use Rattle.fact_specs.specs.Joins.{rep}
-use Rattle.fact_specs.specs.State.{node_count, has, is_successor, fresh_facts}
+use Rattle.fact_specs.specs.State.{node_count, fresh_facts}
 use Rattle.fact_specs.specs.declared.Fact.TheVariants.{Has, Edge, Apart, Same}
-
--- the list is the label of x: exactly the concepts that x has
-abbrev pub IsLabel : List (Fact ℕ) → ℕ → List ℕ → Type 0
-IsLabel fs x cs = (c : ℕ) → list_any (λ d. d == c) cs ≡ has fs x c
-
--- the list has each number once
-abbrev pub IsOnce : List ℕ → Type 0
-IsOnce cs = IsDistinct (λ y z. y == z) cs
-
--- the list has the edges that begin at x, each as its role and a node, whose representative is the end
-abbrev pub AreEdges : List (Fact ℕ) → ℕ → List (ℕ × ℕ) → Type 0
-AreEdges fs x edges = (roles : ℕ → Bool) (y : ℕ) → list_any (λ p. roles p.0 && rep fs p.1 == y) edges ≡ is_successor fs roles x y
 
 -- whether the fact keeps a node with the representative a, which it names first, apart from one with the representative b
 abbrev pub gives_first : (ℕ → ℕ) → ℕ → ℕ → Fact ℕ → Bool

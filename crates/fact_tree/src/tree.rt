@@ -5,7 +5,8 @@ ghost use Rattle.fact_specs.specs.State.{node_count, has, are_apart, parent as p
 ghost use Rattle.fact_specs.specs.declared.Fact.TheVariants.{Has, Edge};
 ghost use Rattle.fact_tree.specs.Kept.{Kept, kept_of, after_at, at_of, high_of};
 ghost use Rattle.fact_tree.specs.Entries.{IsFit, IsPlace, AreOrdered, Undoes, Leads, lengths_of};
-ghost use Rattle.fact_tree.specs.Told.{with_fresh, IsLabel, IsOnce, AreEdges, AreAparts, is_first_apart};
+ghost use Rattle.fact_specs.specs.Listed.{IsLabel, IsOnce, AreEdges};
+ghost use Rattle.fact_tree.specs.Told.{with_fresh, AreAparts, is_first_apart};
 
 use crate::node::Node;
 use crate::store::{Lengths, Store};

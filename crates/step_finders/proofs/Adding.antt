@@ -10,7 +10,8 @@ use Rattle.fact_specs.specs.State.{node_count, has, is_successor}
 use Rattle.tableau_specs.proofs.PlainClash.{successor_is_node, successor_has_edge}
 use Rattle.tableau_specs.specs.Steps.{SearchContext, below_of}
 use Rattle.tableau_specs.specs.Steps.Adds.{by_and, by_all, by_carry}
-use Rattle.step_finders.specs.Found.{IsCarry, AreCarries, AreCarriesOf, IsAddition, LacksAtEnd, AllCarried, LacksCarried, NoneToCarry, NoneByShape, NoneByConcepts, IsLabel}
+use Rattle.fact_specs.specs.Listed.{IsLabel}
+use Rattle.step_finders.specs.Found.{IsCarry, AreCarries, AreCarriesOf, IsAddition, LacksAtEnd, AllCarried, LacksCarried, NoneToCarry, NoneByShape, NoneByConcepts}
 use Rattle.step_finders.proofs.Edges.{where_any}
 
 module _ (w : SearchContext) (fs : List (Fact ℕ)) (x c : ℕ) where

@@ -17,7 +17,7 @@ use Rattle.tableau_specs.specs.Steps.{SearchContext, below_of, MayBranch}
 use Rattle.tableau_specs.specs.Steps.MayBranch.{on_union, on_filler, on_pair}
 use Rattle.tableau_specs.specs.Steps.IsAlternative.{of_union, of_filler, of_joining}
 use Rattle.tableau_specs.proofs.Listed.{listed}
-use Rattle.step_finders.specs.Found.{AreEdges, IsLabel}
+use Rattle.fact_specs.specs.Listed.{AreEdges, IsLabel}
 use Rattle.step_finders.specs.Filled.{AreFilled, AreUnapart}
 use Rattle.step_finders.specs.Choosing.{IsChoosable, LacksComplement, IsDecided, IsUndecided, AllDecided, UndecidedAtEnd, NoPair, IsPair, NoChoiceByShape, NoChoiceAt, NothingToChoose}
 use Rattle.step_finders.proofs.Edges.{where_any, next_at, has_rep, rep_twice}

@@ -8,7 +8,8 @@ use Rattle.tableau_specs.specs.Steps.{SearchContext, below_of}
 use Rattle.fact_specs.specs.Joins.{rep}
 use Rattle.fact_specs.proofs.Joined.{rep-joined, joined-rep}
 use Rattle.clash_specs.proofs.Moved.{has_at}
-use Rattle.step_finders.specs.Found.{AreEdges, AllEndsHave, LacksAtEnd}
+use Rattle.fact_specs.specs.Listed.{AreEdges}
+use Rattle.step_finders.specs.Found.{AllEndsHave, LacksAtEnd}
 
 or_right : (a b : Bool) → b ≡ true → (a || b) ≡ true
 or_right true b h = refl

@@ -6,7 +6,8 @@ use Rattle.fact_specs.specs.declared.Fact.{Fact}
 use Rattle.fact_specs.specs.Joins.{rep}
 use Rattle.fact_specs.specs.State.{node_count, has, is_successor}
 use Rattle.tableau_specs.specs.Steps.{SearchContext}
-use Rattle.step_finders.specs.Found.{Files, AreFiled, IsAddition, IsLabel, AreEdges, NamedHold, NamedDue, NamesHold, EdgeHolds, EdgesHold}
+use Rattle.fact_specs.specs.Listed.{IsLabel, AreEdges}
+use Rattle.step_finders.specs.Found.{Files, AreFiled, IsAddition, NamedHold, NamedDue, NamesHold, EdgeHolds, EdgesHold}
 use Rattle.step_finders.proofs.Edges.{where_any, next_at}
 
 module _ (w : SearchContext) (files : Files) (filed : AreFiled w files) (fs : List (Fact ℕ)) (x : ℕ) (lt : x < node_count fs) where

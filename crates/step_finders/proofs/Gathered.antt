@@ -11,7 +11,7 @@ use Rattle.fact_specs.proofs.State.{eqb-comm}
 use Rattle.clash_specs.proofs.After.{any-snoc}
 use Rattle.fact_specs.specs.Joins.{rep}
 use Rattle.step_finders.proofs.Edges.{has_rep}
-use Rattle.step_finders.specs.Found.{AreEdges}
+use Rattle.fact_specs.specs.Listed.{AreEdges}
 use Rattle.step_finders.specs.Filled.{AreFilled, IsLater, AreUnapart}
 
 -- ---- a number more

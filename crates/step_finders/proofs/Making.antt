@@ -9,7 +9,7 @@ use Rattle.tableau_specs.specs.Clash.{filled_successors}
 use Rattle.tableau_specs.specs.Steps.{SearchContext, below_of, IsOpen, Generates, is_run}
 use Rattle.tableau_specs.specs.Clash.{is_filled_successor}
 use Rattle.tableau_specs.specs.Steps.Generates.{by_some, by_least}
-use Rattle.step_finders.specs.Found.{AreEdges, IsLabel}
+use Rattle.fact_specs.specs.Listed.{AreEdges, IsLabel}
 use Rattle.step_finders.specs.Filled.{AreFilled}
 use Rattle.step_finders.specs.Making.{is_among, runs_among, AnswersAmong, HasFiller, HasRun, AnswersRun, NoMakingByShape, NoMakingAt, NothingToMake}
 use Rattle.shape_specs.specs.Shape.{Shape, shape_of, is_normal, IsTable}

@@ -10,14 +10,6 @@ use Rattle.fact_specs.specs.Joins.{rep}
 use Rattle.fact_specs.specs.State.{node_count, has, is_successor}
 use Rattle.tableau_specs.specs.Steps.{SearchContext, below_of, Adds, IsCarried, is_used_at}
 
--- the list is the label of x: exactly the concepts that x has
-abbrev pub IsLabel : List (Fact ℕ) → ℕ → List ℕ → Type 0
-IsLabel fs x cs = (c : ℕ) → list_any (λ d. d == c) cs ≡ has fs x c
-
--- the list has the edges that begin at x, each as its role and a node, whose representative is the end
-abbrev pub AreEdges : List (Fact ℕ) → ℕ → List (ℕ × ℕ) → Type 0
-AreEdges fs x edges = (roles : ℕ → Bool) (y : ℕ) → list_any (λ p. roles p.0 && rep fs p.1 == y) edges ≡ is_successor fs roles x y
-
 -- a pair of a transitive role t below s and a concept 'all t e'
 pub record IsCarry (w : SearchContext) (s e : ℕ) (pair : ℕ × ℕ) : Type 0 where
   pub transitive : w.theory.is_transitive pair.0 ≡ true

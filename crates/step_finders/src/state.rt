@@ -10,7 +10,8 @@ ghost use Rattle.tableau_specs.specs.declared.Block.TheVariants.{Clear};
 ghost use Rattle.tableau_specs.specs.Blocked.{block_of};
 ghost use Rattle.tableau_specs.specs.Steps.{SearchContext, below_of};
 ghost use Rattle.step_finders.specs.Clashing.{AreMosts};
-ghost use Rattle.step_finders.specs.Found.{IsLabel, AreEdges, AreCarriesOf, Files, AreFiled};
+ghost use Rattle.fact_specs.specs.Listed.{IsLabel, AreEdges};
+ghost use Rattle.step_finders.specs.Found.{AreCarriesOf, Files, AreFiled};
 
 use shq_nnf::Shape;
 

@@ -4,7 +4,8 @@ use Rattle.fact_specs.specs.Joins.{rep}
 use Rattle.fact_specs.specs.State.{node_count}
 use Rattle.fact_tree.specs.Kept.{Lists, Kept, kept_of, lists_at}
 use Rattle.fact_tree.specs.Entries.{facts_of}
-use Rattle.fact_tree.specs.Told.{IsLabel, IsOnce, AreEdges, AreAparts}
+use Rattle.fact_specs.specs.Listed.{IsLabel, IsOnce, AreEdges}
+use Rattle.fact_tree.specs.Told.{AreAparts}
 use Rattle.fact_tree.proofs.Law.{kept_linked, count_is, root_is}
 use Rattle.fact_tree.proofs.Distinct.{kept_once}
 use Rattle.fact_tree.proofs.Reading.{label_is, edges_are, aparts_are}
