@@ -11,7 +11,8 @@ use Rattle.fact_specs.proofs.Joined.{rep-snoc, rep-le, any-snoc}
 use Rattle.tableau_specs.specs.declared.Block.{Block}
 use Rattle.tableau_specs.specs.declared.Block.TheVariants.{Clear, By, Under}
 use Rattle.tableau_specs.specs.Blocked.{is_clear, is_parent_clear, may_block, blocked_from, block_at, blocks_to, block_of}
-use Rattle.blocking_specs.specs.Laws.{HasParentsBefore, AgreeBelow, BlocksFollowWhatStandsBelow, LeavesBelow, OneFactLeavesBlocksBelow, AllLeaveBelow, FactsLeaveBlocksBelow, AreUnjoinedFrom, NewNodesLeaveBlocks}
+use Rattle.fact_specs.specs.State.{HasParentsBefore}
+use Rattle.blocking_specs.specs.Laws.{AgreeBelow, BlocksFollowWhatStandsBelow, LeavesBelow, OneFactLeavesBlocksBelow, AllLeaveBelow, FactsLeaveBlocksBelow, AreUnjoinedFrom, NewNodesLeaveBlocks}
 
 -- ---- blocks where two lists of facts agree
 

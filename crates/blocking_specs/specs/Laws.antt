@@ -1,14 +1,10 @@
 -- What the blocks of nodes depend on.
-use Rattle.std.specs.Prelude.{◌≡◌, ℕ, ◌<◌, ◌≤◌, List, [], ◌∷◌, ◌++◌, Some}
+use Rattle.std.specs.Prelude.{◌≡◌, ℕ, ◌<◌, ◌≤◌, List, [], ◌∷◌, ◌++◌}
 use Rattle.fact_specs.specs.declared.Fact.{Fact}
 use Rattle.fact_specs.specs.declared.Fact.TheVariants.{Has, Edge, Apart, Same}
 use Rattle.fact_specs.specs.Joins.{rep}
-use Rattle.fact_specs.specs.State.{parent, is_label_part, fresh_facts}
+use Rattle.fact_specs.specs.State.{parent, is_label_part, fresh_facts, HasParentsBefore}
 use Rattle.tableau_specs.specs.Blocked.{block_of}
-
--- each parent is less than its node
-abbrev pub HasParentsBefore : List (Fact ℕ) → Type 0
-HasParentsBefore fs = (x p : ℕ) → parent fs x ≡ Some p → p < x
 
 -- the two lists of facts say the same of the nodes below n
 pub record AgreeBelow (fs gs : List (Fact ℕ)) (n : ℕ) : Type 0 where

@@ -16,7 +16,8 @@ use Rattle.completion_tree.specs.declared.tree.By.{By}
 use Rattle.completion_tree.specs.declared.tree.Entry.{Entry}
 use Rattle.completion_tree.specs.declared.tree.Entry.TheVariants.{Fact as Grounded, Mark}
 use Rattle.completion_tree.specs.Trail.{facts_in}
-use Rattle.completion_tree.specs.Marks.{facts_within, holds, gives, first_node, second_node, is_join, AreWithin, SomeWithin, passes, marks_at}
+use Rattle.fact_specs.specs.State.{is_so}
+use Rattle.completion_tree.specs.Marks.{facts_within, gives, first_node, second_node, is_join, AreWithin, SomeWithin, passes, marks_at}
 use Rattle.completion_tree.proofs.Entries.{facts_in-append}
 use Rattle.fact_tree.proofs.Content.{any-append}
 
@@ -176,7 +177,7 @@ agree es u a b are c which v e =
 -- what holds, holds by a fact that gives it and the joins of its nodes
 pub holds-within : (es : List Entry) (u : NumberSet) (q : Fact ℕ) → SomeWithin (gives (rep (facts_in es)) q) u es
     → AreWithin (is_join (rep (facts_in es)) (rep (facts_in es) (first_node q)) (rep (facts_in es) (second_node q))) u es
-    → holds (facts_in es) q ≡ true → holds (facts_within u es) q ≡ true
+    → is_so (facts_in es) q ≡ true → is_so (facts_within u es) q ≡ true
 holds-within es u (Has x c) some are h =
     let m : ℕ → ℕ = rep (facts_in es) in
     let n : ℕ → ℕ = rep (facts_within u es) in

@@ -6,7 +6,7 @@ use Rattle.lane_sieve.specs.Sets.{NumberSet}
 use Rattle.fact_specs.specs.declared.Fact.{Fact}
 use Rattle.fact_specs.specs.declared.Fact.TheVariants.{Has, Edge, Apart, Same}
 use Rattle.fact_specs.specs.Joins.{rep}
-use Rattle.fact_specs.specs.State.{has, has_edge, are_apart, gives_concept, gives_edge, gives_apart}
+use Rattle.fact_specs.specs.State.{gives_concept, gives_edge, gives_apart}
 use Rattle.completion_tree.specs.declared.tree.Entry.{Entry}
 use Rattle.completion_tree.specs.declared.tree.Entry.TheVariants.{Fact as Grounded, Mark}
 use Rattle.completion_tree.specs.Trail.{facts_in}
@@ -16,13 +16,6 @@ abbrev pub facts_within : NumberSet → List Entry → List (Fact ℕ)
 facts_within u [] = []
 facts_within u (Grounded f by ∷ es) = if set.is_subset by.marks u then f ∷ facts_within u es else facts_within u es
 facts_within u (Mark c ∷ es) = facts_within u es
-
--- whether what the fact says is so in the state of the facts: an edge by its very role
-abbrev pub holds : List (Fact ℕ) → Fact ℕ → Bool
-holds fs (Has x c) = has fs x c
-holds fs (Edge r x y) = has_edge fs (λ s. s == r) x y
-holds fs (Apart x y) = are_apart fs x y
-holds fs (Same x y) = rep fs x == rep fs y
 
 -- whether a fact alone says what is asked, where m leads each node to its representative; that two nodes are one is said by joins
 abbrev pub gives : (ℕ → ℕ) → Fact ℕ → Fact ℕ → Bool

@@ -4,7 +4,8 @@ ghost use Rattle.std.specs.FinSet as set;
 ghost use Rattle.fact_specs.specs.Joins.{rep};
 ghost use Rattle.fact_specs.specs.State.{gives_concept, gives_edge, gives_apart};
 ghost use Rattle.completion_tree.specs.Trail.{facts_in};
-ghost use Rattle.completion_tree.specs.Marks.{holds, facts_within, gives, first_node, second_node, is_join, passes, marks_at, AreWithin, SomeWithin};
+ghost use Rattle.fact_specs.specs.State.{is_so};
+ghost use Rattle.completion_tree.specs.Marks.{facts_within, gives, first_node, second_node, is_join, passes, marks_at, AreWithin, SomeWithin};
 
 use crate::tree::Entry;
 use dependency_sets::Deps;
@@ -21,8 +22,8 @@ pub(crate) fn marks_behind<A: Allocator + Copy>(
     asked: Fact<u32>,
 ) -> Result<Deps, NoMemory>
     requires same { facts.now ≡ facts_in entries.now }
-    requires holds { holds facts.now asked ≡ true }
-    ensures { IfOk result (λ u. holds (facts_within u entries.now) asked ≡ true) }
+    requires holds { is_so facts.now asked ≡ true }
+    ensures { IfOk result (λ u. is_so (facts_within u entries.now) asked ≡ true) }
 {
     let (first, second) = ends(facts, asked);
     let ground = first_ground(entries, facts, asked)?;

@@ -7,7 +7,8 @@ ghost use Rattle.fact_specs.specs.Listed.{IsLabel, IsOnce, AreEdges};
 ghost use Rattle.fact_specs.specs.declared.Fact.TheVariants.{Same};
 ghost use Rattle.completion_tree.specs.declared.tree.Entry.TheVariants.{Fact as Grounded, Mark as Marks};
 ghost use Rattle.completion_tree.specs.Trail.{facts_in, item_of, items_of, grounded, fact_count, with_fresh, RestsOn, IsMarkAt};
-ghost use Rattle.completion_tree.specs.Marks.{holds, facts_within};
+ghost use Rattle.fact_specs.specs.State.{is_so};
+ghost use Rattle.completion_tree.specs.Marks.{facts_within};
 
 use crate::marks::marks_behind;
 use dependency_sets::Deps;
@@ -186,8 +187,8 @@ impl<A: Allocator + Copy> Tree<A> {
     /// # Errors
     /// Memory may be refused.
     pub fn marks_of(&self, alloc: Global, fact: Fact<u32>) -> Result<Deps, NoMemory>
-        requires { holds (facts_in self.now) fact ≡ true }
-        ensures { IfOk result (λ marks. holds (facts_within marks self.now) fact ≡ true) }
+        requires { is_so (facts_in self.now) fact ≡ true }
+        ensures { IfOk result (λ marks. is_so (facts_within marks self.now) fact ≡ true) }
     {
         marks_behind(alloc, self.entries.as_slice(), &self.facts, fact)
     }

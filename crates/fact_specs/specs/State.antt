@@ -1,5 +1,5 @@
 -- What a list of facts says of its nodes. Facts are read through representatives.
-use Rattle.std.specs.Prelude.{ℕ, zero, suc, ◌+◌, ◌==◌, ◌&&◌, ◌||◌, max, Bool, true, false, List, [], ◌∷◌, ◌++◌, Option, Some, None, if◌then◌else◌, filter}
+use Rattle.std.specs.Prelude.{◌≡◌, ◌<◌, ℕ, zero, suc, ◌+◌, ◌==◌, ◌&&◌, ◌||◌, max, Bool, true, false, List, [], ◌∷◌, ◌++◌, Option, Some, None, if◌then◌else◌, filter}
 use Rattle.std.specs.List.{list_any, list_all, range_with_len}
 use Rattle.shq_base.specs.Concept.{Concept}
 use Rattle.shape_specs.specs.Same.{is_same}
@@ -126,3 +126,16 @@ pairwise_apart first (suc n) = apart_from first (first + 1) n ++ pairwise_apart 
 -- the facts that make n new nodes at the ends of edges of role s from x
 abbrev pub fresh_facts : {C : Type 0} → ℕ → ℕ → C → ℕ → ℕ → List (Fact C)
 fresh_facts x s e first n = new_nodes x s e first n ++ pairwise_apart first n
+
+-- ---- facts in a state
+
+-- whether what the fact says is so in the state of the facts: an edge by its very role
+abbrev pub is_so : List (Fact ℕ) → Fact ℕ → Bool
+is_so fs (Has x c) = has fs x c
+is_so fs (Edge r x y) = has_edge fs (λ s. s == r) x y
+is_so fs (Apart x y) = are_apart fs x y
+is_so fs (Same x y) = rep fs x == rep fs y
+
+-- each parent is less than its node
+abbrev pub HasParentsBefore : List (Fact ℕ) → Type 0
+HasParentsBefore fs = (x p : ℕ) → parent fs x ≡ Some p → p < x

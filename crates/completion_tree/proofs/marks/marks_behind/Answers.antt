@@ -3,7 +3,8 @@ use Rattle.std.specs.FinSet as set
 use Rattle.fact_specs.specs.declared.Fact.{Fact}
 use Rattle.fact_specs.specs.Joins.{rep}
 use Rattle.completion_tree.specs.Trail.{facts_in}
-use Rattle.completion_tree.specs.Marks.{holds, facts_within, gives, first_node, second_node, is_join, AreWithin, SomeWithin}
+use Rattle.fact_specs.specs.State.{is_so}
+use Rattle.completion_tree.specs.Marks.{facts_within, gives, first_node, second_node, is_join, AreWithin, SomeWithin}
 use Rattle.completion_tree.proofs.Resting.{if_ok_both, some-more, holds-within}
 use Rattle.completion_tree.proofs.marks.marks_behind.Goals as goal
 
@@ -18,9 +19,9 @@ returns g c =
     let first : a ≡ m (first_node q) = c.ends-first.ensures.first ∙ ap (λ (fs : List (Fact ℕ)). rep fs (first_node q)) same in
     let second : b ≡ m (second_node q) = c.ends-first.ensures.second ∙ ap (λ (fs : List (Fact ℕ)). rep fs (second_node q)) same in
     let some : SomeWithin (gives m q) c.in_ok-ground.ground es = subst (λ (fs : List (Fact ℕ)). SomeWithin (gives (rep fs) q) c.in_ok-ground.ground es) same c.in_ok-ground.ensures in
-    if_ok_both c.with_joins.result (λ u. set.is_subset c.in_ok-ground.ground u ≡ true) (λ u. AreWithin (is_join (rep c.args.facts.now) a b) u es) (λ u. holds (facts_within u es) q ≡ true)
+    if_ok_both c.with_joins.result (λ u. set.is_subset c.in_ok-ground.ground u ≡ true) (λ u. AreWithin (is_join (rep c.args.facts.now) a b) u es) (λ u. is_so (facts_within u es) q ≡ true)
     (λ u more are. holds-within es u q (some-more (gives m q) c.in_ok-ground.ground u es more some)
     (subst (λ (fs : List (Fact ℕ)). AreWithin (is_join (rep fs) (m (first_node q)) (m (second_node q))) u es) same
     (subst (λ (n : ℕ). AreWithin (is_join (rep c.args.facts.now) n (m (second_node q))) u es) first (subst (λ (n : ℕ). AreWithin (is_join (rep c.args.facts.now) a n) u es) second are)))
-    (ap (λ (fs : List (Fact ℕ)). holds fs q) (sym same) ∙ c.requires.holds))
+    (ap (λ (fs : List (Fact ℕ)). is_so fs q) (sym same) ∙ c.requires.holds))
     c.with_joins.ensures.more c.with_joins.ensures.joins
