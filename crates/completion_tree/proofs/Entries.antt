@@ -1,13 +1,13 @@
 -- Lists of entries and the facts in them.
-use Rattle.std.proofs.Common.{◌≡◌, ℕ, zero, suc, ◌+◌, ◌-◌, ◌<◌, ◌≤◌, List, [], ◌∷◌, ◌++◌, length, take, drop, get_or, add-one, drop-cons, append_assoc, Some, refl, ap, sym, ◌∙◌, arith}
+use Rattle.std.proofs.Common.{◌≡◌, ℕ, zero, suc, ◌+◌, ◌-◌, ◌<◌, ◌≤◌, List, [], ◌∷◌, ◌++◌, length, take, drop, get_or, append_assoc, Some, refl, ap, sym, ◌∙◌, arith}
 use Rattle.std.specs.Prelude.{slice_get}
-use Rattle.std.proofs.lemmas.List.{take-append-drop, length-append, length-drop, take_more, get_or-drop}
+use Rattle.std.proofs.lemmas.List.{take-append-drop, take-append-le, length-append, length-drop, length-take, take_more, get_or-drop}
 use Rattle.std.proofs.Math.Seq.{take-append_seam, drop-append_seam, take-length}
 use Rattle.fact_specs.specs.declared.Fact.{Fact}
 use Rattle.completion_tree.specs.declared.tree.By.{By}
 use Rattle.completion_tree.specs.declared.tree.Entry.{Entry}
 use Rattle.completion_tree.specs.declared.tree.Entry.TheVariants.{Fact as Grounded, Mark}
-use Rattle.completion_tree.specs.Trail.{facts_in, fact_count, grounded}
+use Rattle.completion_tree.specs.Trail.{facts_in, grounded}
 
 pub facts_in-append : (es more : List Entry) → facts_in (es ++ more) ≡ facts_in es ++ facts_in more
 facts_in-append [] more = refl
@@ -19,20 +19,17 @@ facts_in-grounded by [] = refl
 facts_in-grounded by (f ∷ fs) = ap (λ (gs : List (Fact ℕ)). f ∷ gs) (facts_in-grounded by fs)
 
 -- the facts of the first entries are the first facts
-pub facts_in-take : (n : ℕ) (es : List Entry) → facts_in (take n es) ≡ take (length (facts_in es) - length (facts_in (drop n es))) (facts_in es)
+pub facts_in-take : (n : ℕ) (es : List Entry) → take (length (facts_in (take n es))) (facts_in es) ≡ facts_in (take n es)
 facts_in-take n es =
     let first = facts_in (take n es) in
     let rest = facts_in (drop n es) in
     let all : facts_in es ≡ first ++ rest = ap facts_in (sym (take-append-drop n es)) ∙ facts_in-append (take n es) (drop n es) in
-    let len : length first ≡ length (facts_in es) - length rest = omega (arith, ap length all, length-append first rest) in
-    sym (take-append_seam first rest) ∙ (λ i. take (len i) (sym all i))
+    ap (take (length first)) all ∙ take-append_seam first rest
 
-pub count-at : (es : List Entry) (i : ℕ) (d : Entry) → i < length es → length (facts_in (drop i es)) ≡ fact_count (get_or es i d) + length (facts_in (drop (i + 1) es))
-count-at es i d lt = rw (add-one, drop-cons es i d) (by (get_or es i d))
-  where
-    by : (e : Entry) → length (facts_in (e ∷ drop (suc i) es)) ≡ fact_count e + length (facts_in (drop (suc i) es))
-    by (Grounded f g) = omega arith
-    by (Mark c) = omega arith
+pub length-facts_in-take : (n : ℕ) (es : List Entry) → length (facts_in (take n es)) ≤ length (facts_in es)
+length-facts_in-take n es =
+    let all : facts_in es ≡ facts_in (take n es) ++ facts_in (drop n es) = ap facts_in (sym (take-append-drop n es)) ∙ facts_in-append (take n es) (drop n es) in
+    omega (arith, ap length all, length-append (facts_in (take n es)) (facts_in (drop n es)))
 
 -- one fact more of those from a place on
 pub more_taken : (fs : List (Fact ℕ)) (from place : ℕ) (f : Fact ℕ) → from ≤ place → place < length fs → slice_get fs place ≡ Some f
@@ -68,10 +65,10 @@ facts-followed es now by fs new part len before at made put =
     let whole : now ≡ es ++ grounded by part = put ∙ ap (λ (gs : List (Fact ℕ)). es ++ grounded by gs) (rest-followed fs new part len at made) in
     made ∙ (λ i. before i ++ sym (facts_in-grounded by part) i) ∙ sym (facts_in-append es (grounded by part)) ∙ ap facts_in (sym whole)
 
-pub length-facts_in-drop : (n : ℕ) (es : List Entry) → length (facts_in (drop n es)) ≤ length (facts_in es)
-length-facts_in-drop n es =
-    let all : facts_in es ≡ facts_in (take n es) ++ facts_in (drop n es) = ap facts_in (sym (take-append-drop n es)) ∙ facts_in-append (take n es) (drop n es) in
-    omega (arith, ap length all, length-append (facts_in (take n es)) (facts_in (drop n es)))
+-- one entry more keeps the first ones
+pub first_stay : (old es now : List Entry) (e : Entry) → take (length old) es ≡ old → now ≡ es ++ e ∷ [] → take (length old) now ≡ old
+first_stay old es now e h put =
+    ap (take (length old)) put ∙ take-append-le (length old) es (e ∷ []) (omega (arith, ap length (sym h), length-take (length old) es)) ∙ h
 
 pub take-rest : (n : ℕ) (es : List Entry) → take (length es - n) (drop n es) ≡ drop n es
 take-rest n es = ap (λ (k : ℕ). take k (drop n es)) (sym (length-drop n es)) ∙ take-length (drop n es)

@@ -1,11 +1,11 @@
 -- A fact of a trail's state holds by the facts that say it and the joins of its nodes.
-use Rattle.std.proofs.Common.{◌≡◌, ℕ, zero, suc, ◌+◌, ◌<◌, ◌≤◌, Bool, true, false, List, [], ◌∷◌, ◌++◌, length, take, get_or, refl, ap, sym, subst, ◌∙◌, arith, inl, inr}
-use Rattle.std.specs.Prelude.{◌==◌, ◌&&◌, ◌||◌, ◌⊎◌, if◌then◌else◌, Result, Ok, Err, IfOk}
+use Rattle.std.proofs.Common.{◌≡◌, ℕ, zero, suc, ◌+◌, ◌<◌, ◌≤◌, ◌≢◌, Bool, true, false, List, [], ◌∷◌, ◌++◌, length, take, get_or, refl, ap, sym, subst, ◌∙◌, arith, inl, inr}
+use Rattle.std.specs.Prelude.{◌==◌, ◌&&◌, ◌||◌, not, ◌⊎◌, if◌then◌else◌, Result, Ok, Err, IfOk}
 use Rattle.std.specs.List.{list_any}
 use Rattle.std.specs.Cmp.{nat_cmp_total}
 use Rattle.std.proofs.lemmas.List.{take_more}
 use Rattle.std.specs.FinSet as set
-use Rattle.std.proofs.lemmas.Bool.{cases_Bool, eqb-true, eq-eqb, and_parts, or_cases, or_left, or_right}
+use Rattle.std.proofs.lemmas.Bool.{cases_Bool, cases_eq, eqb-true, eq-eqb, ne_eqb, and_parts, or_cases, or_left, or_right}
 use Rattle.lane_sieve.specs.Sets.{NumberSet}
 use Rattle.fact_specs.specs.declared.Fact.{Fact}
 use Rattle.fact_specs.specs.declared.Fact.TheVariants.{Has, Edge, Apart, Same}
@@ -17,9 +17,9 @@ use Rattle.completion_tree.specs.declared.tree.Entry.{Entry}
 use Rattle.completion_tree.specs.declared.tree.Entry.TheVariants.{Fact as Grounded, Mark}
 use Rattle.completion_tree.specs.Trail.{facts_in}
 use Rattle.fact_specs.specs.State.{is_so}
-use Rattle.completion_tree.specs.Marks.{facts_within, gives, first_node, second_node, is_join, AreWithin, SomeWithin, passes, marks_at}
-use Rattle.completion_tree.proofs.Entries.{facts_in-append}
-use Rattle.fact_tree.proofs.Content.{any-append}
+use Rattle.fact_tree.specs.Told.{gives, IsAlone}
+use Rattle.fact_tree.proofs.Agreeing.{both, either_on, any-on, concept_on, edge_on, apart_on}
+use Rattle.completion_tree.specs.Marks.{facts_within, first_node, second_node, is_join, is_top, is_joining, AreWithin, SomeWithin, passes, marks_at}
 
 -- ---- facts within marks
 
@@ -86,10 +86,13 @@ are-append p u (Grounded f by ∷ es) more are rest = (are.0, are-append p u es 
 -- ---- representatives
 
 module _ (fs gs : List (Fact ℕ)) (fewer : (y z : ℕ) → list_any (joins y z) gs ≡ true → list_any (joins y z) fs ≡ true) (a : ℕ)
-    (stay : (y z : ℕ) → list_any (joins y z) fs ≡ true → rep fs y ≡ a → list_any (joins y z) gs ≡ true) where
+    (stay : (y z : ℕ) → list_any (joins y z) fs ≡ true → rep fs y ≡ a → y ≢ z → list_any (joins y z) gs ≡ true) where
   kept : (x z : ℕ) → IsJoined fs x z → rep fs x ≡ a → IsJoined gs x z
   kept x x' (itself y) at = itself y
-  kept x x' (by_fact v y z any h) at = by_fact v y z (stay y z any (sym (rep-joined fs v y h) ∙ at)) (kept v y h at)
+  kept x x' (by_fact v y z any h) at = elim (cases_eq y z) [
+    | inl same ↦ subst (λ (n : ℕ). IsJoined gs v n) same (kept v y h at)
+    | inr other ↦ by_fact v y z (stay y z any (sym (rep-joined fs v y h) ∙ at) other) (kept v y h at)
+  ]
 
   all : (x z : ℕ) → IsJoined gs x z → IsJoined fs x z
   all x x' (itself y) = itself y
@@ -105,70 +108,32 @@ module _ (fs gs : List (Fact ℕ)) (fewer : (y z : ℕ) → list_any (joins y z)
 -- ---- what is asked
 
 -- a join of nodes with these representatives is one of those that stay
-join_is : (fs : List (Fact ℕ)) (a b y z : ℕ) → list_any (joins y z) fs ≡ true → ((rep fs y ≡ a) ⊎ (rep fs y ≡ b)) → (f : Fact ℕ) → joins y z f ≡ true → is_join (rep fs) a b f ≡ true
-join_is fs a b y z any at (Has v c) h = cc
-join_is fs a b y z any at (Edge r v w) h = cc
-join_is fs a b y z any at (Apart v w) h = cc
-join_is fs a b y z any at (Same v w) h =
+join_is : (fs : List (Fact ℕ)) (a b y z : ℕ) → list_any (joins y z) fs ≡ true → ((rep fs y ≡ a) ⊎ (rep fs y ≡ b)) → y ≢ z → (f : Fact ℕ) → joins y z f ≡ true → is_join (rep fs) a b f ≡ true
+join_is fs a b y z any at other (Has v c) h = cc
+join_is fs a b y z any at other (Edge r v w) h = cc
+join_is fs a b y z any at other (Apart v w) h = cc
+join_is fs a b y z any at other (Same v w) h =
     let same : rep fs v ≡ rep fs y = elim (or_cases (v == y && w == z) (v == z && w == y) h) [
       | inl here ↦ ap (rep fs) (eqb-true v y (and_parts (v == y) (w == z) here).0)
       | inr turned ↦ ap (rep fs) (eqb-true v z (and_parts (v == z) (w == y) turned).0) ∙ sym (rep-joins fs y z any)
     ] in
+    let two : v ≢ w = elim (or_cases (v == y && w == z) (v == z && w == y) h) [
+      | inl here ↦ (λ e. other (sym (eqb-true v y (and_parts (v == y) (w == z) here).0) ∙ e ∙ eqb-true w z (and_parts (v == y) (w == z) here).1))
+      | inr turned ↦ (λ e. other (sym (eqb-true w y (and_parts (v == z) (w == y) turned).1) ∙ sym e ∙ eqb-true v z (and_parts (v == z) (w == y) turned).0))
+    ] in
     elim at [
-      | inl e ↦ or_left (rep fs v == a) (rep fs v == b) (eq-eqb (rep fs v) a (same ∙ e))
-      | inr e ↦ or_right (rep fs v == a) (rep fs v == b) (eq-eqb (rep fs v) b (same ∙ e))
+      | inl e ↦ both (rep fs v == a || rep fs v == b) (not (v == w)) (or_left (rep fs v == a) (rep fs v == b) (eq-eqb (rep fs v) a (same ∙ e))) (ap not (ne_eqb v w two))
+      | inr e ↦ both (rep fs v == a || rep fs v == b) (not (v == w)) (or_right (rep fs v == a) (rep fs v == b) (eq-eqb (rep fs v) b (same ∙ e))) (ap not (ne_eqb v w two))
     ]
 
 same_test : (m n : ℕ → ℕ) (a : ℕ) → ((x : ℕ) → m x ≡ a → n x ≡ a) → (x : ℕ) → (m x == a) ≡ true → (n x == a) ≡ true
 same_test m n a keeps x h = eq-eqb (n x) a (keeps x (eqb-true (m x) a h))
 
-both : (a b : Bool) → a ≡ true → b ≡ true → (a && b) ≡ true
-both true b h k = k
-both false b h k = cc
-
-either_on : (a b c d : Bool) → (a ≡ true → c ≡ true) → (b ≡ true → d ≡ true) → (a || b) ≡ true → (c || d) ≡ true
-either_on true b c d f g h = or_left c d (f refl)
-either_on false b c d f g h = or_right c d (g h)
-
-pairs_on : (a b c d : Bool) → (a ≡ true → c ≡ true) → (b ≡ true → d ≡ true) → (a && b) ≡ true → (c && d) ≡ true
-pairs_on true b c d f g h = both c d (f refl) (g h)
-pairs_on false b c d f g h = cc
-
-any-on : (p q : Fact ℕ → Bool) → ((f : Fact ℕ) → p f ≡ true → q f ≡ true) → (fs : List (Fact ℕ)) → list_any p fs ≡ true → list_any q fs ≡ true
-any-on p q on [] h = h
-any-on p q on (f ∷ fs) h = either_on (p f) (list_any p fs) (q f) (list_any q fs) (on f) (any-on p q on fs) h
-
--- where n agrees with m at the nodes with these representatives, a fact that gives by m gives by n
-concept_on : (m n : ℕ → ℕ) (x c : ℕ) → ((v : ℕ) → m v ≡ m x → n v ≡ n x) → (f : Fact ℕ) → gives m (Has x c) f ≡ true → gives n (Has x c) f ≡ true
-concept_on m n x c agree (Has y d) h = pairs_on (m y == m x) (d == c) (n y == n x) (d == c) (λ e. eq-eqb (n y) (n x) (agree y (eqb-true (m y) (m x) e))) (λ e. e) h
-concept_on m n x c agree (Edge r v w) h = cc
-concept_on m n x c agree (Apart v w) h = cc
-concept_on m n x c agree (Same v w) h = cc
-
-test_on : (m n : ℕ → ℕ) (x : ℕ) → ((v : ℕ) → m v ≡ m x → n v ≡ n x) → (v : ℕ) → (m v == m x) ≡ true → (n v == n x) ≡ true
-test_on m n x agree v e = eq-eqb (n v) (n x) (agree v (eqb-true (m v) (m x) e))
-
-edge_on : (m n : ℕ → ℕ) (r x y : ℕ) → ((v : ℕ) → m v ≡ m x → n v ≡ n x) → ((v : ℕ) → m v ≡ m y → n v ≡ n y) → (f : Fact ℕ) → gives m (Edge r x y) f ≡ true → gives n (Edge r x y) f ≡ true
-edge_on m n r x y ax ay (Edge s v w) h =
-    pairs_on (s == r && m v == m x) (m w == m y) (s == r && n v == n x) (n w == n y) (pairs_on (s == r) (m v == m x) (s == r) (n v == n x) (λ e. e) (test_on m n x ax v)) (test_on m n y ay w) h
-edge_on m n r x y ax ay (Has v d) h = cc
-edge_on m n r x y ax ay (Apart v w) h = cc
-edge_on m n r x y ax ay (Same v w) h = cc
-
-apart_on : (m n : ℕ → ℕ) (x y : ℕ) → ((v : ℕ) → m v ≡ m x → n v ≡ n x) → ((v : ℕ) → m v ≡ m y → n v ≡ n y) → (f : Fact ℕ) → gives m (Apart x y) f ≡ true → gives n (Apart x y) f ≡ true
-apart_on m n x y ax ay (Apart v w) h =
-    either_on (m v == m x && m w == m y) (m v == m y && m w == m x) (n v == n x && n w == n y) (n v == n y && n w == n x)
-    (pairs_on (m v == m x) (m w == m y) (n v == n x) (n w == n y) (test_on m n x ax v) (test_on m n y ay w))
-    (pairs_on (m v == m y) (m w == m x) (n v == n y) (n w == n x) (test_on m n y ay v) (test_on m n x ax w)) h
-apart_on m n x y ax ay (Has v d) h = cc
-apart_on m n x y ax ay (Edge s v w) h = cc
-apart_on m n x y ax ay (Same v w) h = cc
-
 -- nodes with these representatives keep them
 agree : (es : List Entry) (u : NumberSet) (a b : ℕ) → AreWithin (is_join (rep (facts_in es)) a b) u es → (c : ℕ) → ((c ≡ a) ⊎ (c ≡ b)) → (v : ℕ) → rep (facts_in es) v ≡ c → rep (facts_within u es) v ≡ c
 agree es u a b are c which v e =
     same_rep (facts_in es) (facts_within u es) (λ y z h. within-in (joins y z) u es h) c
-    (λ y z any at. all-within (is_join (rep (facts_in es)) a b) (joins y z) u es are (join_is (facts_in es) a b y z any (turn which at)) any) v e
+    (λ y z any at other. all-within (is_join (rep (facts_in es)) a b) (joins y z) u es are (join_is (facts_in es) a b y z any (turn which at) other) any) v e
   where
     turn : {n : ℕ} → ((c ≡ a) ⊎ (c ≡ b)) → n ≡ c → (n ≡ a) ⊎ (n ≡ b)
     turn (inl d) at = inl (at ∙ d)
@@ -219,15 +184,6 @@ found p (Grounded f by ∷ es) zero d lt h = some_stays p by.marks f by es (part
 found p (Mark c ∷ es) zero d lt h = cc
 found p (e ∷ es) (suc i) d lt h = some_later p (marks_at (get_or es i d)) e es (found p es i d (omega (arith, lt)) h)
 
-pub none_more : (p : Fact ℕ → Bool) (es : List Entry) (i : ℕ) (d : Entry) → i < length es → list_any p (facts_in (take i es)) ≡ false → passes p (get_or es i d) ≡ false → list_any p (facts_in (take (i + 1) es)) ≡ false
-none_more p es i d lt none h =
-    ap (λ (us : List Entry). list_any p (facts_in us)) (take_more es i d lt) ∙ ap (list_any p) (facts_in-append (take i es) (get_or es i d ∷ [])) ∙ any-append p (facts_in (take i es)) (facts_in (get_or es i d ∷ []))
-    ∙ (λ k. none k || one (get_or es i d) h k)
-  where
-    one : (e : Entry) → passes p e ≡ false → list_any p (facts_in (e ∷ [])) ≡ false
-    one (Grounded f by) h = ap (λ (b : Bool). b || false) h
-    one (Mark c) h = refl
-
 pub some-nothing : (p : Fact ℕ → Bool) (u : NumberSet) (es : List Entry) → list_any p (facts_in es) ≡ false → SomeWithin p u es
 some-nothing p u es none any = cc (none, any)
 
@@ -248,3 +204,64 @@ if_ok_by (Err e) P Q f p = tt
 pub if_ok_both : {X E : Type 0} (r : Result X E) (P Q R : X → Type 0) → ((x : X) → P x → Q x → R x) → IfOk r P → IfOk r Q → IfOk r R
 if_ok_both (Ok x) P Q R f p q = f x p q
 if_ok_both (Err e) P Q R f p q = tt
+
+-- ---- nodes that nothing joins
+
+-- no two nodes with these representatives are joined
+no_join : (m : ℕ → ℕ) (a b y z : ℕ) → ((v : ℕ) → m v ≡ a → v ≡ a) → ((v : ℕ) → m v ≡ b → v ≡ b) → m y ≡ m z → is_join m a b (Same y z) ≡ true → ⊥
+no_join m a b y z at-a at-b same h =
+    let parts = and_parts (m y == a || m y == b) (not (y == z)) h in
+    let one : y ≡ z = elim (or_cases (m y == a) (m y == b) parts.0) [
+      | inl e ↦ at-a y (eqb-true (m y) a e) ∙ sym (at-a z (sym same ∙ eqb-true (m y) a e))
+      | inr e ↦ at-b y (eqb-true (m y) b e) ∙ sym (at-b z (sym same ∙ eqb-true (m y) b e))
+    ] in
+    no_both (y == z) (eq-eqb y z one) parts.1
+  where
+    no_both : (t : Bool) → t ≡ true → not t ≡ true → ⊥
+    no_both true e h = cc
+    no_both false e h = cc
+
+joins_itself : (y z : ℕ) → joins {C = ℕ} y z (Same y z) ≡ true
+joins_itself y z = or_left (y == y && z == z) (y == z && z == y) (both (y == y) (z == z) (eq-eqb y y refl) (eq-eqb z z refl))
+
+none_within : (m : ℕ → ℕ) (a b : ℕ) (u : NumberSet) → ((v : ℕ) → m v ≡ a → v ≡ a) → ((v : ℕ) → m v ≡ b → v ≡ b) → (es : List Entry) → ((y z : ℕ) → list_any (joins y z) (facts_in es) ≡ true → m y ≡ m z) → AreWithin (is_join m a b) u es
+none_within m a b u at-a at-b [] h = tt
+none_within m a b u at-a at-b (Mark c ∷ es) h = none_within m a b u at-a at-b es h
+none_within m a b u at-a at-b (Grounded f by ∷ es) h = (
+  first f h,
+  none_within m a b u at-a at-b es (λ y z any. h y z (or_right (joins y z f) (list_any (joins y z) (facts_in es)) any)),
+)
+  where
+    first : (g : Fact ℕ) → ((y z : ℕ) → list_any (joins y z) (g ∷ facts_in es) ≡ true → m y ≡ m z) → is_join m a b g ≡ true → set.is_subset by.marks u ≡ true
+    first (Has y d) k j = cc
+    first (Edge r y z) k j = cc
+    first (Apart y z) k j = cc
+    first (Same y z) k j = absurd (no_join m a b y z at-a at-b (k y z (or_left (joins {C = ℕ} y z (Same y z)) (list_any (joins y z) (facts_in es)) (joins_itself y z))) j)
+
+pub alone_within : (es : List Entry) (a b : ℕ) (u : NumberSet) → rep (facts_in es) a ≡ a → rep (facts_in es) b ≡ b → IsAlone (facts_in es) a → IsAlone (facts_in es) b → AreWithin (is_join (rep (facts_in es)) a b) u es
+alone_within es a b u own-a own-b alone-a alone-b =
+    none_within (rep (facts_in es)) a b u (λ v e. alone-a v (e ∙ sym own-a) ∙ own-a) (λ v e. alone-b v (e ∙ sym own-b) ∙ own-b) es (rep-joins (facts_in es))
+
+pub rep_stays : (fs : List (Fact ℕ)) (x : ℕ) → rep fs (rep fs x) ≡ rep fs x
+rep_stays fs x = sym (rep-joined fs x (rep fs x) (joined-rep fs x))
+
+-- each node has top, whatever the facts are
+pub top-within : (u : NumberSet) (es : List Entry) (q : Fact ℕ) → is_top q ≡ true → is_so (facts_within u es) q ≡ true
+top-within u es (Has x c) h = or_left (c == 0) _ h
+top-within u es (Edge r x y) h = cc
+top-within u es (Apart x y) h = cc
+top-within u es (Same x y) h = cc
+
+-- that two nodes are one is said by no fact alone
+nothing_says : (m : ℕ → ℕ) (x y : ℕ) (fs : List (Fact ℕ)) → list_any (gives m (Same x y)) fs ≡ false
+nothing_says m x y [] = refl
+nothing_says m x y (f ∷ fs) = nothing_says m x y fs
+
+false_is : false ≡ true → ⊥
+false_is e = cc
+
+pub joining_within : (m : ℕ → ℕ) (q : Fact ℕ) (u : NumberSet) (es : List Entry) → is_joining q ≡ true → SomeWithin (gives m q) u es
+joining_within m (Same x y) u es h = some-nothing (gives m (Same x y)) u es (nothing_says m x y (facts_in es))
+joining_within m (Has x c) u es h = absurd (false_is h)
+joining_within m (Edge r x y) u es h = absurd (false_is h)
+joining_within m (Apart x y) u es h = absurd (false_is h)

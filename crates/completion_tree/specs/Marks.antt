@@ -1,12 +1,10 @@
 -- What a fact of a trail's state rests on.
-use Rattle.std.specs.Prelude.{◌≡◌, ℕ, ◌==◌, ◌||◌, Bool, true, false, List, [], ◌∷◌, if◌then◌else◌}
+use Rattle.std.specs.Prelude.{◌≡◌, ℕ, ◌==◌, ◌&&◌, ◌||◌, not, Bool, true, false, List, [], ◌∷◌, get_or, if◌then◌else◌}
 use Rattle.std.specs.List.{list_any}
 use Rattle.std.specs.FinSet as set
 use Rattle.lane_sieve.specs.Sets.{NumberSet}
 use Rattle.fact_specs.specs.declared.Fact.{Fact}
 use Rattle.fact_specs.specs.declared.Fact.TheVariants.{Has, Edge, Apart, Same}
-use Rattle.fact_specs.specs.Joins.{rep}
-use Rattle.fact_specs.specs.State.{gives_concept, gives_edge, gives_apart}
 use Rattle.completion_tree.specs.declared.tree.Entry.{Entry}
 use Rattle.completion_tree.specs.declared.tree.Entry.TheVariants.{Fact as Grounded, Mark}
 use Rattle.completion_tree.specs.Trail.{facts_in}
@@ -17,12 +15,19 @@ facts_within u [] = []
 facts_within u (Grounded f by ∷ es) = if set.is_subset by.marks u then f ∷ facts_within u es else facts_within u es
 facts_within u (Mark c ∷ es) = facts_within u es
 
--- whether a fact alone says what is asked, where m leads each node to its representative; that two nodes are one is said by joins
-abbrev pub gives : (ℕ → ℕ) → Fact ℕ → Fact ℕ → Bool
-gives m (Has x c) f = gives_concept (λ d. d == c) m (m x) f
-gives m (Edge r x y) f = gives_edge (λ s. s == r) m (m x) (m y) f
-gives m (Apart x y) f = gives_apart m (m x) (m y) f
-gives m (Same x y) f = false
+-- whether it is asked for a concept that each node has
+abbrev pub is_top : Fact ℕ → Bool
+is_top (Has x c) = c == 0
+is_top (Edge r x y) = false
+is_top (Apart x y) = false
+is_top (Same x y) = false
+
+-- whether it is asked whether two nodes are one
+abbrev pub is_joining : Fact ℕ → Bool
+is_joining (Same x y) = true
+is_joining (Has x c) = false
+is_joining (Edge r x y) = false
+is_joining (Apart x y) = false
 
 -- the nodes that are asked about
 abbrev pub first_node : Fact ℕ → ℕ
@@ -37,9 +42,9 @@ second_node (Edge r x y) = y
 second_node (Apart x y) = y
 second_node (Same x y) = y
 
--- whether the fact joins nodes with one of these representatives
+-- whether the fact joins two nodes, with one of these representatives
 abbrev pub is_join : (ℕ → ℕ) → ℕ → ℕ → Fact ℕ → Bool
-is_join m a b (Same v w) = m v == a || m v == b
+is_join m a b (Same v w) = (m v == a || m v == b) && not (v == w)
 is_join m a b (Has y c) = false
 is_join m a b (Edge r y z) = false
 is_join m a b (Apart y z) = false
@@ -63,3 +68,7 @@ passes p (Mark c) = false
 abbrev pub marks_at : Entry → NumberSet
 marks_at (Grounded f by) = by.marks
 marks_at (Mark c) = set.empty
+
+-- where the fact at a place among the facts passes a test, some fact does that rests on these marks alone
+abbrev pub IsGroundedBy : List Entry → ℕ → NumberSet → Type 0
+IsGroundedBy es i u = (q : Fact ℕ → Bool) → q (get_or (facts_in es) i (Has 0 0)) ≡ true → list_any q (facts_within u es) ≡ true

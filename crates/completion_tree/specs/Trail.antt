@@ -1,6 +1,7 @@
 -- The entries of a trail.
-use Rattle.std.specs.Prelude.{◌≡◌, ℕ, List, [], ◌∷◌, ◌++◌, Some, map, slice_get}
+use Rattle.std.specs.Prelude.{◌≡◌, ℕ, ◌+◌, Bool, true, false, List, [], ◌∷◌, ◌++◌, Some, map, slice_get, if◌then◌else◌}
 use Rattle.fact_specs.specs.declared.Fact.{Fact}
+use Rattle.fact_specs.specs.declared.Fact.TheVariants.{Has, Edge, Apart, Same}
 use Rattle.fact_specs.specs.State.{node_count, fresh_facts}
 use Rattle.tableau_specs.specs.declared.Choice.{Choice}
 use Rattle.tableau_specs.specs.declared.Item.{Item}
@@ -14,11 +15,6 @@ abbrev pub facts_in : List Entry → List (Fact ℕ)
 facts_in [] = []
 facts_in (Grounded f by ∷ es) = f ∷ facts_in es
 facts_in (Mark c ∷ es) = facts_in es
-
--- how many facts an entry is
-abbrev pub fact_count : Entry → ℕ
-fact_count (Grounded f by) = 1
-fact_count (Mark c) = 0
 
 -- the entries without what their facts rest on
 abbrev pub item_of : Entry → Item
@@ -45,3 +41,23 @@ pub record RestsOn (es : List Entry) (place : ℕ) (by : By) : Type 0 where
 pub record IsMarkAt (es : List Entry) (place : ℕ) : Type 0 where
   pub choice : Choice
   pub stands : slice_get es place ≡ Some (Mark choice)
+
+-- ---- places
+
+-- whether the entry is a fact
+abbrev pub is_fact : Entry → Bool
+is_fact (Grounded f by) = true
+is_fact (Mark c) = false
+
+-- whether the entry says that two nodes are one
+abbrev pub is_same : Entry → Bool
+is_same (Grounded (Same y z) by) = true
+is_same (Grounded (Has y c) by) = false
+is_same (Grounded (Edge r y z) by) = false
+is_same (Grounded (Apart y z) by) = false
+is_same (Mark c) = false
+
+-- the places of the entries that pass a test, where the first has this place
+abbrev pub places : (Entry → Bool) → ℕ → List Entry → List ℕ
+places p n [] = []
+places p n (e ∷ es) = if p e then n ∷ places p (n + 1) es else places p (n + 1) es

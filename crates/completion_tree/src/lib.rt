@@ -9,6 +9,7 @@
 #![tactic(auto)]
 
 mod marks;
+mod trail;
 mod tree;
 
 pub use dependency_sets::Deps;

@@ -1,16 +1,16 @@
 // The trail, and what its facts say.
-ghost use Rattle.std.specs.Prelude.{◌≡◌, ℕ, ◌+◌, ◌<◌, ◌≤◌, ◌^◌, [], ◌∷◌, ◌++◌, OnOk, OnErr, IfOk, length, take, drop, slice_get, Some, true, IfSome, IfNone};
+ghost use Rattle.std.specs.Prelude.{◌≡◌, ℕ, ◌+◌, ◌<◌, ◌≤◌, ◌^◌, [], ◌∷◌, ◌++◌, OnOk, OnErr, IfOk, length, take, drop, slice_get, Some, ◌==◌, true, IfSome, IfNone, IsNone};
 ghost use Rattle.fact_specs.specs.Joins.{rep};
-ghost use Rattle.fact_specs.specs.State.{node_count, has, are_apart, parent as parent_of};
+ghost use Rattle.fact_specs.specs.State.{node_count, has, has_edge, are_apart, parent as parent_of, HasParentsBefore, is_so};
 ghost use Rattle.fact_tree.specs.Entries.{IsFit};
 ghost use Rattle.fact_specs.specs.Listed.{IsLabel, IsOnce, AreEdges};
 ghost use Rattle.fact_specs.specs.declared.Fact.TheVariants.{Same};
 ghost use Rattle.completion_tree.specs.declared.tree.Entry.TheVariants.{Fact as Grounded, Mark as Marks};
-ghost use Rattle.completion_tree.specs.Trail.{facts_in, item_of, items_of, grounded, fact_count, with_fresh, RestsOn, IsMarkAt};
-ghost use Rattle.fact_specs.specs.State.{is_so};
+ghost use Rattle.completion_tree.specs.Trail.{facts_in, item_of, items_of, grounded, with_fresh, RestsOn, IsMarkAt};
 ghost use Rattle.completion_tree.specs.Marks.{facts_within};
 
 use crate::marks::marks_behind;
+use crate::trail::Trail;
 use dependency_sets::Deps;
 use fact_specs::Fact;
 use fact_tree::FactTree;
@@ -57,11 +57,11 @@ pub enum Entry {
 #[derive(Drop)]
 pub struct Tree<A: Allocator> {
     facts: FactTree<A>,
-    entries: Vec<Entry, A>,
+    trail: Trail<A>,
 }
 
 impl<A: Allocator> Model for Tree<A> {
-    ghost use Rattle.std.specs.Prelude.{◌≡◌, ◌<◌, ◌^◌, List, length};
+    ghost use Rattle.std.specs.Prelude.{◌≡◌, List};
     ghost use Rattle.completion_tree.specs.declared.tree.Entry.{Entry as PlainEntry};
     ghost use Rattle.completion_tree.specs.Trail.{facts_in};
     ghost use Rattle.std.specs.Coded.{codes};
@@ -71,13 +71,10 @@ impl<A: Allocator> Model for Tree<A> {
 
     ghost coded = { Prim.hlevel (codes, deps.the_row.coded) };
 
-    ghost view = { λ t. t.entries.items };
+    ghost view = { λ t. t.trail };
 
-    ghost invariant = { λ t. (t.facts ≡ facts_in t.entries.items) × (length t.entries.items < 2 ^ 32) };
+    ghost invariant = { λ t. t.facts ≡ facts_in t.trail };
 }
-
-// There are never more entries.
-const MOST: usize = u32::MAX as usize;
 
 impl<A: Allocator + Copy> Tree<A> {
     /// Node 0, of which nothing is known.
@@ -89,7 +86,7 @@ impl<A: Allocator + Copy> Tree<A> {
     {
         Ok(Tree {
             facts: FactTree::new_in(alloc)?,
-            entries: Vec::new(alloc),
+            trail: Trail::new_in(alloc),
         })
     }
 
@@ -97,7 +94,8 @@ impl<A: Allocator + Copy> Tree<A> {
     pub fn len(&self) -> u32
         ensures { result ≡ length self.now }
     {
-        self.entries.len() as u32
+        let _ = &self.facts;
+        self.trail.len()
     }
 
     /// The fact or the mark at a place, from 0.
@@ -105,7 +103,8 @@ impl<A: Allocator + Copy> Tree<A> {
         requires { place < length self.now }
         ensures { slice_get (items_of self.now) place ≡ Some result }
     {
-        item_at(&self.entries[place as usize])
+        let _ = &self.facts;
+        item_at(self.trail.entry(place))
     }
 
     /// What the fact at a place, from 0, rests on; none where a mark stands there.
@@ -114,7 +113,8 @@ impl<A: Allocator + Copy> Tree<A> {
         ensures some { IfSome result (λ by. RestsOn self.now place by.now) }
         ensures none { IfNone result (IsMarkAt self.now place) }
     {
-        match &self.entries[place as usize] {
+        let _ = &self.facts;
+        match self.trail.entry(place) {
             Entry::Fact(_, by) => Some(by),
             Entry::Mark(_) => None,
         }
@@ -123,9 +123,10 @@ impl<A: Allocator + Copy> Tree<A> {
     /// How many nodes there are.
     pub fn nodes(&self) -> u32
         ensures count { result ≡ node_count (facts_in self.now) }
+        ensures parents { HasParentsBefore (facts_in self.now) }
         ensures small { result + 200 < 2 ^ 32 }
     {
-        let _ = &self.entries;
+        let _ = &self.trail;
         self.facts.nodes()
     }
 
@@ -133,7 +134,7 @@ impl<A: Allocator + Copy> Tree<A> {
     pub fn representative(&self, node: u32) -> u32
         ensures { result ≡ rep (facts_in self.now) node }
     {
-        let _ = &self.entries;
+        let _ = &self.trail;
         self.facts.representative(node)
     }
 
@@ -142,24 +143,35 @@ impl<A: Allocator + Copy> Tree<A> {
         requires { node < node_count (facts_in self.now) }
         ensures { result ≡ parent_of (facts_in self.now) node }
     {
-        let _ = &self.entries;
+        let _ = &self.trail;
         self.facts.parent(node)
+    }
+
+    /// The first edge into a node: its role, and the node where it begins. Node 0 has none.
+    pub fn origin(&self, node: u32) -> Option<(u32, u32)>
+        requires { node < node_count (facts_in self.now) }
+        ensures none { IsNone result → node ≡ 0 }
+        ensures some { IfSome result (λ o. (has_edge (facts_in self.now) (λ s. s == o.0) o.1 node ≡ true) × (parent_of (facts_in self.now) node ≡ Some o.1)) }
+    {
+        let _ = &self.trail;
+        self.facts.origin(node)
     }
 
     /// Whether a node has a concept. Each node has concept 0.
     pub fn has(&self, node: u32, concept: u32) -> bool
         ensures { result ≡ has (facts_in self.now) node concept }
     {
-        let _ = &self.entries;
+        let _ = &self.trail;
         self.facts.has(node, concept)
     }
 
-    /// What a node has, each concept once, in some order.
+    /// What a node has, each concept once, in some order. A number that is no node's has concept 0 alone.
     pub fn label(&self, node: u32) -> &[u32]
         ensures held { IsLabel (facts_in self.now) node result.now }
         ensures once { IsOnce result.now }
+        ensures beyond { node_count (facts_in self.now) ≤ node → result.now ≡ 0 ∷ [] }
     {
-        let _ = &self.entries;
+        let _ = &self.trail;
         self.facts.label(node)
     }
 
@@ -167,7 +179,7 @@ impl<A: Allocator + Copy> Tree<A> {
     pub fn edges(&self, node: u32) -> &[(u32, u32)]
         ensures { AreEdges (facts_in self.now) node result.now }
     {
-        let _ = &self.entries;
+        let _ = &self.trail;
         self.facts.edges(node)
     }
 
@@ -177,7 +189,7 @@ impl<A: Allocator + Copy> Tree<A> {
         requires second { second < node_count (facts_in self.now) }
         ensures { result ≡ are_apart (facts_in self.now) first second }
     {
-        let _ = &self.entries;
+        let _ = &self.trail;
         self.facts.are_apart(first, second)
     }
 
@@ -190,7 +202,7 @@ impl<A: Allocator + Copy> Tree<A> {
         requires { is_so (facts_in self.now) fact ≡ true }
         ensures { IfOk result (λ marks. is_so (facts_within marks self.now) fact ≡ true) }
     {
-        marks_behind(alloc, self.entries.as_slice(), &self.facts, fact)
+        marks_behind(alloc, &self.trail, &self.facts, fact)
     }
 
     /// Puts a fact last, with what it rests on. Its nodes are there, or it is an edge to the next new node.
@@ -202,12 +214,9 @@ impl<A: Allocator + Copy> Tree<A> {
         ensures added { OnOk result (self.new ≡ self.old ++ Grounded fact by ∷ []) }
         ensures unchanged { OnErr result (self.new ≡ self.old) }
     {
-        if self.entries.len() >= MOST {
-            return Err(NoMemory);
-        }
         let len = self.facts.len();
         self.facts.add(fact)?;
-        match push(&mut self.entries, Entry::Fact(fact, by)) {
+        match self.trail.push(Entry::Fact(fact, by)) {
             Ok(()) => Ok(()),
             Err(error) => {
                 self.facts.undo_to(len);
@@ -249,13 +258,13 @@ impl<A: Allocator + Copy> Tree<A> {
         ensures unchanged { OnErr result (self.new ≡ self.old) }
     {
         let len = self.facts.len();
-        let entries = self.entries.len();
+        let entries = self.trail.len();
         let first = self.facts.fresh(node, role, concept, count)?;
-        match follow(&mut self.entries, &self.facts, len, &by) {
+        match follow(&mut self.trail, &self.facts, len, &by) {
             Ok(()) => Ok(first),
             Err(error) => {
                 self.facts.undo_to(len);
-                self.entries.truncate(entries);
+                self.trail.cut(entries);
                 Err(error)
             }
         }
@@ -270,12 +279,10 @@ impl<A: Allocator + Copy> Tree<A> {
         ensures marked { OnOk result (self.new ≡ self.old ++ Marks choice ∷ []) }
         ensures unchanged { OnErr result (self.new ≡ self.old) }
     {
-        let len = self.entries.len();
-        if len >= MOST {
-            return Err(NoMemory);
-        }
-        push(&mut self.entries, Entry::Mark(choice))?;
-        Ok(Mark { len: len as u32 })
+        let _ = &self.facts;
+        let len = self.trail.len();
+        self.trail.push(Entry::Mark(choice))?;
+        Ok(Mark { len })
     }
 
     /// Takes out the entries from the mark on.
@@ -283,9 +290,8 @@ impl<A: Allocator + Copy> Tree<A> {
         requires { mark.len ≤ length self.old }
         ensures { self.new ≡ take mark.len self.old }
     {
-        let later = count_facts(&self.entries[mark.len as usize..]);
-        self.facts.undo_to(self.facts.len() - later);
-        self.entries.truncate(mark.len as usize);
+        self.trail.cut(mark.len);
+        self.facts.undo_to(self.trail.count_facts());
     }
 }
 
@@ -299,56 +305,20 @@ fn item_at(entry: &Entry) -> Item
     }
 }
 
-// Puts an entry last.
-fn push<A: Allocator + Copy>(entries: &mut Vec<Entry, A>, entry: Entry) -> Result<(), NoMemory>
-    ensures put { OnOk result (entries.new.items ≡ entries.old.items ++ entry ∷ []) }
-    ensures unchanged { OnErr result (entries.new.items ≡ entries.old.items) }
-{
-    entries.push(entry)?;
-    Ok(())
-}
-
 // Puts the facts from a place on last, as entries that rest on the same.
 fn follow<A: Allocator + Copy>(
-    entries: &mut Vec<Entry, A>,
+    trail: &mut Trail<A>,
     facts: &FactTree<A>,
     from: usize,
     by: &By,
 ) -> Result<(), NoMemory>
     requires { from ≤ length facts.now }
-    ensures put { OnOk result (entries.new.items ≡ entries.old.items ++ grounded by.now (drop from facts.now)) }
-    ensures small { OnOk result (length entries.old.items < 2 ^ 32 → length entries.new.items < 2 ^ 32) }
-    ensures begins { OnErr result (take (length entries.old.items) entries.new.items ≡ entries.old.items) }
+    ensures put { OnOk result (trail.new ≡ trail.old ++ grounded by.now (drop from facts.now)) }
+    ensures begins { OnErr result (take (length trail.old) trail.new ≡ trail.old) }
 {
     for place in from..facts.len() {
-        if entries.len() >= MOST {
-            return Err(NoMemory);
-        }
         let by = by.try_clone()?;
-        push(entries, Entry::Fact(facts.fact(place), by))?;
+        trail.push(Entry::Fact(facts.fact(place), by))?;
     }
     Ok(())
-}
-
-// How many of the entries are facts.
-fn count_facts(entries: &[Entry]) -> usize
-    requires { length entries.now < 2 ^ 32 }
-    ensures { result ≡ length (facts_in entries.now) }
-{
-    let mut count = 0;
-    for entry in entries {
-        count += facts_of(entry);
-    }
-    count
-}
-
-// How many facts the entry is, one or none.
-fn facts_of(entry: &Entry) -> usize
-    ensures count { result ≡ fact_count entry.now }
-    ensures small { result ≤ 1 }
-{
-    match entry {
-        Entry::Fact(_, _) => 1,
-        Entry::Mark(_) => 0,
-    }
 }

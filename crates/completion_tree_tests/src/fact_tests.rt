@@ -35,6 +35,11 @@ fn check_orders(rt: &impl Abort, heap: Global) -> Result<(), NoMemory> {
     assert_eq!(rt; tree.len(), 14);
     assert!(rt; 1 < tree.len());
     assert_eq!(rt; tree.fact(1), Fact::Has(1, 5));
+    assert_eq!(rt; tree.ground(Fact::Has(1, 5)), Some(1));
+    assert_eq!(rt; tree.ground(Fact::Edge(7, 0, 3)), Some(4));
+    assert_eq!(rt; tree.ground(Fact::Apart(3, 2)), Some(11));
+    assert_eq!(rt; tree.ground(Fact::Has(1, 6)), None);
+    assert!(rt; tree.is_alone(2));
     for (pairs, representatives) in ORDERS {
         for pair in pairs {
             join(rt, &mut tree, pair)?;

@@ -51,8 +51,16 @@ fn check_reads<A: Allocator + Copy>(rt: &impl Abort, tree: &Tree<A>) {
     assert!(rt; 4 < tree.nodes());
     assert_eq!(rt; tree.parent(4), Some(0));
     assert_eq!(rt; tree.parent(0), None);
+    assert_eq!(rt; tree.origin(4), Some((7, 0)));
+    assert_eq!(rt; tree.origin(0), None);
     assert!(rt; tree.are_apart(4, 2));
     assert!(rt; !tree.are_apart(4, 1));
+}
+
+fn check_marks(rt: &impl Abort, marks: &Deps, has_join: bool, has_makers: bool) {
+    for (mark, is_there) in [(3, has_join), (20, has_makers), (4, false)] {
+        assert_eq!(rt; marks.has(mark), is_there, "mark {mark}");
+    }
 }
 
 /// Node 1 has concept 6 since node 4 has it, which rests on choice 20, and is one with node 1, which rests on choice 3.
@@ -69,10 +77,14 @@ fn check_grounds<A: Allocator + Copy>(
     }
     assert!(rt; tree.by(9).is_none());
     assert!(rt; tree.has(1, 6));
-    let marks = tree.marks_of(heap, Fact::Has(1, 6))?;
-    for (mark, is_there) in [(3, true), (20, true), (4, false)] {
-        assert_eq!(rt; marks.has(mark), is_there, "mark {mark}");
-    }
+    check_marks(rt, &tree.marks_of(heap, Fact::Has(1, 6))?, true, true);
+    assert!(rt; tree.has(2, 5));
+    check_marks(rt, &tree.marks_of(heap, Fact::Has(2, 5))?, false, true);
+    assert!(rt; tree.has(1, 0));
+    check_marks(rt, &tree.marks_of(heap, Fact::Has(1, 0))?, false, false);
+    assert!(rt; 4 < tree.nodes());
+    assert!(rt; tree.are_apart(4, 2));
+    check_marks(rt, &tree.marks_of(heap, Fact::Apart(4, 2))?, true, true);
     Ok(())
 }
 

@@ -90,12 +90,12 @@ module _ {P : Type 0} (get : Lists → List P) (pick : Fact ℕ → Option (ℕ 
             ∙ sym (ap (λ (b : Bool). list_any q base || b) (more ∙ ap (λ (b : Bool). list_any (gives q m x) fs || b) miss ∙ or_false (list_any (gives q m x) fs)))
       ]
 
-  pub told_grown : (m : ℕ → ℕ) (fs : List (Fact ℕ)) (k : Kept) (parent : ℕ) → get (new_lists (length k.nodes) parent) ≡ base → ((q : P → Bool) → list_any (gives q m (length k.nodes)) fs ≡ false) → Told m fs k → Told m fs (grown parent k)
-  told_grown m fs k parent new nothing h q x lt own = elim (cases_lt x (length k.nodes)) [
-    | inl before ↦ ap (λ (n : Lists). list_any q (get n)) (get_or-append k.nodes (new_lists (length k.nodes) parent ∷ []) bare x before) ∙ h q x before own
+  pub told_grown : (m : ℕ → ℕ) (fs : List (Fact ℕ)) (k : Kept) (origin : ℕ × ℕ) → get (new_lists (length k.nodes) origin) ≡ base → ((q : P → Bool) → list_any (gives q m (length k.nodes)) fs ≡ false) → Told m fs k → Told m fs (grown origin k)
+  told_grown m fs k origin new nothing h q x lt own = elim (cases_lt x (length k.nodes)) [
+    | inl before ↦ ap (λ (n : Lists). list_any q (get n)) (get_or-append k.nodes (new_lists (length k.nodes) origin ∷ []) bare x before) ∙ h q x before own
     | inr behind ↦
-        let at : x ≡ length k.nodes = omega (arith, behind, lt, length-append k.nodes (new_lists (length k.nodes) parent ∷ [])) in
-        let here : lists_at (grown parent k) x ≡ new_lists (length k.nodes) parent = ap (lists_at (grown parent k)) at ∙ get_or-append_seam k.nodes (new_lists (length k.nodes) parent) [] bare in
+        let at : x ≡ length k.nodes = omega (arith, behind, lt, length-append k.nodes (new_lists (length k.nodes) origin ∷ [])) in
+        let here : lists_at (grown origin k) x ≡ new_lists (length k.nodes) origin = ap (lists_at (grown origin k)) at ∙ get_or-append_seam k.nodes (new_lists (length k.nodes) origin) [] bare in
         ap (λ (n : Lists). list_any q (get n)) here ∙ ap (list_any q) new
         ∙ sym (ap (λ (n : ℕ). list_any q base || list_any (gives q m n) fs) at ∙ ap (λ (b : Bool). list_any q base || b) (nothing q) ∙ or_false (list_any q base))
   ]

@@ -48,20 +48,20 @@ pub top_once : IsOnce (0 ∷ [])
 unfolding IsDistinct
 top_once = (tt, tt)
 
-grown_once : (k : Kept) (parent : ℕ) → AreOnce k → AreOnce (grown parent k)
-grown_once k parent h x lt = elim (cases_lt x (length k.nodes)) [
-  | inl before ↦ subst (λ (n : Lists). IsOnce n.concepts) (sym (get_or-append k.nodes (new_lists (length k.nodes) parent ∷ []) bare x before)) (h x before)
+grown_once : (k : Kept) (origin : ℕ × ℕ) → AreOnce k → AreOnce (grown origin k)
+grown_once k origin h x lt = elim (cases_lt x (length k.nodes)) [
+  | inl before ↦ subst (λ (n : Lists). IsOnce n.concepts) (sym (get_or-append k.nodes (new_lists (length k.nodes) origin ∷ []) bare x before)) (h x before)
   | inr behind ↦
-      let at : length k.nodes ≡ x = omega (arith, behind, lt, length-append k.nodes (new_lists (length k.nodes) parent ∷ [])) in
-      subst (λ (n : ℕ). IsOnce (lists_at (grown parent k) n).concepts) at
-      (subst (λ (n : Lists). IsOnce n.concepts) (sym (get_or-append_seam k.nodes (new_lists (length k.nodes) parent) [] bare)) top_once)
+      let at : length k.nodes ≡ x = omega (arith, behind, lt, length-append k.nodes (new_lists (length k.nodes) origin ∷ [])) in
+      subst (λ (n : ℕ). IsOnce (lists_at (grown origin k) n).concepts) at
+      (subst (λ (n : Lists). IsOnce n.concepts) (sym (get_or-append_seam k.nodes (new_lists (length k.nodes) origin) [] bare)) top_once)
 ]
 
-made_once : (k : Kept) (from to : ℕ) → AreOnce k → AreOnce (made from to k)
-made_once k from to h = by (to == length k.nodes)
+made_once : (k : Kept) (origin : ℕ × ℕ) (to : ℕ) → AreOnce k → AreOnce (made origin to k)
+made_once k origin to h = by (to == length k.nodes)
   where
-    by : (b : Bool) → AreOnce (if b then grown from k else k)
-    by true = grown_once k from h
+    by : (b : Bool) → AreOnce (if b then grown origin k else k)
+    by true = grown_once k origin h
     by false = h
 
 joined_once : (k : Kept) (at high : ℕ) → AreOnce k → AreOnce (if at == high then k else linked high at k)
@@ -73,7 +73,7 @@ joined_once k at high h = by (at == high)
 
 after_once : (m : ℕ → ℕ) (f : Fact ℕ) (k : Kept) → AreOnce k → AreOnce (after m f k)
 after_once m (Has y c) k h = changed_once k (m y) (having c) (λ n once. once_with n.concepts c once) h
-after_once m (Edge r y z) k h = changed_once (made y z k) (m y) (leading r z) (λ n once. once) (made_once k y z h)
+after_once m (Edge r y z) k h = changed_once (made (r, y) z k) (m y) (leading r z) (λ n once. once) (made_once k (r, y) z h)
 after_once m (Apart y z) k h = changed_once k (m y) (parted z) (λ n once. once) h
 after_once m (Same y z) k h = joined_once k (min (m y) (m z)) (max (m y) (m z)) h
 

@@ -50,29 +50,29 @@ with_concepts_begins xs cs (d ∷ ds) h = with_concepts_begins xs (with_concept 
 -- ---- the lists of a node
 
 pub begins_itself : (n : Lists) → Begins n n
-begins_itself n = record { parent = refl; members = take-length n.members; concepts = take-length n.concepts; edges = take-length n.edges; aparts = take-length n.aparts }
+begins_itself n = record { origin = refl; members = take-length n.members; concepts = take-length n.concepts; edges = take-length n.edges; aparts = take-length n.aparts }
 
 pub begins_having : (n m : Lists) (c : ℕ) → Begins n m → Begins n (having c m)
-begins_having n m c b = record { parent = b.parent; members = b.members; concepts = with_concept_begins n.concepts m.concepts c b.concepts; edges = b.edges; aparts = b.aparts }
+begins_having n m c b = record { origin = b.origin; members = b.members; concepts = with_concept_begins n.concepts m.concepts c b.concepts; edges = b.edges; aparts = b.aparts }
 
 pub begins_putting : (n : Lists) (cs : List ℕ) → Begins n (putting cs n)
-begins_putting n cs = record { parent = refl; members = take-length n.members; concepts = with_concepts_begins n.concepts n.concepts cs (take-length n.concepts); edges = take-length n.edges; aparts = take-length n.aparts }
+begins_putting n cs = record { origin = refl; members = take-length n.members; concepts = with_concepts_begins n.concepts n.concepts cs (take-length n.concepts); edges = take-length n.edges; aparts = take-length n.aparts }
 
 pub begins_leading : (n : Lists) (r y : ℕ) → Begins n (leading r y n)
-begins_leading n r y = record { parent = refl; members = take-length n.members; concepts = take-length n.concepts; edges = take-append_seam n.edges ((r, y) ∷ []); aparts = take-length n.aparts }
+begins_leading n r y = record { origin = refl; members = take-length n.members; concepts = take-length n.concepts; edges = take-append_seam n.edges ((r, y) ∷ []); aparts = take-length n.aparts }
 
 pub begins_parted : (n : Lists) (y : ℕ) → Begins n (parted y n)
-begins_parted n y = record { parent = refl; members = take-length n.members; concepts = take-length n.concepts; edges = take-length n.edges; aparts = take-append_seam n.aparts (y ∷ []) }
+begins_parted n y = record { origin = refl; members = take-length n.members; concepts = take-length n.concepts; edges = take-length n.edges; aparts = take-append_seam n.aparts (y ∷ []) }
 
 pub begins_absorbing : (n m : Lists) → Begins n (absorbing m n)
-begins_absorbing n m = record { parent = refl; members = take-append_seam n.members m.members; concepts = with_concepts_begins n.concepts n.concepts m.concepts (take-length n.concepts); edges = take-append_seam n.edges m.edges; aparts = take-append_seam n.aparts m.aparts }
+begins_absorbing n m = record { origin = refl; members = take-append_seam n.members m.members; concepts = with_concepts_begins n.concepts n.concepts m.concepts (take-length n.concepts); edges = take-append_seam n.edges m.edges; aparts = take-append_seam n.aparts m.aparts }
 
 pub begins_edges : (n : Lists) (cs : List ℕ) (es : List (ℕ × ℕ)) → Begins n (record (putting cs n) { edges = n.edges ++ es })
-begins_edges n cs es = record { parent = refl; members = take-length n.members; concepts = with_concepts_begins n.concepts n.concepts cs (take-length n.concepts); edges = take-append_seam n.edges es; aparts = take-length n.aparts }
+begins_edges n cs es = record { origin = refl; members = take-length n.members; concepts = with_concepts_begins n.concepts n.concepts cs (take-length n.concepts); edges = take-append_seam n.edges es; aparts = take-length n.aparts }
 
 pub begins_aparts : (n : Lists) (cs : List ℕ) (es : List (ℕ × ℕ)) (us : List ℕ) → Begins n (record (record (putting cs n) { edges = n.edges ++ es }) { aparts = n.aparts ++ us })
 begins_aparts n cs es us = record {
-  parent = refl;
+  origin = refl;
   members = take-length n.members;
   concepts = with_concepts_begins n.concepts n.concepts cs (take-length n.concepts);
   edges = take-append_seam n.edges es;
@@ -81,7 +81,7 @@ begins_aparts n cs es us = record {
 
 -- what has grown is as it was when it is cut
 pub cut_begins : (n m : Lists) → Begins n m → cut_lists (length n.members) (length n.concepts) (length n.edges) (length n.aparts) m ≡ n
-cut_begins n m b = λ i. record { parent = b.parent i; members = b.members i; concepts = b.concepts i; edges = b.edges i; aparts = b.aparts i }
+cut_begins n m b = λ i. record { origin = b.origin i; members = b.members i; concepts = b.concepts i; edges = b.edges i; aparts = b.aparts i }
 
 -- ---- the loop of put_concepts
 

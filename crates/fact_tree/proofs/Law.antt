@@ -1,7 +1,7 @@
 -- What is kept of facts that speak of nodes: as many nodes as there are, and links to their representatives.
 use Rattle.std.proofs.Common.{◌≡◌, ℕ, zero, suc, ◌+◌, ◌<◌, ◌≤◌, min, max, Bool, true, false, List, [], ◌∷◌, ◌++◌, length, get_or, refl, ap, sym, subst, ◌∙◌, arith, inl, inr}
 use Rattle.std.specs.Prelude.{◌==◌, ◌&&◌, ◌||◌, nat_lt, if◌then◌else◌}
-use Rattle.std.proofs.lemmas.Bool.{cases_eq, cases_lt, eq-eqb, ne_eqb}
+use Rattle.std.proofs.lemmas.Bool.{cases_eq, cases_lt, eq-eqb, ne_eqb, eqb-true, lt-ltb, or_cases}
 use Rattle.std.proofs.lemmas.Bool.Decides.{nat_tests}
 use Rattle.std.proofs.lemmas.List.{length-set, length-append}
 use Rattle.fact_specs.specs.declared.Fact.{Fact}
@@ -11,16 +11,17 @@ use Rattle.fact_specs.specs.State.{node_count}
 use Rattle.fact_specs.proofs.Joined.{by_last, rep-snoc}
 use Rattle.fact_tree.specs.Kept.{Lists, Kept, new_lists, bare, having, leading, parted, absorbing, lists_at, grown, made, linked, at_of, high_of, after, kept_of}
 use Rattle.fact_tree.specs.Entries.{IsLinked, IsFit, AreFit, IsPlace, AreOrdered, is_in}
+use Rattle.fact_tree.specs.Told.{IsAlone}
 use Rattle.fact_tree.proofs.Linked.{kept_of-snoc, count_after, node_count-snoc, fit_before, fit_last, after_linked, member_links, high_stays}
 
 -- ---- how many nodes there are
 
-made_count : (k : Kept) (from to : ℕ) → to ≤ length k.nodes → length (made from to k).nodes ≡ max (to + 1) (length k.nodes)
-made_count k from to le = elim (cases_eq to (length k.nodes)) [
+made_count : (k : Kept) (origin : ℕ × ℕ) (to : ℕ) → to ≤ length k.nodes → length (made origin to k).nodes ≡ max (to + 1) (length k.nodes)
+made_count k origin to le = elim (cases_eq to (length k.nodes)) [
   | inl same ↦
-      ap (λ (b : Bool). length (if b then grown from k else k).nodes) (eq-eqb to (length k.nodes) same) ∙ length-append k.nodes (new_lists (length k.nodes) from ∷ [])
-      ∙ (let e : length k.nodes + length (new_lists (length k.nodes) from ∷ []) ≡ max (to + 1) (length k.nodes) = omega (arith, same) in e)
-  | inr other ↦ ap (λ (b : Bool). length (if b then grown from k else k).nodes) (ne_eqb to (length k.nodes) other) ∙ (let e : length k.nodes ≡ max (to + 1) (length k.nodes) = omega (arith, le, other) in e)
+      ap (λ (b : Bool). length (if b then grown origin k else k).nodes) (eq-eqb to (length k.nodes) same) ∙ length-append k.nodes (new_lists (length k.nodes) origin ∷ [])
+      ∙ (let e : length k.nodes + length (new_lists (length k.nodes) origin ∷ []) ≡ max (to + 1) (length k.nodes) = omega (arith, same) in e)
+  | inr other ↦ ap (λ (b : Bool). length (if b then grown origin k else k).nodes) (ne_eqb to (length k.nodes) other) ∙ (let e : length k.nodes ≡ max (to + 1) (length k.nodes) = omega (arith, le, other) in e)
 ]
 
 pub joined_count : (k : Kept) (at high : ℕ) → length (if at == high then k else linked high at k).nodes ≡ length k.nodes
@@ -32,7 +33,7 @@ joined_count k at high = by (at == high)
 
 after_count : (m : ℕ → ℕ) (k : Kept) (f : Fact ℕ) → IsFit (length k.nodes) f → length (after m f k).nodes ≡ count_after f (length k.nodes)
 after_count m k (Has y c) fit = length-set k.nodes (m y) (having c (lists_at k (m y)))
-after_count m k (Edge r y z) fit = length-set (made y z k).nodes (m y) (leading r z (lists_at (made y z k) (m y))) ∙ made_count k y z fit.1
+after_count m k (Edge r y z) fit = length-set (made (r, y) z k).nodes (m y) (leading r z (lists_at (made (r, y) z k) (m y))) ∙ made_count k (r, y) z fit.1
 after_count m k (Apart y z) fit = length-set k.nodes (m y) (parted z (lists_at k (m y)))
 after_count m k (Same y z) fit = joined_count k (min (m y) (m z)) (max (m y) (m z))
 
@@ -85,6 +86,27 @@ root_is fs k x at fit is linked beyond =
     elim (cases_lt x (length k.links)) [
       | inl lt ↦ linked lt ∙ ap (λ (j : Kept). get_or j.links x 0) is ∙ links.leads.each x 0 (omega (arith, lt, same))
       | inr ge ↦ beyond ge ∙ sym (links.beyond x (omega (arith, ge, same, links.equal)))
+    ]
+
+-- a representative that is its only member
+pub alone_is : (fs : List (Fact ℕ)) (x : ℕ) → AreFit fs → x < node_count fs → length (lists_at (kept_of fs) (rep fs x)).members ≡ 1 → IsAlone fs x
+alone_is fs x fit lt one y same =
+    let links = kept_linked fs fit in
+    let r = rep fs x in
+    let ms = (lists_at (kept_of fs) r).members in
+    let within : r < length (kept_of fs).nodes = omega (arith, lt, links.below x, count_is fs fit) in
+    elim (cases_lt y (length (kept_of fs).nodes)) [
+      | inl before ↦
+          only_one ms y r one (links.members r y within (links.twice x) ∙ (λ i. lt-ltb y (length (kept_of fs).nodes) before i && eq-eqb (rep fs y) r same i)) ∙ links.heads r 0 within
+      | inr behind ↦ sym (links.beyond y behind) ∙ same
+    ]
+  where
+    only_one : (ms : List ℕ) (y r : ℕ) → length ms ≡ 1 → is_in y ms ≡ true → y ≡ get_or ms 0 0
+    only_one [] y r one there = cc
+    only_one (v ∷ w ∷ ms) y r one there = absurd (omega (arith, one))
+    only_one (v ∷ []) y r one there = elim (or_cases (v == y) false there) [
+      | inl e ↦ sym (eqb-true v y e)
+      | inr e ↦ cc
     ]
 
 -- ---- the nodes of a fact

@@ -10,3 +10,5 @@ pub mod Reading
 pub mod Parents
 pub mod Distinct
 pub mod Fresh
+pub mod Printed
+pub mod Agreeing

@@ -161,14 +161,14 @@ changed_linked m k at change same h =
           ap (λ (ms : List ℕ). get_or ms 0 d) (members_changed k at change same r lt-old) ∙ h.heads r d lt-old;
     }
 
-grown_linked : (m : ℕ → ℕ) (k : Kept) (parent : ℕ) → IsLinked m k → IsLinked m (grown parent k)
-grown_linked m k parent h =
+grown_linked : (m : ℕ → ℕ) (k : Kept) (origin : ℕ × ℕ) → IsLinked m k → IsLinked m (grown origin k)
+grown_linked m k origin h =
     let n = length k.nodes in
-    let new = new_lists n parent in
+    let new = new_lists n origin in
     let len = length-append k.nodes (new ∷ []) in
-    let old = λ (r : ℕ) (before : r < n). (let e : lists_at (grown parent k) r ≡ lists_at k r = get_or-append k.nodes (new ∷ []) bare r before in e) in
+    let old = λ (r : ℕ) (before : r < n). (let e : lists_at (grown origin k) r ≡ lists_at k r = get_or-append k.nodes (new ∷ []) bare r before in e) in
     let last = λ (r : ℕ) (behind : n ≤ r) (lt : r < length (k.nodes ++ new ∷ [])). (let e : r ≡ n = omega (arith, behind, lt, len) in e) in
-    let at-last : lists_at (grown parent k) n ≡ new = get_or-append_seam k.nodes new [] bare in
+    let at-last : lists_at (grown origin k) n ≡ new = get_or-append_seam k.nodes new [] bare in
     record {
       equal = omega (arith, h.equal, len, length-append k.links (length k.links ∷ []));
       some = omega (arith, len);
@@ -182,7 +182,7 @@ grown_linked m k parent h =
             ∙ one_more n (length (k.nodes ++ new ∷ [])) x r (m x) (omega (arith, len)) before (λ e. h.beyond x (omega (arith, e)) ∙ e)
         | inr behind ↦
             let at = last r behind lt in
-            ap (λ (i : ℕ). is_in x (lists_at (grown parent k) i).members) at ∙ ap (λ (l : Lists). is_in x l.members) at-last
+            ap (λ (i : ℕ). is_in x (lists_at (grown origin k) i).members) at ∙ ap (λ (l : Lists). is_in x l.members) at-last
             ∙ one_new n (length (k.nodes ++ new ∷ [])) x (m x) (omega (arith, len)) (h.below x) (λ e. h.beyond x (omega (arith, e)) ∙ e)
             ∙ ap (λ (i : ℕ). is_one (length (k.nodes ++ new ∷ [])) x i (m x)) (sym at)
       ];
@@ -190,15 +190,15 @@ grown_linked m k parent h =
         | inl before ↦ ap (λ (l : Lists). get_or l.members 0 d) (old r before) ∙ h.heads r d before
         | inr behind ↦
             let at = last r behind lt in
-            ap (λ (i : ℕ). get_or (lists_at (grown parent k) i).members 0 d) at ∙ ap (λ (l : Lists). get_or l.members 0 d) at-last ∙ sym at
+            ap (λ (i : ℕ). get_or (lists_at (grown origin k) i).members 0 d) at ∙ ap (λ (l : Lists). get_or l.members 0 d) at-last ∙ sym at
       ];
     }
 
-made_linked : (m : ℕ → ℕ) (k : Kept) (from to : ℕ) → IsLinked m k → IsLinked m (made from to k)
-made_linked m k from to h = by (to == length k.nodes)
+made_linked : (m : ℕ → ℕ) (k : Kept) (origin : ℕ × ℕ) (to : ℕ) → IsLinked m k → IsLinked m (made origin to k)
+made_linked m k origin to h = by (to == length k.nodes)
   where
-    by : (b : Bool) → IsLinked m (if b then grown from k else k)
-    by true = grown_linked m k from h
+    by : (b : Bool) → IsLinked m (if b then grown origin k else k)
+    by true = grown_linked m k origin h
     by false = h
 
 -- two representatives become the lesser
@@ -326,6 +326,6 @@ module _ (m : ℕ → ℕ) (k : Kept) (y z : ℕ) (h : IsLinked m k) (y-in : y <
 
 pub after_linked : (m : ℕ → ℕ) (k : Kept) (f : Fact ℕ) → IsLinked m k → IsFit (length k.nodes) f → IsLinked (rep_after m f) (after m f k)
 after_linked m k (Has y c) h fit = changed_linked m k (m y) (having c) (λ n. refl) h
-after_linked m k (Edge r y z) h fit = changed_linked m (made y z k) (m y) (leading r z) (λ n. refl) (made_linked m k y z h)
+after_linked m k (Edge r y z) h fit = changed_linked m (made (r, y) z k) (m y) (leading r z) (λ n. refl) (made_linked m k (r, y) z h)
 after_linked m k (Apart y z) h fit = changed_linked m k (m y) (parted z) (λ n. refl) h
 after_linked m k (Same y z) h fit = same_linked m k y z h fit.0 fit.1

@@ -7,7 +7,7 @@ use Rattle.std.proofs.lemmas.List.{length-append}
 use Rattle.fact_specs.specs.declared.Fact.{Fact}
 use Rattle.fact_specs.specs.declared.Fact.TheVariants.{Has, Edge, Apart, Same}
 use Rattle.fact_specs.specs.Joins.{rep_after, rep}
-use Rattle.fact_specs.specs.State.{node_count, has_edge, are_apart, gives_concept, gives_edge, gives_apart}
+use Rattle.fact_specs.specs.State.{node_count, has, has_edge, are_apart, gives_concept, gives_edge, gives_apart}
 use Rattle.fact_specs.proofs.Joined.{by_last, rep-snoc}
 use Rattle.fact_tree.specs.Kept.{Lists, Kept, new_lists, bare, having, leading, parted, with_concept, with_concepts, lists_at, changed_at, grown, made, linked, after, kept_of}
 use Rattle.fact_tree.specs.Entries.{IsLinked, IsFit, AreFit}
@@ -109,27 +109,27 @@ nothing {P} get pick base picks m below = by_last {X = Fact ℕ} (λ fs. AreFit 
 
 -- ---- one fact more
 
-grown_told : (m : ℕ → ℕ) (fs : List (Fact ℕ)) (k : Kept) (from : ℕ) → IsLinked m k → AreFit fs → node_count fs ≡ length k.nodes → AllTold m fs k → AllTold m fs (grown from k)
-grown_told m fs k from ok fit count h =
+grown_told : (m : ℕ → ℕ) (fs : List (Fact ℕ)) (k : Kept) (origin : ℕ × ℕ) → IsLinked m k → AreFit fs → node_count fs ≡ length k.nodes → AllTold m fs k → AllTold m fs (grown origin k)
+grown_told m fs k origin ok fit count h =
     let le : node_count fs ≤ length k.nodes = omega (arith, count) in
     record {
-      concepts = told_grown (λ n. n.concepts) concept_of (0 ∷ []) m fs k from refl (nothing (λ n. n.concepts) concept_of (0 ∷ []) concept_fits m ok.below fs fit (length k.nodes) le) h.concepts;
-      edges = told_grown (λ n. n.edges) edge_of [] m fs k from refl (nothing (λ n. n.edges) edge_of [] edge_fits m ok.below fs fit (length k.nodes) le) h.edges;
-      aparts = told_grown (λ n. n.aparts) apart_of [] m fs k from refl (nothing (λ n. n.aparts) apart_of [] apart_fits m ok.below fs fit (length k.nodes) le) h.aparts;
+      concepts = told_grown (λ n. n.concepts) concept_of (0 ∷ []) m fs k origin refl (nothing (λ n. n.concepts) concept_of (0 ∷ []) concept_fits m ok.below fs fit (length k.nodes) le) h.concepts;
+      edges = told_grown (λ n. n.edges) edge_of [] m fs k origin refl (nothing (λ n. n.edges) edge_of [] edge_fits m ok.below fs fit (length k.nodes) le) h.edges;
+      aparts = told_grown (λ n. n.aparts) apart_of [] m fs k origin refl (nothing (λ n. n.aparts) apart_of [] apart_fits m ok.below fs fit (length k.nodes) le) h.aparts;
     }
 
-made_told : (m : ℕ → ℕ) (fs : List (Fact ℕ)) (k : Kept) (from to : ℕ) → IsLinked m k → AreFit fs → node_count fs ≡ length k.nodes → AllTold m fs k → AllTold m fs (made from to k)
-made_told m fs k from to ok fit count h = by (to == length k.nodes)
+made_told : (m : ℕ → ℕ) (fs : List (Fact ℕ)) (k : Kept) (origin : ℕ × ℕ) (to : ℕ) → IsLinked m k → AreFit fs → node_count fs ≡ length k.nodes → AllTold m fs k → AllTold m fs (made origin to k)
+made_told m fs k origin to ok fit count h = by (to == length k.nodes)
   where
-    by : (b : Bool) → AllTold m fs (if b then grown from k else k)
-    by true = grown_told m fs k from ok fit count h
+    by : (b : Bool) → AllTold m fs (if b then grown origin k else k)
+    by true = grown_told m fs k origin ok fit count h
     by false = h
 
-made_longer : (k : Kept) (from to : ℕ) → length k.nodes ≤ length (made from to k).nodes
-made_longer k from to = by (to == length k.nodes)
+made_longer : (k : Kept) (origin : ℕ × ℕ) (to : ℕ) → length k.nodes ≤ length (made origin to k).nodes
+made_longer k origin to = by (to == length k.nodes)
   where
-    by : (b : Bool) → length k.nodes ≤ length (if b then grown from k else k).nodes
-    by true = omega (arith, length-append k.nodes (new_lists (length k.nodes) from ∷ []))
+    by : (b : Bool) → length k.nodes ≤ length (if b then grown origin k else k).nodes
+    by true = omega (arith, length-append k.nodes (new_lists (length k.nodes) origin ∷ []))
     by false = omega arith
 
 has_told : (m : ℕ → ℕ) (fs : List (Fact ℕ)) (k : Kept) (y c : ℕ) → m y < length k.nodes → AllTold m fs k → AllTold m (fs ++ Has y c ∷ []) (changed_at (m y) (having c) k)
@@ -185,7 +185,7 @@ same_told m fs k y z ok ly lz h = elim (cases_eq (m y) (m z)) [
 after_told : (m : ℕ → ℕ) (fs : List (Fact ℕ)) (f : Fact ℕ) (k : Kept) → IsLinked m k → AreFit fs → node_count fs ≡ length k.nodes → IsFit (length k.nodes) f → AllTold m fs k → AllTold (rep_after m f) (fs ++ f ∷ []) (after m f k)
 after_told m fs (Has y c) k ok fits count fit h = has_told m fs k y c (omega (arith, ok.below y, fit)) h
 after_told m fs (Edge r y z) k ok fits count fit h =
-    edge_told m fs (made y z k) r y z (omega (arith, ok.below y, fit.0, made_longer k y z)) (made_told m fs k y z ok fits count h)
+    edge_told m fs (made (r, y) z k) r y z (omega (arith, ok.below y, fit.0, made_longer k (r, y) z)) (made_told m fs k (r, y) z ok fits count h)
 after_told m fs (Apart y z) k ok fits count fit h = apart_told m fs k y z (omega (arith, ok.below y, fit.0)) h
 after_told m fs (Same y z) k ok fits count fit h = same_told m fs k y z ok fit.0 fit.1 h
 
@@ -298,6 +298,9 @@ concept_nothing fs x kind fit le =
 pub label_beyond : (fs : List (Fact ℕ)) (x : ℕ) → AreFit fs → node_count fs ≤ x → IsLabel fs x (0 ∷ [])
 label_beyond fs x fit le c =
     or_false (0 == c) ∙ same_both_ways 0 c ∙ sym (or_false (c == 0)) ∙ ap (λ (b : Bool). c == 0 || b) (sym (concept_nothing fs x (λ d. d == c) fit le))
+
+pub has_beyond : (fs : List (Fact ℕ)) (x c : ℕ) → AreFit fs → node_count fs ≤ x → (c == 0) ≡ has fs x c
+has_beyond fs x c fit le = sym (or_false (c == 0)) ∙ ap (λ (b : Bool). c == 0 || b) (sym (concept_nothing fs x (λ d. d == c) fit le))
 
 edge_nothing : (fs : List (Fact ℕ)) (x y : ℕ) (roles : ℕ → Bool) → AreFit fs → node_count fs ≤ x → has_edge fs roles x y ≡ false
 edge_nothing fs x y roles fit le =

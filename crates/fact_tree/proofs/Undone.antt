@@ -75,29 +75,29 @@ unchanged_back k at high p =
     (no_members n n (take (length k.nodes) k.links) k.links refl (same_links k at high p))
 
 -- after a node more, and one that changed
-grown_changed : (k : Kept) (at high parent : ℕ) (change : Lists → Lists) → IsPlace at high k → ((n : Lists) → (change n).members ≡ n.members) → Begins (lists_at k at) (change (lists_at k at))
-    → Undoes (lengths_of at k) (changed_at at change (grown parent k)) k
-grown_changed k at high parent change p same begins =
-    let more = new_lists (length k.nodes) parent ∷ [] in
+grown_changed : (k : Kept) (at high : ℕ) (origin : ℕ × ℕ) (change : Lists → Lists) → IsPlace at high k → ((n : Lists) → (change n).members ≡ n.members) → Begins (lists_at k at) (change (lists_at k at))
+    → Undoes (lengths_of at k) (changed_at at change (grown origin k)) k
+grown_changed k at high origin change p same begins =
+    let more = new_lists (length k.nodes) origin ∷ [] in
     let old = lists_at k at in
-    let at-old : lists_at (grown parent k) at ≡ old = get_or-append k.nodes more bare at p.node_exists in
-    let whole : slice_set (k.nodes ++ more) at (change (lists_at (grown parent k) at)) ≡ slice_set k.nodes at (change old) ++ more =
+    let at-old : lists_at (grown origin k) at ≡ old = get_or-append k.nodes more bare at p.node_exists in
+    let whole : slice_set (k.nodes ++ more) at (change (lists_at (grown origin k) at)) ≡ slice_set k.nodes at (change old) ++ more =
     ap (λ (u : Lists). slice_set (k.nodes ++ more) at (change u)) at-old ∙ set-append_left k.nodes more at (change old) p.node_exists in
     let len = length-set k.nodes at (change old) in
     let all = length-append (slice_set k.nodes at (change old)) more in
     let cut : take (length k.nodes) (slice_set k.nodes at (change old) ++ more) ≡ slice_set k.nodes at (change old) =
     ap (λ (n : ℕ). take n (slice_set k.nodes at (change old) ++ more)) (sym len) ∙ take-append_seam (slice_set k.nodes at (change old)) more in
     let links : take (length k.nodes) (k.links ++ length k.links ∷ []) ≡ k.links = ap (λ (n : ℕ). take n (k.links ++ length k.links ∷ [])) (sym p.equal) ∙ take-append_seam k.links (length k.links ∷ []) in
-    leads k (changed_at at change (grown parent k)) at high (change old) p
+    leads k (changed_at at change (grown origin k)) at high (change old) p
     (omega (arith, ap length whole, all, len)) (omega (arith, p.equal, length-append k.links (length k.links ∷ [])))
     (ap (take (length k.nodes)) whole ∙ cut) begins (no_members old (change old) (take (length k.nodes) (k.links ++ length k.links ∷ [])) k.links (same old) links)
 
-made_changed : (k : Kept) (at high from to : ℕ) (change : Lists → Lists) → IsPlace at high k → ((n : Lists) → (change n).members ≡ n.members) → Begins (lists_at k at) (change (lists_at k at))
-    → Undoes (lengths_of at k) (changed_at at change (made from to k)) k
-made_changed k at high from to change p same begins = by (to == length k.nodes)
+made_changed : (k : Kept) (at high : ℕ) (origin : ℕ × ℕ) (to : ℕ) (change : Lists → Lists) → IsPlace at high k → ((n : Lists) → (change n).members ≡ n.members) → Begins (lists_at k at) (change (lists_at k at))
+    → Undoes (lengths_of at k) (changed_at at change (made origin to k)) k
+made_changed k at high origin to change p same begins = by (to == length k.nodes)
   where
-    by : (b : Bool) → Undoes (lengths_of at k) (changed_at at change (if b then grown from k else k)) k
-    by true = grown_changed k at high from change p same begins
+    by : (b : Bool) → Undoes (lengths_of at k) (changed_at at change (if b then grown origin k else k)) k
+    by true = grown_changed k at high origin change p same begins
     by false = changed k at high change p same begins
 
 linked_back : (k : Kept) (at high : ℕ) → IsPlace at high k → Undoes (lengths_of at k) (linked high at k) k
@@ -123,7 +123,7 @@ joined_back k at high p = by (at == high)
 
 pub after_back : (k : Kept) (at high : ℕ) (f : Fact ℕ) → IsPlace at high k → Undoes (lengths_of at k) (after_at at high f k) k
 after_back k at high (Has y c) p = changed k at high (having c) p (λ n. refl) (begins_having (lists_at k at) (lists_at k at) c (begins_itself (lists_at k at)))
-after_back k at high (Edge r y z) p = made_changed k at high y z (leading r z) p (λ n. refl) (begins_leading (lists_at k at) r z)
+after_back k at high (Edge r y z) p = made_changed k at high (r, y) z (leading r z) p (λ n. refl) (begins_leading (lists_at k at) r z)
 after_back k at high (Apart y z) p = changed k at high (parted z) p (λ n. refl) (begins_parted (lists_at k at) z)
 after_back k at high (Same y z) p = joined_back k at high p
 

@@ -8,7 +8,8 @@ use Rattle.fact_specs.specs.Joins.{rep_after}
 
 -- the lists of a node
 pub record Lists : Type 0 where
-  pub parent : ℕ
+  -- the role of the first edge into the node, and where that edge begins; no matter at node 0
+  pub origin : ℕ × ℕ
   pub members : List ℕ
   pub concepts : List ℕ
   pub edges : List (ℕ × ℕ)
@@ -20,8 +21,8 @@ pub record Kept : Type 0 where
 
 -- ---- one node
 
-abbrev pub new_lists : ℕ → ℕ → Lists
-new_lists node parent = record { parent = parent; members = node ∷ []; concepts = 0 ∷ []; edges = []; aparts = [] }
+abbrev pub new_lists : ℕ → (ℕ × ℕ) → Lists
+new_lists node origin = record { origin = origin; members = node ∷ []; concepts = 0 ∷ []; edges = []; aparts = [] }
 
 abbrev pub with_concept : List ℕ → ℕ → List ℕ
 with_concept cs c = if list_any (λ d. d == c) cs then cs else cs ++ c ∷ []
@@ -54,7 +55,7 @@ absorbing other n = record n {
 
 -- the later lists begin with the earlier ones
 pub record Begins (earlier later : Lists) : Type 0 where
-  pub parent : later.parent ≡ earlier.parent
+  pub origin : later.origin ≡ earlier.origin
   pub members : take (length earlier.members) later.members ≡ earlier.members
   pub concepts : take (length earlier.concepts) later.concepts ≡ earlier.concepts
   pub edges : take (length earlier.edges) later.edges ≡ earlier.edges
@@ -71,7 +72,7 @@ cut_lists members concepts edges aparts n = record n {
 -- ---- all nodes
 
 abbrev pub bare : Lists
-bare = new_lists 0 0
+bare = new_lists 0 (0, 0)
 
 abbrev pub lists_at : Kept → ℕ → Lists
 lists_at k x = get_or k.nodes x bare
@@ -80,8 +81,8 @@ abbrev pub changed_at : ℕ → (Lists → Lists) → Kept → Kept
 changed_at x change k = record { links = k.links; nodes = slice_set k.nodes x (change (lists_at k x)) }
 
 -- with a new node, a representative
-abbrev pub grown : ℕ → Kept → Kept
-grown parent k = record { links = k.links ++ length k.links ∷ []; nodes = k.nodes ++ new_lists (length k.nodes) parent ∷ [] }
+abbrev pub grown : (ℕ × ℕ) → Kept → Kept
+grown origin k = record { links = k.links ++ length k.links ∷ []; nodes = k.nodes ++ new_lists (length k.nodes) origin ∷ [] }
 
 -- the nodes, of which the lower of two has the lists of the higher put behind its own
 abbrev pub absorbed_at : ℕ → ℕ → List Lists → List Lists
@@ -97,8 +98,8 @@ abbrev pub linked : ℕ → ℕ → Kept → Kept
 linked high low k = record { links = set_each (lists_at k high).members low k.links; nodes = slice_set k.nodes low (absorbing (lists_at k high) (lists_at k low)) }
 
 -- an edge makes its end where that is the next number
-abbrev pub made : ℕ → ℕ → Kept → Kept
-made from to k = if to == length k.nodes then grown from k else k
+abbrev pub made : (ℕ × ℕ) → ℕ → Kept → Kept
+made origin to k = if to == length k.nodes then grown origin k else k
 
 -- the node whose lists a fact changes, where m leads each node to its representative
 abbrev pub at_of : (ℕ → ℕ) → Fact ℕ → ℕ
@@ -117,7 +118,7 @@ high_of m (Same y z) = max (m y) (m z)
 -- after one fact more, where these are the two nodes
 abbrev pub after_at : ℕ → ℕ → Fact ℕ → Kept → Kept
 after_at at high (Has y c) k = changed_at at (having c) k
-after_at at high (Edge r y z) k = changed_at at (leading r z) (made y z k)
+after_at at high (Edge r y z) k = changed_at at (leading r z) (made (r, y) z k)
 after_at at high (Apart y z) k = changed_at at (parted z) k
 after_at at high (Same y z) k = if at == high then k else linked high at k
 

@@ -2,3 +2,4 @@ pub mod Kept
 pub mod Short
 pub mod Entries
 pub mod Told
+pub mod Laws

@@ -1,9 +1,9 @@
 -- What a tree answers of nodes that are apart, and what it gains with new nodes.
-use Rattle.std.specs.Prelude.{◌≡◌, ℕ, ◌==◌, ◌&&◌, Bool, false, List, ◌++◌}
+use Rattle.std.specs.Prelude.{◌≡◌, ℕ, ◌<◌, ◌==◌, ◌&&◌, Bool, true, false, List, ◌++◌, length, get_or, Some}
 use Rattle.std.specs.List.{list_any}
 use Rattle.fact_specs.specs.declared.Fact.{Fact}
 use Rattle.fact_specs.specs.Joins.{rep}
-use Rattle.fact_specs.specs.State.{node_count, fresh_facts}
+use Rattle.fact_specs.specs.State.{node_count, parent, has_edge, gives_concept, gives_edge, gives_apart, fresh_facts}
 use Rattle.fact_specs.specs.declared.Fact.TheVariants.{Has, Edge, Apart, Same}
 
 -- whether the fact keeps a node with the representative a, which it names first, apart from one with the representative b
@@ -24,3 +24,26 @@ is_first_apart fs x y = list_any (gives_first (rep fs) (rep fs x) (rep fs y)) fs
 -- the facts with those of new nodes behind them, as many as `count`
 abbrev pub with_fresh : List (Fact ℕ) → ℕ → ℕ → ℕ → ℕ → List (Fact ℕ)
 with_fresh fs x s e count = fs ++ fresh_facts x s e (node_count fs) count
+
+-- an edge of the role leads to the node from its parent
+abbrev pub IsOrigin : List (Fact ℕ) → ℕ → (ℕ × ℕ) → Type 0
+IsOrigin fs x o = (has_edge fs (λ s. s == o.0) o.1 x ≡ true) × (parent fs x ≡ Some o.1)
+
+-- whether a fact alone says what is asked, where m leads each node to its representative; that two nodes are one is said by joins
+abbrev pub gives : (ℕ → ℕ) → Fact ℕ → Fact ℕ → Bool
+gives m (Has x c) f = gives_concept (λ d. d == c) m (m x) f
+gives m (Edge r x y) f = gives_edge (λ s. s == r) m (m x) (m y) f
+gives m (Apart x y) f = gives_apart m (m x) (m y) f
+gives m (Same x y) f = false
+
+-- the fact at a place of the list alone says what is asked
+abbrev pub IsGround : List (Fact ℕ) → Fact ℕ → ℕ → Type 0
+IsGround fs asked place = (place < length fs) × (gives (rep fs) asked (get_or fs place (Has 0 0)) ≡ true)
+
+-- no fact of the list alone says what is asked
+abbrev pub IsUngrounded : List (Fact ℕ) → Fact ℕ → Type 0
+IsUngrounded fs asked = list_any (gives (rep fs) asked) fs ≡ false
+
+-- no other node is one with the representative of x
+abbrev pub IsAlone : List (Fact ℕ) → ℕ → Type 0
+IsAlone fs x = (y : ℕ) → rep fs y ≡ rep fs x → y ≡ rep fs x

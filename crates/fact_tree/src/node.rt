@@ -1,10 +1,15 @@
 // What is kept of one node.
-ghost use Rattle.std.specs.Prelude.{◌≡◌, ◌++◌, ◌<◌, ◌^◌, length, drop, IfOk, OnOk, OnErr};
+ghost use Rattle.std.specs.Prelude.{◌≡◌, ◌++◌, ◌<◌, ◌^◌, ◌==◌, length, drop, IfOk, OnOk, OnErr};
+ghost use Rattle.std.specs.List.{list_any};
 ghost use Rattle.fact_tree.specs.Kept.{new_lists, putting, having, leading, parted, absorbing, cut_lists, Begins};
 
+use lane_sieve::{has_number, put_number};
 use shq_base::NoMemory;
 use std::alloc::Allocator;
 use std::marker::Model;
+
+// How many bits a print has.
+const BITS: u32 = 256;
 
 // No list is longer, so that lengths take 32 bits.
 const MOST: usize = u32::MAX as usize;
@@ -12,54 +17,75 @@ const MOST: usize = u32::MAX as usize;
 /// The lists of a node. Those of a representative are the lists of all nodes that are one with it.
 #[derive(Drop)]
 pub(crate) struct Node<A: Allocator> {
-    parent: u32,
+    // The role of the first edge into it, and where that edge begins; no matter at node 0.
+    origin: (u32, u32),
     // The nodes that are one with it, where it is a representative: itself first.
     members: Vec<u32, A>,
     concepts: Vec<u32, A>,
     edges: Vec<(u32, u32), A>,
     aparts: Vec<u32, A>,
+    // The bits of its concepts by their remainders, and maybe more: most concepts that it does not have are told by them.
+    print: [u64; 4],
+    // Where to look first for what says something of it: the places of the first edge into it, and, beside the lists, of
+    // what gave its concepts and its aparts. No answer rests on them: who looks there checks what stands there.
+    origin_place: u32,
+    concept_places: Vec<u32, A>,
+    apart_places: Vec<u32, A>,
 }
 
 impl<A: Allocator> Model for Node<A> {
     ghost use Rattle.fact_tree.specs.Kept.{Lists};
-    ghost use Rattle.fact_tree.specs.Short.{AreShort};
+    ghost use Rattle.fact_tree.specs.Short.{AreShort, ArePrinted};
 
     ghost Value = { Lists };
 
     ghost view = { λ n. record {
-      parent = n.parent;
+      origin = n.origin;
       members = n.members.items;
       concepts = n.concepts.items;
       edges = n.edges.items;
       aparts = n.aparts.items;
     } };
 
-    ghost invariant = { λ n. AreShort n.members.items n.concepts.items n.edges.items n.aparts.items };
+    ghost invariant = { λ n. AreShort n.members.items n.concepts.items n.edges.items n.aparts.items × ArePrinted n.concepts.items n.print };
 }
 
 impl<A: Allocator + Copy> Node<A> {
     /// A node that has top alone.
-    pub(crate) fn new_in(alloc: A, node: u32, parent: u32) -> Result<Node<A>, NoMemory>
-        ensures { IfOk result (λ n. n ≡ new_lists node parent) }
+    pub(crate) fn new_in(
+        alloc: A,
+        node: u32,
+        origin: (u32, u32),
+        place: u32,
+    ) -> Result<Node<A>, NoMemory>
+        ensures { IfOk result (λ n. n ≡ new_lists node origin) }
     {
         let mut members = Vec::new(alloc);
         members.push(node)?;
         let mut concepts = Vec::new(alloc);
         concepts.push(0)?;
+        let mut print = [0; 4];
+        put_number(&mut print, 0);
+        let mut concept_places = Vec::new(alloc);
+        concept_places.push(place)?;
         Ok(Node {
-            parent,
+            origin,
             members,
             concepts,
             edges: Vec::new(alloc),
             aparts: Vec::new(alloc),
+            print,
+            origin_place: place,
+            concept_places,
+            apart_places: Vec::new(alloc),
         })
     }
 
-    /// The node from which the first edge leads to it; no matter at node 0.
-    pub(crate) fn parent(&self) -> u32
-        ensures { result ≡ self.now.parent }
+    /// The role of the first edge into it, and where that edge begins; no matter at node 0.
+    pub(crate) fn origin(&self) -> (u32, u32)
+        ensures { result ≡ self.now.origin }
     {
-        self.parent
+        self.origin
     }
 
     /// The nodes that are one with it, itself first.
@@ -116,17 +142,47 @@ impl<A: Allocator + Copy> Node<A> {
         self.aparts.as_slice()
     }
 
-    /// Puts a concept last, unless it is there.
-    pub(crate) fn put_concept(&mut self, concept: u32) -> Result<(), NoMemory>
+    /// Whether a concept is among its own.
+    pub(crate) fn has(&self, concept: u32) -> bool
+        ensures { result ≡ list_any (λ d. d == concept) self.now.concepts }
+    {
+        if !has_number(&self.print, concept % BITS) {
+            return false;
+        }
+        self.concepts.contains(&concept)
+    }
+
+    /// Where to look first for the edge that leads to it from its parent.
+    pub(crate) fn origin_place(&self) -> u32 {
+        self.origin_place
+    }
+
+    /// Where to look first for what gave it a concept.
+    pub(crate) fn concept_place(&self, concept: u32) -> u32 {
+        match self.concepts.iter().position(|other| *other == concept) {
+            Some(index) => place_at(self.concept_places.as_slice(), index),
+            None => u32::MAX,
+        }
+    }
+
+    /// Where to look first for what keeps it apart from the node at an index of its aparts.
+    pub(crate) fn apart_place(&self, index: usize) -> u32 {
+        place_at(self.apart_places.as_slice(), index)
+    }
+
+    /// Puts a concept last, unless it is there. What gives it stands at a place.
+    pub(crate) fn put_concept(&mut self, concept: u32, place: u32) -> Result<(), NoMemory>
         ensures put { OnOk result (self.new ≡ having concept self.old) }
         ensures unchanged { OnErr result (self.new ≡ self.old) }
     {
-        if self.concepts.contains(&concept) {
+        if self.has(concept) {
             return Ok(());
         }
         if self.concepts.len() >= MOST {
             return Err(NoMemory);
         }
+        self.concept_places.push(place)?;
+        put_number(&mut self.print, concept % BITS);
         self.concepts.push(concept)?;
         Ok(())
     }
@@ -143,14 +199,15 @@ impl<A: Allocator + Copy> Node<A> {
         Ok(())
     }
 
-    /// Puts a node that it is apart from last.
-    pub(crate) fn put_apart(&mut self, other: u32) -> Result<(), NoMemory>
+    /// Puts a node that it is apart from last. What keeps them apart stands at a place.
+    pub(crate) fn put_apart(&mut self, other: u32, place: u32) -> Result<(), NoMemory>
         ensures put { OnOk result (self.new ≡ parted other self.old) }
         ensures unchanged { OnErr result (self.new ≡ self.old) }
     {
         if self.aparts.len() >= MOST {
             return Err(NoMemory);
         }
+        self.apart_places.push(place)?;
         self.aparts.push(other)?;
         Ok(())
     }
@@ -161,19 +218,19 @@ impl<A: Allocator + Copy> Node<A> {
         ensures begins { OnErr result (Begins self.old self.new) }
         ensures members { OnErr result (self.new.members ≡ self.old.members) }
     {
-        self.put_concepts(other.concepts())?;
+        self.put_concepts(other.concepts(), other.concept_places.as_slice())?;
         self.put_edges(other.edges())?;
-        self.put_aparts(other.aparts())?;
+        self.put_aparts(other.aparts(), other.apart_places.as_slice())?;
         self.put_members(other.members())
     }
 
-    fn put_concepts(&mut self, concepts: &[u32]) -> Result<(), NoMemory>
+    fn put_concepts(&mut self, concepts: &[u32], places: &[u32]) -> Result<(), NoMemory>
         ensures put { OnOk result (self.new ≡ putting concepts.now self.old) }
         ensures begins { OnErr result (Begins self.old self.new) }
         ensures members { self.new.members ≡ self.old.members }
     {
-        for concept in concepts {
-            self.put_concept(*concept)?;
+        for (index, concept) in concepts.iter().enumerate() {
+            self.put_concept(*concept, place_at(places, index))?;
         }
         Ok(())
     }
@@ -189,13 +246,14 @@ impl<A: Allocator + Copy> Node<A> {
         Ok(())
     }
 
-    fn put_aparts(&mut self, aparts: &[u32]) -> Result<(), NoMemory>
+    fn put_aparts(&mut self, aparts: &[u32], places: &[u32]) -> Result<(), NoMemory>
         ensures put { OnOk result (self.new ≡ record self.old { aparts = self.old.aparts ++ aparts.now }) }
         ensures unchanged { OnErr result (self.new ≡ self.old) }
     {
         if self.aparts.len() + aparts.len() > MOST {
             return Err(NoMemory);
         }
+        self.apart_places.extend_from_slice(places)?;
         self.aparts.extend_from_slice(aparts)?;
         Ok(())
     }
@@ -219,5 +277,15 @@ impl<A: Allocator + Copy> Node<A> {
         self.concepts.truncate(concepts as usize);
         self.edges.truncate(edges as usize);
         self.aparts.truncate(aparts as usize);
+        self.concept_places.truncate(concepts as usize);
+        self.apart_places.truncate(aparts as usize);
+    }
+}
+
+// The number at an index, or the greatest where there is none.
+fn place_at(places: &[u32], index: usize) -> u32 {
+    match places.get(index) {
+        Some(place) => *place,
+        None => u32::MAX,
     }
 }

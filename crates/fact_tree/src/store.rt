@@ -1,6 +1,6 @@
 // What is kept of all nodes, and how it is undone.
 ghost use Rattle.std.specs.Prelude.{◌≡◌, ℕ, ◌+◌, ◌^◌, ◌<◌, ◌≤◌, ◌==◌, length, OnOk, OnErr, IfOk, [], ◌∷◌, if◌then◌else◌, slice_set, get_or};
-ghost use Rattle.fact_tree.specs.Kept.{absorbed_at, lists_at, changed_at, having, leading, parted, made, grown, linked, absorbing, bare, after_at, empty, set_each};
+ghost use Rattle.fact_tree.specs.Kept.{absorbed_at, lists_at, changed_at, having, leading, parted, made, grown, linked, absorbing, bare, after_at, empty, set_each, cut_lists};
 ghost use Rattle.fact_tree.specs.Entries.{lengths_of, undone, relinked, Undoes, IsPlace, AreOrdered, AreLonger, IsLonger, HasMore};
 
 use crate::node::Node;
@@ -53,7 +53,7 @@ impl<A: Allocator + Copy> Store<A> {
         let mut links = Vec::new(alloc);
         links.push(0)?;
         let mut nodes = Vec::new(alloc);
-        nodes.push(Node::new_in(alloc, 0, 0)?)?;
+        nodes.push(Node::new_in(alloc, 0, (0, 0), u32::MAX)?)?;
         Ok(Store {
             alloc,
             links,
@@ -88,6 +88,14 @@ impl<A: Allocator + Copy> Store<A> {
         &self.nodes[node as usize]
     }
 
+    /// Where to look first for the first edge into a node.
+    pub(crate) fn origin_place(&self, node: u32) -> u32 {
+        match self.nodes.get(node as usize) {
+            Some(node) => node.origin_place(),
+            None => u32::MAX,
+        }
+    }
+
     /// How much is kept, before a fact that concerns these nodes.
     pub(crate) fn lengths(&self, node: u32) -> Lengths
         requires { node < length self.now.nodes }
@@ -113,22 +121,17 @@ impl<A: Allocator + Copy> Store<A> {
     {
         self.links.truncate(lengths.nodes as usize);
         self.nodes.truncate(lengths.nodes as usize);
-        let node = &mut self.nodes[lengths.node as usize];
-        relink(&mut self.links, node.later_members(lengths.members));
-        node.cut(
-            lengths.members,
-            lengths.concepts,
-            lengths.edges,
-            lengths.aparts,
-        );
+        let members = self.nodes[lengths.node as usize].later_members(lengths.members);
+        relink_in(&mut self.links, members);
+        cut_in(&mut self.nodes, lengths);
     }
 
-    fn put_concept(&mut self, at: u32, concept: u32) -> Result<(), NoMemory>
+    fn put_concept(&mut self, at: u32, concept: u32, place: u32) -> Result<(), NoMemory>
         requires { at < length self.old.nodes }
         ensures put { OnOk result (self.new ≡ changed_at at (having concept) self.old) }
         ensures unchanged { OnErr result (self.new ≡ self.old) }
     {
-        self.nodes[at as usize].put_concept(concept)
+        self.nodes[at as usize].put_concept(concept, place)
     }
 
     fn put_edge(&mut self, at: u32, role: u32, end: u32) -> Result<(), NoMemory>
@@ -139,49 +142,62 @@ impl<A: Allocator + Copy> Store<A> {
         self.nodes[at as usize].put_edge(role, end)
     }
 
-    fn put_apart(&mut self, at: u32, other: u32) -> Result<(), NoMemory>
+    fn put_apart(&mut self, at: u32, other: u32, place: u32) -> Result<(), NoMemory>
         requires { at < length self.old.nodes }
         ensures put { OnOk result (self.new ≡ changed_at at (parted other) self.old) }
         ensures unchanged { OnErr result (self.new ≡ self.old) }
     {
-        self.nodes[at as usize].put_apart(other)
+        self.nodes[at as usize].put_apart(other, place)
     }
 
-    /// Keeps one fact more, at these two nodes.
+    /// Keeps one fact more, which stands at a place, at these two nodes.
     ///
     /// # Errors
     ///
     /// Want of memory. What was kept is kept, and `undo` leads back to it.
-    pub(crate) fn put(&mut self, fact: &Fact<u32>, at: u32, high: u32) -> Result<(), NoMemory>
+    pub(crate) fn put(
+        &mut self,
+        fact: &Fact<u32>,
+        at: u32,
+        high: u32,
+        place: u32,
+    ) -> Result<(), NoMemory>
         requires place { IsPlace at high self.old }
         requires ordered { AreOrdered at high fact.now }
         ensures put { OnOk result (self.new ≡ after_at at high fact.now self.old) }
         ensures back { OnErr result (Undoes (lengths_of at self.old) self.new self.old) }
     {
         match *fact {
-            Fact::Has(_, concept) => self.put_concept(at, concept),
-            Fact::Edge(role, from, to) => self.put_made(at, role, from, to),
-            Fact::Apart(_, other) => self.put_apart(at, other),
+            Fact::Has(_, concept) => self.put_concept(at, concept, place),
+            Fact::Edge(role, from, to) => self.put_made(at, role, from, to, place),
+            Fact::Apart(_, other) => self.put_apart(at, other, place),
             Fact::Same(_, _) => self.join_two(high, at),
         }
     }
 
     // Makes the edge's end too, where that is the next number.
-    fn put_made(&mut self, at: u32, role: u32, from: u32, to: u32) -> Result<(), NoMemory>
+    fn put_made(
+        &mut self,
+        at: u32,
+        role: u32,
+        from: u32,
+        to: u32,
+        place: u32,
+    ) -> Result<(), NoMemory>
         requires { at < length self.old.nodes }
-        ensures put { OnOk result (self.new ≡ changed_at at (leading role to) (made from to self.old)) }
+        ensures put { OnOk result (self.new ≡ changed_at at (leading role to) (made (role, from) to self.old)) }
         ensures begins { OnErr result (HasMore self.old self.new) }
     {
-        self.make(from, to)?;
+        self.make((role, from), to, place)?;
         self.put_edge(at, role, to)
     }
 
-    fn make(&mut self, from: u32, to: u32) -> Result<(), NoMemory>
-        ensures put { OnOk result (self.new ≡ made from to self.old) }
+    fn make(&mut self, origin: (u32, u32), to: u32, place: u32) -> Result<(), NoMemory>
+        ensures put { OnOk result (self.new ≡ made origin to self.old) }
         ensures begins { OnErr result (HasMore self.old self.new) }
     {
         if to as usize == self.nodes.len() {
-            return self.grow(from);
+            return self.grow(origin, place);
         }
         Ok(())
     }
@@ -200,15 +216,15 @@ impl<A: Allocator + Copy> Store<A> {
     }
 
     /// Makes a node, which is a representative.
-    fn grow(&mut self, parent: u32) -> Result<(), NoMemory>
-        ensures put { OnOk result (self.new ≡ grown parent self.old) }
+    fn grow(&mut self, origin: (u32, u32), place: u32) -> Result<(), NoMemory>
+        ensures put { OnOk result (self.new ≡ grown origin self.old) }
         ensures begins { OnErr result (HasMore self.old self.new) }
     {
         if self.nodes.len() >= MOST_NODES || self.links.len() >= MOST_NODES {
             return Err(NoMemory);
         }
-        let node = Node::new_in(self.alloc, self.nodes.len() as u32, parent)?;
         self.links.push(self.links.len() as u32)?;
+        let node = Node::new_in(self.alloc, self.nodes.len() as u32, origin, place)?;
         self.nodes.push(node)?;
         Ok(())
     }
@@ -221,10 +237,48 @@ impl<A: Allocator + Copy> Store<A> {
         ensures put { OnOk result (self.new ≡ linked high low self.old) }
         ensures begins { OnErr result (IsLonger low self.old self.new) }
     {
-        absorb_at(self.nodes.as_mut_slice(), high, low)?;
-        link_each(&mut self.links, self.nodes[high as usize].members(), low);
+        absorb_in(&mut self.nodes, high, low)?;
+        link_in(&mut self.links, self.nodes[high as usize].members(), low);
         Ok(())
     }
+}
+
+fn absorb_in<A: Allocator + Copy>(
+    nodes: &mut Vec<Node<A>, A>,
+    high: u32,
+    low: u32,
+) -> Result<(), NoMemory>
+    requires falls { low < high }
+    requires exists { high < length nodes.old.items }
+    ensures put { OnOk result (nodes.new.items ≡ absorbed_at high low nodes.old.items) }
+    ensures begins { OnErr result (AreLonger low nodes.old.items nodes.new.items) }
+{
+    absorb_at(nodes.as_mut_slice(), high, low)
+}
+
+fn relink_in<A: Allocator>(links: &mut Vec<u32, A>, nodes: &[u32])
+    ensures { links.new.items ≡ relinked nodes.now links.old.items }
+{
+    relink(links.as_mut_slice(), nodes);
+}
+
+// Shortens the lists of a node.
+fn cut_in<A: Allocator + Copy>(nodes: &mut Vec<Node<A>, A>, lengths: Lengths)
+    requires { lengths.node < length nodes.old.items }
+    ensures { nodes.new.items ≡ slice_set nodes.old.items lengths.node (cut_lists lengths.members lengths.concepts lengths.edges lengths.aparts (get_or nodes.old.items lengths.node bare)) }
+{
+    nodes[lengths.node as usize].cut(
+        lengths.members,
+        lengths.concepts,
+        lengths.edges,
+        lengths.aparts,
+    );
+}
+
+fn link_in<A: Allocator>(links: &mut Vec<u32, A>, nodes: &[u32], to: u32)
+    ensures { links.new.items ≡ set_each nodes.now to links.old.items }
+{
+    link_each(links.as_mut_slice(), nodes, to);
 }
 
 fn absorb_at<A: Allocator + Copy>(

@@ -1,12 +1,12 @@
 // Facts, and what they say.
-ghost use Rattle.std.specs.Prelude.{◌≡◌, ℕ, ◌+◌, ◌-◌, ◌<◌, ◌≤◌, ◌^◌, [], ◌∷◌, ◌++◌, OnOk, OnErr, IfOk, length, take, slice_get, Some};
+ghost use Rattle.std.specs.Prelude.{◌≡◌, ℕ, ◌==◌, true, false, get_or, ◌+◌, ◌-◌, ◌<◌, ◌≤◌, ◌^◌, [], ◌∷◌, ◌++◌, OnOk, OnErr, IfOk, length, take, slice_get, Some, IsNone, IfSome};
 ghost use Rattle.fact_specs.specs.Joins.{rep};
-ghost use Rattle.fact_specs.specs.State.{node_count, has, are_apart, parent as parent_of, new_nodes, apart_from, pairwise_apart, fresh_facts};
+ghost use Rattle.fact_specs.specs.State.{node_count, has, are_apart, gives_concept, gives_edge, gives_apart, parent as parent_of, new_nodes, apart_from, pairwise_apart, fresh_facts, HasParentsBefore};
 ghost use Rattle.fact_specs.specs.declared.Fact.TheVariants.{Has, Edge};
 ghost use Rattle.fact_tree.specs.Kept.{Kept, kept_of, after_at, at_of, high_of};
 ghost use Rattle.fact_tree.specs.Entries.{IsFit, IsPlace, AreOrdered, Undoes, Leads, lengths_of};
 ghost use Rattle.fact_specs.specs.Listed.{IsLabel, IsOnce, AreEdges};
-ghost use Rattle.fact_tree.specs.Told.{with_fresh, AreAparts, is_first_apart};
+ghost use Rattle.fact_tree.specs.Told.{with_fresh, AreAparts, is_first_apart, IsOrigin, gives, IsGround, IsUngrounded, IsAlone};
 
 use crate::node::Node;
 use crate::store::{Lengths, Store};
@@ -75,6 +75,7 @@ impl<A: Allocator + Copy> FactTree<A> {
     /// How many nodes there are.
     pub fn nodes(&self) -> u32
         ensures count { result ≡ node_count self.now }
+        ensures parents { HasParentsBefore self.now }
         ensures small { result + 200 < 2 ^ 32 }
     {
         let _ = &self.entries;
@@ -93,6 +94,7 @@ impl<A: Allocator + Copy> FactTree<A> {
     pub fn label(&self, node: u32) -> &[u32]
         ensures held { IsLabel self.now node result.now }
         ensures once { IsOnce result.now }
+        ensures beyond { node_count self.now ≤ node → result.now ≡ 0 ∷ [] }
     {
         let _ = &self.entries;
         if node >= self.nodes() {
@@ -116,7 +118,11 @@ impl<A: Allocator + Copy> FactTree<A> {
     pub fn has(&self, node: u32, concept: u32) -> bool
         ensures { result ≡ has self.now node concept }
     {
-        self.label(node).contains(&concept)
+        let _ = &self.entries;
+        if node >= self.nodes() {
+            return concept == 0;
+        }
+        self.lists(node).has(concept)
     }
 
     /// The parent of a node, which node 0 does not have.
@@ -128,7 +134,21 @@ impl<A: Allocator + Copy> FactTree<A> {
         if node == 0 {
             return None;
         }
-        Some(self.store.node(node).parent())
+        let (_, parent) = self.store.node(node).origin();
+        Some(parent)
+    }
+
+    /// The first edge into a node: its role, and the node where it begins. Node 0 has none.
+    pub fn origin(&self, node: u32) -> Option<(u32, u32)>
+        requires { node < node_count self.now }
+        ensures none { IsNone result → node ≡ 0 }
+        ensures some { IfSome result (IsOrigin self.now node) }
+    {
+        let _ = &self.entries;
+        if node == 0 {
+            return None;
+        }
+        Some(self.store.node(node).origin())
     }
 
     // The lists of a node's representative.
@@ -164,6 +184,110 @@ impl<A: Allocator + Copy> FactTree<A> {
             is_met = is_met || self.representative(*other) == root;
         }
         is_met
+    }
+
+    /// Whether no other node is one with a node's representative. It may not tell.
+    pub fn is_alone(&self, node: u32) -> bool
+        ensures { result ≡ true → IsAlone self.now node }
+    {
+        let _ = &self.entries;
+        if node >= self.nodes() {
+            return false;
+        }
+        self.store.node(self.store.root(node)).members().len() == 1
+    }
+
+    /// The place of a fact that alone says what is asked; none where there is none. That two nodes are one is said by no fact
+    /// alone.
+    pub fn ground(&self, asked: Fact<u32>) -> Option<usize>
+        ensures some { IfSome result (IsGround self.now asked) }
+        ensures none { IsNone result → IsUngrounded self.now asked }
+    {
+        let place = self.likely_place(asked);
+        if self.is_ground(asked, place) {
+            return Some(place);
+        }
+        self.first_ground(asked)
+    }
+
+    // The first place of such a fact, looked for among all facts.
+    fn first_ground(&self, asked: Fact<u32>) -> Option<usize>
+        ensures some { IfSome result (IsGround self.now asked) }
+        ensures none { IsNone result → IsUngrounded self.now asked }
+    {
+        for place in 0..self.len() {
+            if self.is_ground(asked, place) {
+                return Some(place);
+            }
+        }
+        None
+    }
+
+    // Whether the fact at a place says what is asked.
+    fn is_ground(&self, asked: Fact<u32>, place: usize) -> bool
+        ensures beyond { length self.now ≤ place → result ≡ false }
+        ensures inside { place < length self.now → result ≡ gives (rep self.now) asked (get_or self.now place (Has 0 0)) }
+    {
+        if place >= self.len() {
+            return false;
+        }
+        says(self, asked, self.fact(place))
+    }
+
+    // Where to look first for a fact that says what is asked. Who looks there checks what stands there.
+    fn likely_place(&self, asked: Fact<u32>) -> usize {
+        match asked {
+            Fact::Has(node, concept) => self.likely_concept(node, concept),
+            Fact::Edge(_, _, to) => self.likely_edge(asked, to),
+            Fact::Apart(first, second) => self.likely_apart(first, second),
+            Fact::Same(_, _) => usize::MAX,
+        }
+    }
+
+    fn likely_concept(&self, node: u32, concept: u32) -> usize {
+        if node >= self.nodes() {
+            return usize::MAX;
+        }
+        self.lists(node).concept_place(concept) as usize
+    }
+
+    // Most edges are the first ones into their ends.
+    fn likely_edge(&self, asked: Fact<u32>, to: u32) -> usize {
+        if to >= self.nodes() {
+            return usize::MAX;
+        }
+        for end in self.lists(to).members() {
+            let place = self.store.origin_place(*end) as usize;
+            if self.is_ground(asked, place) {
+                return place;
+            }
+        }
+        usize::MAX
+    }
+
+    fn likely_apart(&self, first: u32, second: u32) -> usize {
+        if first >= self.nodes() || second >= self.nodes() {
+            return usize::MAX;
+        }
+        let place = self.likely_first_apart(first, second);
+        if place < self.len() {
+            return place;
+        }
+        self.likely_first_apart(second, first)
+    }
+
+    // Where to look first for a fact that keeps two nodes apart and names the first of them first.
+    fn likely_first_apart(&self, first: u32, second: u32) -> usize
+        requires { first < node_count self.now }
+    {
+        let root = self.representative(second);
+        let lists = self.lists(first);
+        for (index, other) in lists.aparts().iter().enumerate() {
+            if self.representative(*other) == root {
+                return lists.apart_place(index) as usize;
+            }
+        }
+        usize::MAX
     }
 
     /// Knows one fact more.
@@ -326,6 +450,78 @@ fn places<A: Allocator + Copy>(store: &Store<A>, fact: Fact<u32>) -> (u32, u32)
     }
 }
 
+fn says<A: Allocator + Copy>(facts: &FactTree<A>, asked: Fact<u32>, stated: Fact<u32>) -> bool
+    ensures { result ≡ gives (rep facts.now) asked stated }
+{
+    match asked {
+        Fact::Has(node, concept) => says_has(facts, node, concept, stated),
+        Fact::Edge(role, from, to) => says_edge(facts, role, from, to, stated),
+        Fact::Apart(first, second) => says_apart(facts, first, second, stated),
+        Fact::Same(_, _) => false,
+    }
+}
+
+fn says_has<A: Allocator + Copy>(
+    facts: &FactTree<A>,
+    node: u32,
+    concept: u32,
+    stated: Fact<u32>,
+) -> bool
+    ensures { result ≡ gives_concept (λ d. d == concept) (rep facts.now) (rep facts.now node) stated }
+{
+    match stated {
+        Fact::Has(other, given) => are_one(facts, other, node) && given == concept,
+        Fact::Edge(_, _, _) => false,
+        Fact::Apart(_, _) => false,
+        Fact::Same(_, _) => false,
+    }
+}
+
+fn says_edge<A: Allocator + Copy>(
+    facts: &FactTree<A>,
+    role: u32,
+    from: u32,
+    to: u32,
+    stated: Fact<u32>,
+) -> bool
+    ensures { result ≡ gives_edge (λ s. s == role) (rep facts.now) (rep facts.now from) (rep facts.now to) stated }
+{
+    match stated {
+        Fact::Edge(given, begin, end) => {
+            given == role && are_one(facts, begin, from) && are_one(facts, end, to)
+        }
+        Fact::Has(_, _) => false,
+        Fact::Apart(_, _) => false,
+        Fact::Same(_, _) => false,
+    }
+}
+
+fn says_apart<A: Allocator + Copy>(
+    facts: &FactTree<A>,
+    first: u32,
+    second: u32,
+    stated: Fact<u32>,
+) -> bool
+    ensures { result ≡ gives_apart (rep facts.now) (rep facts.now first) (rep facts.now second) stated }
+{
+    match stated {
+        Fact::Apart(one, other) => {
+            are_one(facts, one, first) && are_one(facts, other, second)
+                || are_one(facts, one, second) && are_one(facts, other, first)
+        }
+        Fact::Has(_, _) => false,
+        Fact::Edge(_, _, _) => false,
+        Fact::Same(_, _) => false,
+    }
+}
+
+// Whether two nodes are one.
+fn are_one<A: Allocator + Copy>(facts: &FactTree<A>, first: u32, second: u32) -> bool
+    ensures { result ≡ (rep facts.now first == rep facts.now second) }
+{
+    facts.representative(first) == facts.representative(second)
+}
+
 // Keeps one entry more.
 fn put<A: Allocator + Copy>(
     store: &mut Store<A>,
@@ -341,7 +537,9 @@ fn put<A: Allocator + Copy>(
     ensures back { OnErr result (Undoes entry.lengths store.new store.old) }
     ensures unchanged { OnErr result (entries.new.items ≡ entries.old.items) }
 {
-    store.put(&entry.fact, entry.lengths.node, high)?;
+    // Where the entry will stand: past the greatest number no one looks.
+    let place = entries.len().min(u32::MAX as usize) as u32;
+    store.put(&entry.fact, entry.lengths.node, high, place)?;
     entries.push(entry)?;
     Ok(())
 }

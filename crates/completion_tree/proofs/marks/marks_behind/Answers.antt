@@ -2,15 +2,29 @@ use Rattle.std.proofs.Common.{◌≡◌, ℕ, true, List, sym, ap, subst, ◌∙
 use Rattle.std.specs.FinSet as set
 use Rattle.fact_specs.specs.declared.Fact.{Fact}
 use Rattle.fact_specs.specs.Joins.{rep}
-use Rattle.completion_tree.specs.Trail.{facts_in}
 use Rattle.fact_specs.specs.State.{is_so}
-use Rattle.completion_tree.specs.Marks.{facts_within, gives, first_node, second_node, is_join, AreWithin, SomeWithin}
-use Rattle.completion_tree.proofs.Resting.{if_ok_both, some-more, holds-within}
+use Rattle.fact_tree.specs.Told.{gives}
+use Rattle.completion_tree.specs.Trail.{facts_in}
+use Rattle.completion_tree.specs.Marks.{facts_within, first_node, second_node, is_join, AreWithin, SomeWithin}
+use Rattle.completion_tree.proofs.Resting.{if_ok_both, some-more, holds-within, top-within, rep_stays}
 use Rattle.completion_tree.proofs.marks.marks_behind.Goals as goal
+
+pub returns-then-is_top : goal.returns-then-is_top
+returns-then-is_top g c = top-within _ c.args.trail.now c.args.asked (sym c.is_top.ensures ∙ c.if-is_top.true)
+
+pub with_joins-requires-clause-first : goal.with_joins-requires-clause-first
+with_joins-requires-clause-first g c =
+    let fs = c.args.facts.now in
+    ap (rep fs) c.ends-first.ensures.first ∙ rep_stays fs (first_node c.args.asked) ∙ sym c.ends-first.ensures.first
+
+pub with_joins-requires-clause-second : goal.with_joins-requires-clause-second
+with_joins-requires-clause-second g c =
+    let fs = c.args.facts.now in
+    ap (rep fs) c.ends-first.ensures.second ∙ rep_stays fs (second_node c.args.asked) ∙ sym c.ends-first.ensures.second
 
 pub returns : goal.returns
 returns g c =
-    let es = c.args.entries.now in
+    let es = c.args.trail.now in
     let q = c.args.asked in
     let m : ℕ → ℕ = rep (facts_in es) in
     let a = c.ends-first.result.0 in

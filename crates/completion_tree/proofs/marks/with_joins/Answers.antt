@@ -1,21 +1,22 @@
-use Rattle.std.proofs.Common.{[], ◌∷◌, get_or, subst}
+use Rattle.std.proofs.Common.{sym, subst, ap, ◌∙◌, List, ℕ}
+use Rattle.fact_specs.specs.declared.Fact.{Fact}
 use Rattle.fact_specs.specs.Joins.{rep}
-use Rattle.completion_tree.specs.declared.tree.Entry.{Entry}
+use Rattle.fact_tree.specs.Told.{IsAlone}
 use Rattle.completion_tree.specs.Marks.{is_join, AreWithin}
-use Rattle.completion_tree.proofs.Resting.{part_itself, part_on, are-next}
+use Rattle.completion_tree.proofs.Resting.{part_itself, alone_within}
 use Rattle.completion_tree.proofs.marks.with_joins.Goals as goal
 
-pub loop-entry-init : goal.loop-entry-init
-loop-entry-init g c = record { more = part_itself c.args.ground; joins = tt }
+pub returns-then-is_alone-2-clause-more : goal.returns-then-is_alone-2-clause-more
+returns-then-is_alone-2-clause-more g c = part_itself c.args.ground
 
-pub loop-entry-preserved : goal.loop-entry-preserved
-loop-entry-preserved g c =
-    let p = is_join (rep c.args.facts.now) c.args.first c.args.second in
-    let es = c.args.entries.now in
-    let i = c.loop-entry.entry-index in
-    let e = c.entry-item.result in
-    let here : AreWithin p c.in_ok-used.used (get_or es i e ∷ []) = subst (λ (d : Entry). AreWithin p c.in_ok-used.used (d ∷ [])) c.entry-item.is c.in_ok-used.ensures.joins in
-    record {
-      more = part_on c.args.ground c.loop-entry.used c.in_ok-used.used c.loop-entry.invariant.more c.in_ok-used.ensures.more;
-      joins = are-next p c.loop-entry.used c.in_ok-used.used es i e c.loop-entry-test.true c.loop-entry.invariant.joins c.in_ok-used.ensures.more here;
-    }
+pub returns-then-is_alone-2-clause-joins : goal.returns-then-is_alone-2-clause-joins
+returns-then-is_alone-2-clause-joins g c =
+    let es = c.args.trail.now in
+    let a = c.args.first in
+    let b = c.args.second in
+    let same = c.requires.same in
+    let alone-a = subst (λ (fs : List (Fact ℕ)). IsAlone fs a) same (c.is_alone.ensures c.if-is_alone.true) in
+    let alone-b = subst (λ (fs : List (Fact ℕ)). IsAlone fs b) same (c.is_alone-then-is_alone.ensures c.if-is_alone-2.true) in
+    let own-a = ap (λ (fs : List (Fact ℕ)). rep fs a) (sym same) ∙ c.requires.first in
+    let own-b = ap (λ (fs : List (Fact ℕ)). rep fs b) (sym same) ∙ c.requires.second in
+    subst (λ (fs : List (Fact ℕ)). AreWithin (is_join (rep fs) a b) c.args.ground es) (sym same) (alone_within es a b c.args.ground own-a own-b alone-a alone-b)

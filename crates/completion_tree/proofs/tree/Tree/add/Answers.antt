@@ -1,5 +1,4 @@
-use Rattle.std.proofs.Common.{ℕ, List, [], ◌∷◌, ◌++◌, length, sym, ap, ◌∙◌, arith}
-use Rattle.std.proofs.lemmas.List.{length-append}
+use Rattle.std.proofs.Common.{List, [], ◌∷◌, ◌++◌, ℕ, sym, ap, ◌∙◌}
 use Rattle.fact_specs.specs.declared.Fact.{Fact}
 use Rattle.completion_tree.specs.declared.tree.Entry.TheVariants.{Fact as Grounded}
 use Rattle.completion_tree.specs.Trail.{facts_in}
@@ -8,9 +7,7 @@ use Rattle.completion_tree.proofs.tree.Tree.add.Goals as goal
 
 pub invariant_of-self-in-Ok : goal.invariant_of-self-in-Ok
 invariant_of-self-in-Ok g c =
-    let es = c.self.inside.entries.items in
+    let es = c.self.inside.trail in
     let more = Grounded c.args.fact c.args.by ∷ [] in
-    let put = c.in-Ok.ensures.put in (
-      c.in_ok-add.ensures.added ∙ ap (λ (fs : List (Fact ℕ)). fs ++ c.args.fact ∷ []) c.self.invariant.0 ∙ sym (facts_in-append es more) ∙ ap facts_in (sym put),
-      omega (arith, ap length put, length-append es more, c.if-len-ge-MOST.false, c.len.ensures),
-    )
+    let put = c.in-Ok.ensures.put in
+    c.in_ok-add.ensures.added ∙ ap (λ (fs : List (Fact ℕ)). fs ++ c.args.fact ∷ []) c.self.invariant ∙ sym (facts_in-append es more) ∙ ap facts_in (sym put)

@@ -4,8 +4,6 @@ use Rattle.completion_tree.proofs.tree.Tree.fresh.Goals as goal
 
 pub invariant_of-self-in-Ok : goal.invariant_of-self-in-Ok
 invariant_of-self-in-Ok g c =
-    let fs = c.self.inside.facts in (
-      facts-followed c.self.inside.entries.items c.follow.new.entries.items c.args.by fs c.fresh.new.self (fresh_facts c.args.node c.args.role c.args.concept (node_count fs) c.args.count) c.len-len.result
-          c.self.invariant.0 c.len-len.ensures c.in_ok-first.ensures.made c.in-Ok.ensures.put,
-      c.in-Ok.ensures.small c.self.invariant.1,
-    )
+    let fs = c.self.inside.facts in
+    facts-followed c.self.inside.trail c.follow.new.trail c.args.by fs c.fresh.new.self (fresh_facts c.args.node c.args.role c.args.concept (node_count fs) c.args.count) c.len-len.result
+    c.self.invariant c.len-len.ensures c.in_ok-first.ensures.made c.in-Ok.ensures.put

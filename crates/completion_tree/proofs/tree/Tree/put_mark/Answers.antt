@@ -1,5 +1,5 @@
-use Rattle.std.proofs.Common.{[], ◌∷◌, length, sym, ap, ◌∙◌, arith}
-use Rattle.std.proofs.lemmas.List.{length-append, append-nil}
+use Rattle.std.proofs.Common.{[], ◌∷◌, sym, ap, ◌∙◌}
+use Rattle.std.proofs.lemmas.List.{append-nil}
 use Rattle.completion_tree.specs.declared.tree.Entry.TheVariants.{Mark}
 use Rattle.completion_tree.specs.Trail.{facts_in}
 use Rattle.completion_tree.proofs.Entries.{facts_in-append}
@@ -7,9 +7,7 @@ use Rattle.completion_tree.proofs.tree.Tree.put_mark.Goals as goal
 
 pub invariant_of-self-2 : goal.invariant_of-self-2
 invariant_of-self-2 g c =
-    let es = c.self.inside.entries.items in
+    let es = c.self.inside.trail in
     let more = Mark c.args.choice ∷ [] in
-    let put = c.in_ok-push.ensures.put in (
-      c.self.invariant.0 ∙ sym (append-nil (facts_in es)) ∙ sym (facts_in-append es more) ∙ ap facts_in (sym put),
-      omega (arith, ap length put, length-append es more, c.if-len-ge-MOST.false, c.len-len.ensures),
-    )
+    let put = c.in_ok-push.ensures.put in
+    c.self.invariant ∙ sym (append-nil (facts_in es)) ∙ sym (facts_in-append es more) ∙ ap facts_in (sym put)

@@ -17,5 +17,5 @@ returns g c =
     let fs = facts_of c.self.inside.entries.items in
     let fit = c.self.invariant.2 in
     let lt : c.args.node < node_count fs = omega (arith, c.requires, ap node_count c.self.view_is) in
-    ap Some (c.parent.ensures ∙ ap (λ (n : Lists). n.parent) (c.node.ensures ∙ ap (λ (k : Kept). lists_at k c.args.node) c.self.invariant.0))
+    ap (λ (o : ℕ × ℕ). Some o.1) (c.origin-parent.ensures ∙ ap (λ (n : Lists). n.origin) (c.node.ensures ∙ ap (λ (k : Kept). lists_at k c.args.node) c.self.invariant.0))
     ∙ sym (parent_is fs c.args.node fit c.if-node-eq0.false lt) ∙ ap (λ (us : List (Fact ℕ)). parent us c.args.node) c.self.view_is
