@@ -12,7 +12,7 @@ use Rattle.tableau_specs.specs.declared.Block.{Block}
 use Rattle.tableau_specs.specs.declared.Block.TheVariants.{Clear, By, Under}
 use Rattle.tableau_specs.specs.Blocked.{is_clear, is_parent_clear, may_block, blocked_from, block_at, blocks_to, block_of}
 use Rattle.fact_specs.specs.State.{HasParentsBefore}
-use Rattle.blocking_specs.specs.Laws.{AgreeBelow, BlocksFollowWhatStandsBelow, LeavesBelow, OneFactLeavesBlocksBelow, AllLeaveBelow, FactsLeaveBlocksBelow, AreUnjoinedFrom, NewNodesLeaveBlocks}
+use Rattle.blocking_specs.specs.Laws.{AgreeBelow, BlocksFollowWhatStandsBelow, LeavesBelow, OneFactLeavesBlocksBelow, AllLeaveBelow, FactsLeaveBlocksBelow, FactsLeaveNodesBelow, AreUnjoinedFrom, NewNodesLeaveBlocks}
 
 -- ---- blocks where two lists of facts agree
 
@@ -192,6 +192,17 @@ agree_all fs (f ∷ new) n h =
 
 pub blocks_left_by_all : FactsLeaveBlocksBelow
 blocks_left_by_all fs new n before h x lt = sym (of_same fs (fs ++ new) n before (flip (fs ++ new) fs n (agree_all fs new n h)) x lt)
+
+has_left : (fs : List (Fact ℕ)) (f : Fact ℕ) (n x : ℕ) → LeavesBelow fs f n → x < n → (c : ℕ) → has (fs ++ f ∷ []) x c ≡ has fs x c
+has_left fs f n x h lt c = has_kept fs f x c (rep_kept fs f n x h lt) (leaves fs f n (rep fs x) h (omega (arith, lt, rep-le fs x)))
+
+all_has_left : (fs new : List (Fact ℕ)) (n x : ℕ) → AllLeaveBelow fs new n → x < n → (c : ℕ) → has (fs ++ new) x c ≡ has fs x c
+all_has_left fs [] n x h lt c = ap (λ (l : List (Fact ℕ)). has l x c) (append-nil fs)
+all_has_left fs (f ∷ new) n x h lt c =
+    ap (λ (l : List (Fact ℕ)). has l x c) (sym (append_assoc fs (f ∷ []) new)) ∙ all_has_left (fs ++ f ∷ []) new n x h.1 lt c ∙ has_left fs f n x h.0 lt c
+
+pub nodes_left_by_all : FactsLeaveNodesBelow
+nodes_left_by_all fs new n h x lt = ((agree_all fs new n h).reps x lt, all_has_left fs new n x h lt)
 
 -- ---- new nodes
 

@@ -3,7 +3,7 @@ use Rattle.std.specs.Prelude.{◌≡◌, ℕ, ◌<◌, ◌≤◌, List, [], ◌�
 use Rattle.fact_specs.specs.declared.Fact.{Fact}
 use Rattle.fact_specs.specs.declared.Fact.TheVariants.{Has, Edge, Apart, Same}
 use Rattle.fact_specs.specs.Joins.{rep}
-use Rattle.fact_specs.specs.State.{parent, is_label_part, fresh_facts, HasParentsBefore}
+use Rattle.fact_specs.specs.State.{parent, has, is_label_part, fresh_facts, HasParentsBefore}
 use Rattle.tableau_specs.specs.Blocked.{block_of}
 
 -- the two lists of facts say the same of the nodes below n
@@ -33,6 +33,10 @@ AllLeaveBelow fs (f ∷ new) n = LeavesBelow fs f n × AllLeaveBelow (fs ++ f �
 
 abbrev pub FactsLeaveBlocksBelow : Type 0
 FactsLeaveBlocksBelow = (fs new : List (Fact ℕ)) (n : ℕ) → HasParentsBefore fs → AllLeaveBelow fs new n → (x : ℕ) → x < n → block_of (fs ++ new) x ≡ block_of fs x
+
+-- below n, what nodes have and which nodes are one stays as it is
+abbrev pub FactsLeaveNodesBelow : Type 0
+FactsLeaveNodesBelow = (fs new : List (Fact ℕ)) (n : ℕ) → AllLeaveBelow fs new n → (x : ℕ) → x < n → (rep (fs ++ new) x ≡ rep fs x) × ((c : ℕ) → has (fs ++ new) x c ≡ has fs x c)
 
 -- no node from n on is joined to one below
 abbrev pub AreUnjoinedFrom : List (Fact ℕ) → ℕ → Type 0

@@ -5,7 +5,7 @@
 //! Intelligence 88, 1996). So a new fact leaves the blocks of all nodes below those of which it says something new.
 #![tactic(auto)]
 
-ghost use Rattle.blocking_specs.specs.Laws.{BlocksFollowWhatStandsBelow, OneFactLeavesBlocksBelow, FactsLeaveBlocksBelow, NewNodesLeaveBlocks};
+ghost use Rattle.blocking_specs.specs.Laws.{BlocksFollowWhatStandsBelow, OneFactLeavesBlocksBelow, FactsLeaveBlocksBelow, FactsLeaveNodesBelow, NewNodesLeaveBlocks};
 
 /// Where two lists of facts agree on the nodes below a bound, these nodes have the same blocks by both.
 pub fn blocks_follow_what_stands_below()
@@ -20,6 +20,11 @@ pub fn one_fact_leaves_blocks_below()
 /// So do facts that are put one after another.
 pub fn facts_leave_blocks_below()
     ensures { FactsLeaveBlocksBelow }
+{}
+
+/// They also leave what the nodes below have, and which of them are one.
+pub fn facts_leave_nodes_below()
+    ensures { FactsLeaveNodesBelow }
 {}
 
 /// New nodes, with their edges, their concept and that they are apart, leave the blocks of the nodes before them.

@@ -1,0 +1,5 @@
+pub mod Labels
+pub mod Blocks
+pub mod Sieve
+pub mod Touched
+pub mod Beyond

@@ -1,0 +1,114 @@
+//! Facts of all kinds come and go, and the blocks are compared with those by a plain reading.
+ghost use Rattle.std.specs.Prelude.{OnOk};
+ghost use Rattle.completion_tree.specs.Trail.{facts_in};
+ghost use Rattle.blocking.specs.Followed.{IsCurrent};
+
+use crate::following::{back, put, start};
+use crate::plain::plain_blocks;
+use blocking::{Prints, state};
+use completion_tree::{Item, Tree};
+use fact_specs::Fact;
+use shq_base::NoMemory;
+use std::alloc::Global;
+use std::process::Abort;
+
+const WALKS: u64 = 200;
+
+const STEPS: u64 = 100;
+
+/// The next number of a fixed sequence.
+fn next(seed: u64) -> u64 {
+    let mixed = seed ^ (seed << 13);
+    let mixed = mixed ^ (mixed >> 7);
+    mixed ^ (mixed << 17)
+}
+
+/// Sixteen bits of a number, from one on.
+fn bits(number: u64, from: u32) -> u32 {
+    (number >> from.min(63) & 0xffff) as u32
+}
+
+/// A fact about some of the nodes, or a new one.
+fn some_fact(seed: u64, nodes: u32) -> Fact<u32> {
+    let nodes = nodes.max(1);
+    let first = bits(seed, 8) % nodes;
+    let second = bits(seed, 24) % nodes;
+    let concept = bits(seed, 40) % 6;
+    match seed % 16 {
+        0..=5 => Fact::Has(first, concept),
+        6..=11 => Fact::Edge(7, first, if nodes < 60 { nodes } else { second }),
+        12 | 13 => Fact::Edge(8, first, second),
+        14 => Fact::Apart(first, second),
+        _ => Fact::Same(first, second),
+    }
+}
+
+fn facts_of(heap: Global, tree: &Tree<Global>) -> Result<Vec<Fact<u32>>, NoMemory> {
+    let mut facts = Vec::new(heap);
+    for place in 0..tree.len() {
+        if let Item::Fact(fact) = tree.item(place) {
+            facts.push(fact)?;
+        }
+    }
+    Ok(facts)
+}
+
+fn check(
+    rt: &impl Abort,
+    heap: Global,
+    tree: &Tree<Global>,
+    prints: &Prints,
+) -> Result<(), NoMemory>
+    requires { IsCurrent (facts_in tree.now) prints.now }
+{
+    let facts = facts_of(heap, tree)?;
+    let blocks = plain_blocks(&facts, tree.nodes());
+    for node in 0..tree.nodes() {
+        assert_eq!(rt;
+            state(tree, prints, node),
+            blocks[node as usize % 64],
+            "of {node} by {facts:?}"
+        );
+    }
+    Ok(())
+}
+
+fn step(
+    rt: &impl Abort,
+    tree: &mut Tree<Global>,
+    prints: &mut Prints,
+    seed: u64,
+) -> Result<(), NoMemory>
+    requires { IsCurrent (facts_in tree.old) prints.old }
+    ensures { OnOk result (IsCurrent (facts_in tree.new) prints.new) }
+{
+    if seed % 23 == 0 {
+        let len = tree.len();
+        let fewer = bits(seed, 8) % 16;
+        return back(tree, prints, len - len.min(fewer));
+    }
+    put(rt, tree, prints, some_fact(seed, tree.nodes()))
+}
+
+fn walk(rt: &impl Abort, heap: Global, seed: u64) -> Result<(), NoMemory> {
+    let (mut tree, mut prints) = start(heap)?;
+    let mut seed = seed;
+    for _ in 0..STEPS {
+        seed = next(seed);
+        step(rt, &mut tree, &mut prints, seed)?;
+        check(rt, heap, &tree, &prints)?;
+    }
+    Ok(())
+}
+
+fn walks(rt: &impl Abort, heap: Global) -> Result<(), NoMemory> {
+    for seed in 0..WALKS {
+        walk(rt, heap, next(seed + 1))?;
+    }
+    Ok(())
+}
+
+#[test]
+fn random_facts(rt: HostRuntime) {
+    walks(&rt, rt.alloc()).expect(&rt, "memory");
+}
