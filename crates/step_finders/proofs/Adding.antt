@@ -7,44 +7,61 @@ use Rattle.shape_specs.specs.Shape.{Shape, shape_of}
 use Rattle.shape_specs.specs.Shape.Shape.{intersection, all_of}
 use Rattle.fact_specs.specs.declared.Fact.{Fact}
 use Rattle.fact_specs.specs.State.{node_count, has, is_successor}
-use Rattle.tableau_specs.proofs.PlainClash.{successor_is_node, successor_has_edge}
 use Rattle.tableau_specs.specs.Steps.{SearchContext, below_of}
 use Rattle.tableau_specs.specs.Steps.Adds.{by_and, by_all, by_carry}
 use Rattle.fact_specs.specs.Listed.{IsLabel}
-use Rattle.step_finders.specs.Found.{IsCarry, AreCarries, AreCarriesOf, IsAddition, LacksAtEnd, AllCarried, LacksCarried, NoneToCarry, NoneByShape, NoneByConcepts}
-use Rattle.step_finders.proofs.Edges.{where_any}
+use Rattle.step_finders.specs.declared.reason.Addition.{Addition}
+use Rattle.step_finders.specs.declared.reason.Reason.{Reason}
+use Rattle.step_finders.specs.declared.reason.Reason.TheVariants as R
+use Rattle.step_finders.specs.Found.{Files, IsCarry, AreCarries, AreCarriesOf, LacksAtEnd, AllCarried, NoneToCarry, NoneByShape, NoneByConcepts}
+use Rattle.step_finders.specs.Reasons.{IsAddition}
+use Rattle.step_finders.proofs.Edges.{where_any, edge_of_kind, edge_to_next}
 
-module _ (w : SearchContext) (fs : List (Fact ℕ)) (x c : ℕ) where
-  pub part_adds : (parts : List ℕ) (d : ℕ) → x < node_count fs → has fs x c ≡ true → shape_of w.table c ≡ intersection parts → Contains parts d → has fs x d ≡ false → IsAddition w fs x d
-  part_adds parts d lt h sh m out = record { adds = by_and x c d parts lt h sh m; lacks = out }
+abbrev pub added : ℕ → ℕ → Reason → Addition
+added x d reason = record { node = x; concept = d; reason = reason }
 
-  pub all_adds : (s e y : ℕ) → x < node_count fs → has fs x c ≡ true → shape_of w.table c ≡ all_of s e → LacksAtEnd w fs x s e y → IsAddition w fs y e
-  all_adds s e y lt h sh at = record {
-    adds = by_all x y c s e lt (successor_is_node fs (λ r. below_of w r s) x y at.next) h sh (successor_has_edge fs (λ r. below_of w r s) x y at.next);
-    lacks = at.lacks;
+module _ (w : SearchContext) (files : Files) (fs : List (Fact ℕ)) (x c : ℕ) where
+  pub part_adds : (parts : List ℕ) (d : ℕ) → x < node_count fs → has fs x c ≡ true → shape_of w.table c ≡ intersection parts → Contains parts d → has fs x d ≡ false
+      → IsAddition w fs files (added x d (R.And c))
+  part_adds parts d lt h sh m out = record {
+    adds = by_and x c d parts lt h sh m;
+    lacks = out;
+    reason = record { is_node = lt; holds = h; parts = parts; shape = sh; is_part = m };
   }
 
-  the_carries : (s e : ℕ) (pairs : List (ℕ × ℕ)) → shape_of w.table c ≡ all_of s e → AreCarriesOf w (shape_of w.table c) pairs → AreCarries w s e pairs
-  the_carries s e pairs sh h = subst (λ (t : Shape). AreCarriesOf w t pairs) sh h
-
-  pub carry_adds : (s e : ℕ) (pairs : List (ℕ × ℕ)) (y d : ℕ) → x < node_count fs → has fs x c ≡ true → shape_of w.table c ≡ all_of s e
-      → AreCarriesOf w (shape_of w.table c) pairs → LacksCarried w fs x pairs y d → IsAddition w fs y d
-  carry_adds s e pairs y d lt h sh are l =
-      let i = All-contains (IsCarry w s e) pairs (l.role, d) (the_carries s e pairs sh are).each l.is_pair in
+  pub all_adds : (s e q y : ℕ) → x < node_count fs → has fs x c ≡ true → shape_of w.table c ≡ all_of s e → LacksAtEnd w fs x s e q y → IsAddition w fs files (added y e (R.All x q c))
+  all_adds s e q y lt h sh at =
+      let is_edge = edge_to_next fs q x y lt at.next in
       record {
-        adds = by_carry x y c s l.role e d
+        adds = by_all x y c s e lt is_edge.end_is_node h sh (edge_of_kind fs (λ r. below_of w r s) q x y at.role_below is_edge.leads);
+        lacks = at.lacks;
+        reason = record { is_edge = is_edge; holds = h; role = s; shape = sh; role_below = at.role_below };
+      }
+
+  pub carry_adds : (s e : ℕ) (pairs : List (ℕ × ℕ)) (pair : ℕ × ℕ) (q y : ℕ) → x < node_count fs → has fs x c ≡ true → shape_of w.table c ≡ all_of s e
+      → AreCarries w s e pairs → Contains pairs pair → LacksAtEnd w fs x pair.0 pair.1 q y → IsAddition w fs files (added y pair.1 (R.Carry x q pair.0 c))
+  carry_adds s e pairs pair q y lt h sh are m at =
+      let i = All-contains (IsCarry w s e) pairs pair are.each m in
+      let is_edge = edge_to_next fs q x y lt at.next in
+      record {
+        adds = by_carry x y c s pair.0 e pair.1
             (record {
               begin_is_node = lt;
-              end_is_node = successor_is_node fs (λ r. below_of w r l.role) x y l.at_end.next;
+              end_is_node = is_edge.end_is_node;
               holds = h;
               shape = sh;
               transitive = i.transitive;
               role_below = i.role_below;
-              edge = successor_has_edge fs (λ r. below_of w r l.role) x y l.at_end.next;
+              edge = edge_of_kind fs (λ r. below_of w r pair.0) q x y at.role_below is_edge.leads;
             })
             i.shape;
-        lacks = l.at_end.lacks;
+        lacks = at.lacks;
+        reason = record { is_edge = is_edge; holds = h; role = s; filler = e; shape = sh; transitive = i.transitive; over_below = i.role_below; role_below = at.role_below; carried = i.shape };
       }
+
+module _ (w : SearchContext) (fs : List (Fact ℕ)) (x c : ℕ) where
+  pub the_carries : (s e : ℕ) (pairs : List (ℕ × ℕ)) → shape_of w.table c ≡ all_of s e → AreCarriesOf w (shape_of w.table c) pairs → AreCarries w s e pairs
+  the_carries s e pairs sh h = subst (λ (t : Shape). AreCarriesOf w t pairs) sh h
 
   pub none_to_carry : (s e : ℕ) (pairs : List (ℕ × ℕ)) → shape_of w.table c ≡ all_of s e → AreCarriesOf w (shape_of w.table c) pairs → AllCarried w fs x pairs → NoneToCarry w fs x s e
   none_to_carry s e pairs sh are all = record {

@@ -1,6 +1,12 @@
 -- Why there is a plain clash, and why there is none.
-use Rattle.step_finders.specs.Clashing.{IsMost, AreMosts, IsOfParent, HasMost, AnswersOverrun, NotOverrun, NoneByShape, NoneAbove, NoClashBy}
-use Rattle.clash_specs.specs.Near.{IsOverrun, ClashesBy}
+use Rattle.step_finders.specs.Clashing.{IsMost, AreMosts, IsOfParent, HasMost, AnswersOverrun, NotOverrun, NoneByShape, NoneAbove, NoClashBy, NoneOver, NoClashByNew, NoClashByApart, NoClashByJoin, ShownClashesArePlain}
+use Rattle.step_finders.specs.declared.clash.Clash.TheVariants as C
+use Rattle.clash_specs.specs.Near.{IsOverrun, ClashesBy, ClashesByNew, ClashesByApart, ClashesByJoin}
+use Rattle.clash_specs.specs.Near.ClashesByNew.{new_bottom, new_overrun}
+use Rattle.clash_specs.specs.Near.ClashesByApart.{apart_overrun}
+use Rattle.clash_specs.specs.Near.ClashesByJoin.{join_names, join_most, join_filler}
+use Rattle.tableau_specs.specs.Clash.IsPlainClash.{plain_bottom, plain_names, plain_most}
+use Rattle.fact_specs.specs.Listed.{IsLabel}
 use Rattle.clash_specs.specs.Near.ClashesBy.{by_bottom, by_name, by_complement, by_most, by_filler}
 use Rattle.shape_specs.specs.Shape.Shape.{bottom, name, not_name, at_most}
 use Rattle.fact_specs.specs.State.{node_count, first_origin, parent, has, all_apart}
@@ -111,3 +117,55 @@ module _ (w : SearchContext) (fs : List (Fact ℕ)) (x d : ℕ) (above : IsOfPar
 
   pub no_clash : NoneByShape w fs x (shape_of w.table d) → NoneAbove w fs x d → NoClashBy w fs x d
   no_clash at over = record { none = no_way at over }
+
+-- ---- after other steps
+
+module _ (w : SearchContext) (fs : List (Fact ℕ)) where
+  pub none_over : (x d : ℕ) (cs : List ℕ) → AreMosts w.table d cs → All (NotOverrun w fs x d) cs → NoneOver w fs x d
+  none_over x d cs mosts none = record {
+    none = λ c n s o.
+        where_any (λ j. eqb j c) ⊥ cs
+        (λ j q lt hit. (subst (NotOverrun w fs x d) (eqb-true (get_or cs j q) c hit) (none j q lt)).none n s o)
+        (mosts.every c n s o.shape);
+  }
+
+  no_new : (x s e : ℕ) → ¬ (shape_of w.table e ≡ bottom) → NoneOver w fs x 0 → NoneOver w fs x e → ¬ ClashesByNew (below_of w) w.table fs x s e
+  no_new x s e not tops fillers (new_bottom sh) = not sh
+  no_new x s e not tops fillers (new_overrun c m t d below is o) = elim is [
+    | inl top ↦ tops.none c m t (subst (λ (k : ℕ). IsOverrun (below_of w) w.table fs x c m t k) top o)
+    | inr filler ↦ fillers.none c m t (subst (λ (k : ℕ). IsOverrun (below_of w) w.table fs x c m t k) filler o)
+  ]
+
+  pub no_clash_by_new : (x e : ℕ) → ¬ (shape_of w.table e ≡ bottom) → NoneOver w fs x 0 × NoneOver w fs x e → (s : ℕ) → NoClashByNew w fs x s e
+  no_clash_by_new x e not h s = record { none = no_new x s e not h.0 h.1 }
+
+  no_apart : (y z : ℕ) → ((e : ℕ) → has fs y e ≡ true → has fs z e ≡ true → NoneAbove w fs y e) → ¬ ClashesByApart (below_of w) w.table fs y z
+  no_apart y z each (apart_overrun x c n s e lt edge h other g o) = (each e h g).none x c n s edge o
+
+  pub no_clash_by_apart : (y z : ℕ) (cs : List ℕ) → IsLabel fs y cs → ((k d : ℕ) → k < length cs → has fs z (get_or cs k d) ≡ true → NoneAbove w fs y (get_or cs k d)) → NoClashByApart w fs y z
+  no_clash_by_apart y z cs label each = record {
+    none = no_apart y z (λ e h g.
+        where_any (λ d. eqb d e) (NoneAbove w fs y e) cs
+        (λ k d lt hit.
+        let at = eqb-true (get_or cs k d) e hit in
+        subst (λ (f : ℕ). NoneAbove w fs y f) at (each k d lt (ap (has fs z) at ∙ g)))
+        (label e ∙ h));
+  }
+
+  no_join : (y : ℕ) → ((e : ℕ) → has fs y e ≡ true → NoClashBy w fs y e) → ¬ ClashesByJoin (below_of w) w.table fs y
+  no_join y each (join_names c d a h sh g th) = (each c h).none (by_name d a sh g th)
+  no_join y each (join_most c n s e o) = (each c o.holds).none (by_most n s e o)
+  no_join y each (join_filler x c n s e lt edge h o) = (each e h).none (by_filler x c n s lt edge o)
+
+  pub no_clash_by_join : (y : ℕ) (cs : List ℕ) → IsLabel fs y cs → ((k d : ℕ) → k < length cs → NoClashBy w fs y (get_or cs k d)) → NoClashByJoin w fs y
+  no_clash_by_join y cs label each = record {
+    none = no_join y (λ e h.
+        where_any (λ d. eqb d e) (NoClashBy w fs y e) cs
+        (λ k d lt hit. subst (λ (f : ℕ). NoClashBy w fs y f) (eqb-true (get_or cs k d) e hit) (each k d lt))
+        (label e ∙ h));
+  }
+
+pub shown_is_plain : ShownClashesArePlain
+shown_is_plain w fs (C.Bottom x c) h = plain_bottom x c h.is_node h.holds h.shape
+shown_is_plain w fs (C.Both x c d) h = plain_names x c d h.class h.is_node h.holds h.shape h.holds_other h.shape_other
+shown_is_plain w fs (C.Most x c) h = plain_most x c h.count h.role h.filler h.is_node h.overrun.holds h.overrun.shape h.overrun.more h.overrun.every

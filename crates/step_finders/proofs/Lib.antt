@@ -10,4 +10,4 @@ pub mod Making
 pub mod Ending
 pub mod Clashing
 pub mod Opposite
-pub mod Choosing
+pub mod Chosen

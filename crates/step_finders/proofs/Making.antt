@@ -10,10 +10,11 @@ use Rattle.tableau_specs.specs.Steps.{SearchContext, below_of, IsOpen, Generates
 use Rattle.tableau_specs.specs.Clash.{is_filled_successor}
 use Rattle.tableau_specs.specs.Steps.Generates.{by_some, by_least}
 use Rattle.fact_specs.specs.Listed.{AreEdges, IsLabel}
+use Rattle.step_finders.specs.declared.make.NewNodes.{NewNodes}
 use Rattle.step_finders.specs.Filled.{AreFilled}
-use Rattle.step_finders.specs.Making.{is_among, runs_among, AnswersAmong, HasFiller, HasRun, AnswersRun, NoMakingByShape, NoMakingAt, NothingToMake}
+use Rattle.step_finders.specs.Making.{is_among, runs_among, AnswersAmong, Asks, IsMaking, HasFiller, HasRun, AnswersRun, NoMakingByShape, NoMakingAt, NothingToMake}
 use Rattle.shape_specs.specs.Shape.{Shape, shape_of, is_normal, IsTable}
-use Rattle.shape_specs.specs.Shape.Shape.{at_least}
+use Rattle.shape_specs.specs.Shape.Shape.{some_of, at_least}
 use Rattle.tableau_specs.proofs.Listed.{listed}
 use Rattle.fact_specs.proofs.State.{eqb-comm}
 use Rattle.clash_specs.proofs.Moved.{edge_to}
@@ -196,6 +197,26 @@ least_some table good c n s e sh = omega (arith, (least_bounds table good c n s 
 
 pub least_few : (table : List Shape) → IsTable table → (c n s e : ℕ) → shape_of table c ≡ at_least n s e → n < 200
 least_few table good c n s e sh = omega (arith, (least_bounds table good c n s e sh).1)
+
+module _ (w : SearchContext) (fs : List (Fact ℕ)) (x c : ℕ) (at : IsOpen w fs x) (h : has fs x c ≡ true) where
+  abbrev made : ℕ → ℕ → ℕ → NewNodes
+  made s e n = record { parent = x; role = s; filler = e; count = n; concept = c }
+
+  pub makes_some : (s e : ℕ) → shape_of w.table c ≡ some_of s e → filled_successors (below_of w) fs x s e ≡ [] → IsMaking w fs (made s e 1)
+  makes_some s e sh none = record {
+    generates = by_some x c s e at h sh none;
+    is_open = at;
+    holds = h;
+    asks = subst (λ (t : Shape). Asks t (made s e 1)) (sym sh) (refl, refl, refl);
+  }
+
+  pub makes_least : (n s e : ℕ) → shape_of w.table c ≡ at_least n s e → ((y : ℕ) → is_run w fs x s e n y ≡ false) → IsMaking w fs (made s e n)
+  makes_least n s e sh none = record {
+    generates = by_least x c n s e at h sh none;
+    is_open = at;
+    holds = h;
+    asks = subst (λ (t : Shape). Asks t (made s e n)) (sym sh) (refl, refl, refl);
+  }
 
 pub no_making_by_label : (w : SearchContext) (fs : List (Fact ℕ)) (x : ℕ) (cs : List ℕ) → IsLabel fs x cs → ((k d : ℕ) → k < length cs → NoMakingByShape w fs x (shape_of w.table (get_or cs k d))) → NoMakingAt w fs x
 no_making_by_label w fs x cs label each = record {

@@ -54,16 +54,16 @@ module _ (w : SearchContext) (files : Files) (fs : List (Fact ℕ)) (each : (z :
   rows_hold =
       let h = at_rep.by_rows in
       record {
-        at_each = λ k d lt'. sym (has_moved (get_or files.general k d)) ∙ h.at_each k d lt';
+        at_each = λ k d lt'. sym (has_moved (get_or files.general k d).gives) ∙ h.at_each k d lt';
         names = record {
           at_names = λ c there k d lt'. record {
-            holds = λ all. sym (has_moved (get_or (files.named c) k d).gives) ∙ (h.names.at_names c (has_moved c ∙ there) k d lt').holds (all_moved (get_or (files.named c) k d).waits.items ∙ all);
+            holds = λ all. sym (has_moved (get_or (files.named c) k d).gives) ∙ (h.names.at_names c (has_moved c ∙ there) k d lt').holds (all_moved (get_or (files.named c) k d).waits ∙ all);
           };
         };
         edges = record {
           at_edges = λ r y next.
               let e = h.edges.at_edges r y (next_moved (λ q. eqb q r) y ∙ next) in
-              record { at_begin = λ k d lt'. sym (has_moved (get_or (files.begins r) k d)) ∙ e.at_begin k d lt'; at_end = e.at_end };
+              record { at_begin = λ k d lt'. sym (has_moved (get_or (files.begins r) k d).gives) ∙ e.at_begin k d lt'; at_end = e.at_end };
         };
       }
 

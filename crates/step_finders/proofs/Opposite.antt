@@ -53,6 +53,10 @@ module _ (table : List Shape) (good : IsTable table) where
   tree_not : (c a : ℕ) → shape_of table c ≡ not_name a → tree_of table c ≡ not_concept (name_concept a)
   tree_not c a sh = tree_is c (not_listed c a sh) ∙ ap (tree_over (trees_of table)) sh
 
+  -- the shape of a class
+  pub name_of_tree : (c a : ℕ) → c < length table → tree_of table c ≡ name_concept a → shape_of table c ≡ name a
+  name_of_tree c a lt e = shape_of_name (trees_of table) (shape_of table c) a (sym (tree_is c lt) ∙ e)
+
   -- the complement of a class, and of its complement
   pub not_of_name : (d c a : ℕ) → shape_of table d ≡ name a → IsComplement table d c → shape_of table c ≡ not_name a
   not_of_name d c a sh is = shape_of_not (trees_of table) (shape_of table c) a (sym (tree_is c is.listed) ∙ is.negates ∙ ap negated_form (tree_name d a sh))
@@ -67,11 +71,11 @@ module _ (table : List Shape) (good : IsTable table) where
   complement_of_not d c a sh th = record { listed = name_listed c a th; negates = tree_name c a th ∙ ap negated_form (sym (tree_not d a sh)) }
 
 module _ (w : SearchContext) (good : IsTable w.table) (fs : List (Fact ℕ)) (x d a : ℕ) where
-  pub both_by_name : (c : ℕ) → x < node_count fs → has fs x d ≡ true → shape_of w.table d ≡ name a → IsComplement w.table d c → has fs x c ≡ true → HasBoth w fs x d
-  both_by_name c lt h sh is g = record { is_node = lt; other = c; class = a; holds = h; shape = sh; holds_other = g; shape_other = not_of_name w.table good d c a sh is }
+  pub both_by_name : (c : ℕ) → x < node_count fs → has fs x d ≡ true → shape_of w.table d ≡ name a → IsComplement w.table d c → has fs x c ≡ true → HasBoth w fs x d c
+  both_by_name c lt h sh is g = record { is_node = lt; class = a; holds = h; shape = sh; holds_other = g; shape_other = not_of_name w.table good d c a sh is }
 
-  pub both_by_not : (c : ℕ) → x < node_count fs → has fs x d ≡ true → shape_of w.table d ≡ not_name a → IsComplement w.table d c → has fs x c ≡ true → HasBoth w fs x c
-  both_by_not c lt h sh is g = record { is_node = lt; other = d; class = a; holds = g; shape = name_of_not w.table good d c a sh is; holds_other = h; shape_other = sh }
+  pub both_by_not : (c : ℕ) → x < node_count fs → has fs x d ≡ true → shape_of w.table d ≡ not_name a → IsComplement w.table d c → has fs x c ≡ true → HasBoth w fs x c d
+  both_by_not c lt h sh is g = record { is_node = lt; class = a; holds = g; shape = name_of_not w.table good d c a sh is; holds_other = h; shape_other = sh }
 
   pub none_by_name : shape_of w.table d ≡ name a → LacksComplement w fs x d → NoneByShape w fs x (name a)
   none_by_name sh lacks = λ c h th. (let k = lacks c (complement_of_name w.table good d c a sh th) in cc)

@@ -1,14 +1,14 @@
--- A plain clash that a concept more makes, and what it means that there is none.
+-- A plain clash that a step makes, and what it means that there is none.
 use Rattle.std.specs.Prelude.{◌≡◌, ℕ, ◌<◌, ◌==◌, Bool, true, false, List, All, length}
 use Rattle.std.specs.List.{list_any}
 use Rattle.shape_specs.specs.Shape.{Shape, shape_of}
 use Rattle.shape_specs.specs.Shape.Shape.{bottom, name, not_name, at_most}
 use Rattle.fact_specs.specs.declared.Fact.{Fact}
 use Rattle.fact_specs.specs.State.{node_count, has, has_edge, all_apart}
-use Rattle.tableau_specs.specs.Clash.{filled_successors}
+use Rattle.tableau_specs.specs.Clash.{filled_successors, IsPlainClash}
 use Rattle.tableau_specs.specs.Steps.{SearchContext, below_of}
 use Rattle.tableau_specs.specs.StepLaws.{IsChild}
-use Rattle.clash_specs.specs.Near.{IsOverrun, ClashesBy}
+use Rattle.clash_specs.specs.Near.{IsOverrun, ClashesBy, ClashesByNew, ClashesByApart, ClashesByJoin}
 use Rattle.step_finders.specs.declared.clash.Clash.{Clash}
 use Rattle.step_finders.specs.declared.clash.Clash.TheVariants.{Bottom, Both, Most}
 
@@ -28,20 +28,18 @@ abbrev pub IsOfParent : List (Fact ℕ) → ℕ → Type 0
 IsOfParent fs x = (roles : ℕ → Bool) (z : ℕ) → has_edge fs roles z x ≡ true → IsChild fs z x
 
 module _ (w : SearchContext) (fs : List (Fact ℕ)) where
-  pub record HasBottom (x : ℕ) : Type 0 where
+  pub record HasBottom (x c : ℕ) : Type 0 where
     pub is_node : x < node_count fs
-    pub concept : ℕ
-    pub holds : has fs x concept ≡ true
-    pub shape : shape_of w.table concept ≡ bottom
+    pub holds : has fs x c ≡ true
+    pub shape : shape_of w.table c ≡ bottom
 
-  pub record HasBoth (x c : ℕ) : Type 0 where
+  pub record HasBoth (x c d : ℕ) : Type 0 where
     pub is_node : x < node_count fs
-    pub other : ℕ
     pub class : ℕ
     pub holds : has fs x c ≡ true
     pub shape : shape_of w.table c ≡ name class
-    pub holds_other : has fs x other ≡ true
-    pub shape_other : shape_of w.table other ≡ not_name class
+    pub holds_other : has fs x d ≡ true
+    pub shape_other : shape_of w.table d ≡ not_name class
 
   pub record HasMost (x c : ℕ) : Type 0 where
     pub is_node : x < node_count fs
@@ -52,8 +50,8 @@ module _ (w : SearchContext) (fs : List (Fact ℕ)) where
 
   -- the clash is a plain one
   abbrev pub IsShown : Clash → Type 0
-  IsShown (Bottom x) = HasBottom x
-  IsShown (Both x c) = HasBoth x c
+  IsShown (Bottom x c) = HasBottom x c
+  IsShown (Both x c d) = HasBoth x c d
   IsShown (Most x c) = HasMost x c
 
   abbrev pub AnswersOverrun : ℕ → ℕ → ℕ → ℕ → Bool → Type 0
@@ -79,3 +77,23 @@ module _ (w : SearchContext) (fs : List (Fact ℕ)) where
   -- x has no plain clash by d
   pub record NoClashBy (x d : ℕ) : Type 0 where
     pub none : ¬ ClashesBy (below_of w) w.table fs x d
+
+  -- no 'at most' of x with this filler is overrun
+  pub record NoneOver (x d : ℕ) : Type 0 where
+    pub none : (c n s : ℕ) → ¬ IsOverrun (below_of w) w.table fs x c n s d
+
+  -- there is no plain clash by new nodes with concept e at the ends of edges of role s from x
+  pub record NoClashByNew (x s e : ℕ) : Type 0 where
+    pub none : ¬ ClashesByNew (below_of w) w.table fs x s e
+
+  -- there is none since y and z are apart
+  pub record NoClashByApart (y z : ℕ) : Type 0 where
+    pub none : ¬ ClashesByApart (below_of w) w.table fs y z
+
+  -- there is none since y is one with another node
+  pub record NoClashByJoin (y : ℕ) : Type 0 where
+    pub none : ¬ ClashesByJoin (below_of w) w.table fs y
+
+-- what is shown is a plain clash
+abbrev pub ShownClashesArePlain : Type 0
+ShownClashesArePlain = (w : SearchContext) (fs : List (Fact ℕ)) (clash : Clash) → IsShown w fs clash → IsPlainClash (below_of w) w.table fs

@@ -1,12 +1,16 @@
 -- What a full look through a state finds, and what it means that it finds nothing.
-use Rattle.std.specs.Prelude.{◌≡◌, ℕ, ◌<◌, ◌==◌, ◌&&◌, Bool, true, false, List, All, Contains}
+use Rattle.std.specs.Prelude.{◌≡◌, ℕ, ◌<◌, ◌==◌, true, false, List, All, Contains, map, Some, slice_get}
 use Rattle.std.specs.List.{list_any, list_all}
-use Rattle.shape_specs.specs.Rows.{Row}
+use Rattle.shq_base.specs.Concept.{Concept}
+use Rattle.shape_specs.specs.Rows.{Row, Trigger, part_at, conjunct_at}
+use Rattle.shape_specs.specs.Rows.Part.{inclusion}
+use Rattle.shape_specs.specs.Rows.Trigger.{always, names, edge, end_of}
+use Rattle.shq_nnf.specs.Numbers.{AreNumbers}
+use Rattle.step_finders.specs.declared.state.PlainRow.{PlainRow}
 use Rattle.step_finders.specs.declared.state.NamedRow.{NamedRow}
 use Rattle.shape_specs.specs.Shape.{Shape, shape_of}
 use Rattle.shape_specs.specs.Shape.Shape.{intersection, all_of}
 use Rattle.fact_specs.specs.declared.Fact.{Fact}
-use Rattle.fact_specs.specs.Joins.{rep}
 use Rattle.fact_specs.specs.State.{node_count, has, is_successor}
 use Rattle.tableau_specs.specs.Steps.{SearchContext, below_of, Adds, IsCarried, is_used_at}
 
@@ -30,25 +34,62 @@ AreCarriesOf w _ pairs = Unit {0}
 -- the places where rows are looked up: those that are used at each node; those that wait for a concept, by that concept;
 -- those that are used where an edge of a role begins, and where one ends, by that role
 pub record Files : Type 0 where
-  pub general : List ℕ
+  pub general : List PlainRow
   pub named : ℕ → List NamedRow
-  pub begins : ℕ → List ℕ
-  pub ends : ℕ → List ℕ
+  pub begins : ℕ → List PlainRow
+  pub ends : ℕ → List PlainRow
+
+-- the plain row is a row of the search with this trigger
+pub record IsPlain (w : SearchContext) (t : Trigger) (u : PlainRow) : Type 0 where
+  pub row : Row
+  pub is_in : Contains w.rows row
+  pub axiom_is : row.axiom_number ≡ u.«axiom»
+  pub part_is : row.part_number ≡ u.part
+  pub gives_is : row.concept ≡ u.gives
+  pub trigger_is : row.trigger ≡ t
+
+-- it is used at edges of r: its role is above r
+pub record IsAtEdge (w : SearchContext) (trigger : ℕ → Trigger) (r : ℕ) (u : PlainRow) : Type 0 where
+  pub role : ℕ
+  pub role_above : w.theory.below r role ≡ true
+  pub is_plain : IsPlain w (trigger role) u
+
+-- it is a row of the search that waits for the names at its positions, by their numbers
+pub record IsNamed (w : SearchContext) (u : NamedRow) : Type 0 where
+  pub row : Row
+  pub is_in : Contains w.rows row
+  pub axiom_is : row.axiom_number ≡ u.«axiom»
+  pub part_is : row.part_number ≡ u.part
+  pub gives_is : row.concept ≡ u.gives
+  pub trigger_is : row.trigger ≡ names u.positions
+  pub conjuncts : List Concept
+  pub right : Concept
+  pub is_part : part_at w.theory u.«axiom» u.part ≡ Some (inclusion conjuncts right)
+  pub waits_are : AreNumbers w.table u.waits (map (conjunct_at conjuncts) u.positions)
+
+-- the plain row gives x nothing that it does not have
+abbrev pub PlainHolds : List (Fact ℕ) → ℕ → PlainRow → Type 0
+PlainHolds fs x u = has fs x u.gives ≡ true
 
 -- the row gives x nothing that it does not have
 pub record NamedHold (fs : List (Fact ℕ)) (x : ℕ) (u : NamedRow) : Type 0 where
-  pub holds : list_all (has fs x) u.waits.items ≡ true → has fs x u.gives ≡ true
+  pub holds : list_all (has fs x) u.waits ≡ true → has fs x u.gives ≡ true
 
 pub record NamedLacks (fs : List (Fact ℕ)) (x : ℕ) (u : NamedRow) : Type 0 where
-  pub waits : list_all (has fs x) u.waits.items ≡ true
+  pub waits : list_all (has fs x) u.waits ≡ true
   pub lacks : has fs x u.gives ≡ false
 
--- one of the rows gives x the concept d, which it does not have
-pub record NamedDue (fs : List (Fact ℕ)) (x : ℕ) (us : List NamedRow) (d : ℕ) : Type 0 where
+-- the row at this place gives x the concept d, which it does not have
+pub record NamedDue (fs : List (Fact ℕ)) (x : ℕ) (us : List NamedRow) (place d : ℕ) : Type 0 where
   pub row : NamedRow
-  pub is_in : Contains us row
+  pub stands : slice_get us place ≡ Some row
   pub gives : row.gives ≡ d
   pub due : NamedLacks fs x row
+
+-- one of the rows gives x what it does not have
+pub record PlainDue (fs : List (Fact ℕ)) (x : ℕ) (us : List PlainRow) (u : PlainRow) : Type 0 where
+  pub is_in : Contains us u
+  pub lacks : has fs x u.gives ≡ false
 
 -- what waits for a concept of x holds there
 pub record NamesHold (files : Files) (fs : List (Fact ℕ)) (x : ℕ) : Type 0 where
@@ -56,52 +97,42 @@ pub record NamesHold (files : Files) (fs : List (Fact ℕ)) (x : ℕ) : Type 0 w
 
 -- what is used where an edge of r from x to y begins and ends holds there
 pub record EdgeHolds (files : Files) (fs : List (Fact ℕ)) (x r y : ℕ) : Type 0 where
-  pub at_begin : All (λ d. has fs x d ≡ true) (files.begins r)
-  pub at_end : All (λ d. has fs y d ≡ true) (files.ends r)
+  pub at_begin : All (PlainHolds fs x) (files.begins r)
+  pub at_end : All (PlainHolds fs y) (files.ends r)
 
 pub record EdgesHold (files : Files) (fs : List (Fact ℕ)) (x : ℕ) : Type 0 where
   pub at_edges : (r y : ℕ) → is_successor fs (λ q. q == r) x y ≡ true → EdgeHolds files fs x r y
 
 -- what is filed holds at x
 pub record HoldsRows (files : Files) (fs : List (Fact ℕ)) (x : ℕ) : Type 0 where
-  pub at_each : All (λ d. has fs x d ≡ true) files.general
+  pub at_each : All (PlainHolds fs x) files.general
   pub names : NamesHold files fs x
   pub edges : EdgesHold files fs x
 
 -- the rows of the search are filed, and nothing else
 pub record AreFiled (w : SearchContext) (files : Files) : Type 0 where
-  pub general_adds : (d : ℕ) → Contains files.general d → (fs : List (Fact ℕ)) (x : ℕ) → x < node_count fs → Adds w fs x d
-  pub named_adds : (c : ℕ) (u : NamedRow) → Contains (files.named c) u → (fs : List (Fact ℕ)) (x : ℕ) → x < node_count fs → has fs x c ≡ true → list_all (has fs x) u.waits.items ≡ true
-      → Adds w fs x u.gives
-  pub begins_adds : (r d : ℕ) → Contains (files.begins r) d → (fs : List (Fact ℕ)) (x y : ℕ) → x < node_count fs → is_successor fs (λ q. q == r) x y ≡ true → Adds w fs x d
-  pub ends_adds : (r d : ℕ) → Contains (files.ends r) d → (fs : List (Fact ℕ)) (x y : ℕ) → x < node_count fs → is_successor fs (λ q. q == r) x y ≡ true → Adds w fs y d
+  pub general : All (IsPlain w always) files.general
+  pub named : (c : ℕ) → All (IsNamed w) (files.named c)
+  pub begins : (r : ℕ) → All (IsAtEdge w edge r) (files.begins r)
+  pub ends : (r : ℕ) → All (IsAtEdge w end_of r) (files.ends r)
+  -- each row is filed: where all that is filed holds at all nodes, each row that is used holds
   pub each_filed : (fs : List (Fact ℕ)) → ((x : ℕ) → x < node_count fs → HoldsRows files fs x) → (x : ℕ) (row : Row) → x < node_count fs → Contains w.rows row → is_used_at w fs row x ≡ true
       → has fs x row.concept ≡ true
 
 module _ (w : SearchContext) (fs : List (Fact ℕ)) where
-  -- a concept that is to be added to a node
-  pub record IsAddition (x d : ℕ) : Type 0 where
-    pub adds : Adds w fs x d
-    pub lacks : has fs x d ≡ false
-
   -- each successor of x by a role below s has e
   pub record AllEndsHave (x s e : ℕ) : Type 0 where
     pub have : (y : ℕ) → is_successor fs (λ r. below_of w r s) x y ≡ true → has fs y e ≡ true
 
-  -- y is a successor of x by a role below s, and does not have e
-  pub record LacksAtEnd (x s e y : ℕ) : Type 0 where
-    pub next : is_successor fs (λ r. below_of w r s) x y ≡ true
+  -- an edge of role q, below s, leads from x to the representative y, which does not have e
+  pub record LacksAtEnd (x s e q y : ℕ) : Type 0 where
+    pub next : is_successor fs (λ r. r == q) x y ≡ true
+    pub role_below : below_of w q s ≡ true
     pub lacks : has fs y e ≡ false
 
   -- what the pairs carry from x is there
   abbrev pub AllCarried : ℕ → List (ℕ × ℕ) → Type 0
   AllCarried x pairs = All (λ p. AllEndsHave x p.0 p.1) pairs
-
-  -- one of the pairs carries d from x to y, which does not have it
-  pub record LacksCarried (x : ℕ) (pairs : List (ℕ × ℕ)) (y d : ℕ) : Type 0 where
-    pub role : ℕ
-    pub is_pair : Contains pairs (role, d)
-    pub at_end : LacksAtEnd x role d y
 
   -- a universal restriction that is to be carried to a successor of x by a transitive role below s has a number, and is there
   pub record NoneToCarry (x s e : ℕ) : Type 0 where

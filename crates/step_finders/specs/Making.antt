@@ -6,7 +6,7 @@ use Rattle.shape_specs.specs.Shape.Shape.{some_of, at_least}
 use Rattle.fact_specs.specs.declared.Fact.{Fact}
 use Rattle.fact_specs.specs.Joins.{rep}
 use Rattle.fact_specs.specs.State.{node_count, has, is_successor, all_apart, fresh_facts}
-use Rattle.tableau_specs.specs.Steps.{SearchContext, below_of, Generates, is_run}
+use Rattle.tableau_specs.specs.Steps.{SearchContext, below_of, IsOpen, Generates, is_run}
 use Rattle.step_finders.specs.declared.make.NewNodes.{NewNodes}
 
 -- whether z is a number below the bound whose representative is in the list
@@ -22,10 +22,19 @@ abbrev pub AnswersAmong : List (Fact ℕ) → List ℕ → ℕ → ℕ → Bool 
 AnswersAmong fs ends bound n true = (y : ℕ) × (runs_among fs ends bound n y ≡ true)
 AnswersAmong fs ends bound n false = (y : ℕ) → y < bound → runs_among fs ends bound n y ≡ false
 
+-- a concept of this shape asks for these nodes
+abbrev pub Asks : Shape → NewNodes → Type 0
+Asks (some_of s e) m = (s ≡ m.role) × (e ≡ m.filler) × (m.count ≡ 1)
+Asks (at_least n s e) m = (s ≡ m.role) × (e ≡ m.filler) × (n ≡ m.count)
+Asks _ m = ⊥
+
 module _ (w : SearchContext) (fs : List (Fact ℕ)) where
-  -- these nodes are to be made
-  abbrev pub IsMaking : NewNodes → Type 0
-  IsMaking m = Generates w fs (fresh_facts m.parent m.role m.filler (node_count fs) m.count)
+  -- these nodes are to be made, since a concept of their parent asks for them
+  pub record IsMaking (m : NewNodes) : Type 0 where
+    pub generates : Generates w fs (fresh_facts m.parent m.role m.filler (node_count fs) m.count)
+    pub is_open : IsOpen w fs m.parent
+    pub holds : has fs m.parent m.concept ≡ true
+    pub asks : Asks (shape_of w.table m.concept) m
 
   -- x has a successor by a role below s that has e
   pub record HasFiller (x s e : ℕ) : Type 0 where

@@ -6,16 +6,17 @@ use Rattle.tableau_specs.specs.Items.{facts_of}
 use Rattle.tableau_specs.specs.Steps.{SearchContext, IsSaturated, HasPlainClash}
 use Rattle.step_finders.specs.declared.step.Step.{Step}
 use Rattle.step_finders.specs.declared.step.Step.TheVariants.{Add, Generate, Choose}
-use Rattle.step_finders.specs.Found.{IsAddition, NothingToAdd}
+use Rattle.step_finders.specs.Found.{Files, NothingToAdd}
+use Rattle.step_finders.specs.Reasons.{IsAddition}
 use Rattle.step_finders.specs.Choosing.{IsChoosable, NothingToChoose}
 use Rattle.step_finders.specs.Making.{IsMaking, NothingToMake}
 
 module _ (w : SearchContext) (fs : List (Fact ℕ)) where
   -- the step can be made where there is no plain clash
-  abbrev pub IsStep : Step → Type 0
-  IsStep (Add x d) = IsAddition w fs x d
-  IsStep (Generate m) = IsMaking w fs m
-  IsStep (Choose b) = IsChoosable w fs b
+  abbrev pub IsStep : Files → Step → Type 0
+  IsStep files (Add a) = IsAddition w fs files a
+  IsStep files (Generate m) = IsMaking w fs m
+  IsStep files (Choose b) = IsChoosable w fs b
 
   pub record NoStep : Type 0 where
     pub no_add : NothingToAdd w fs

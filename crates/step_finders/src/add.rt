@@ -2,17 +2,19 @@
 ghost use Rattle.std.specs.Prelude.{◌≡◌, ◌<◌, MatchOption};
 ghost use Rattle.fact_specs.specs.Joins.{rep};
 ghost use Rattle.fact_specs.specs.State.{node_count};
-ghost use Rattle.step_finders.specs.Found.{IsAddition, NothingToAdd, NothingFrom};
+ghost use Rattle.step_finders.specs.Found.{NothingToAdd, NothingFrom};
+ghost use Rattle.step_finders.specs.Reasons.{IsAddition};
 
 use crate::parts::find_at_node;
 use crate::rows::find_by_rows;
-use crate::{Rules, State};
+use crate::{Addition, Rules, State};
 
 /// A node and a concept that is to be added to it; none exactly where there is none.
-pub fn find_add<S: State, R: Rules>(state: &S, rules: &R) -> Option<(u32, u32)>
+pub fn find_add<S: State, R: Rules>(state: &S, rules: &R) -> Option<Addition>
     ensures { let w = R.context rules.now in let fs = S.facts state.now in
-        MatchOption result (NothingToAdd w fs) (λ a. IsAddition w fs a.0 a.1) }
+        MatchOption result (NothingToAdd w fs) (IsAddition w fs (R.files rules.now)) }
 {
+    rules.is_ready();
     for node in 0..state.nodes() {
         match find_at_representative(state, rules, node) {
             Some(addition) => return Some(addition),
@@ -23,11 +25,10 @@ pub fn find_add<S: State, R: Rules>(state: &S, rules: &R) -> Option<(u32, u32)>
 }
 
 // What is to be added because of what the node has, where it is a representative.
-fn find_at_representative<S: State, R: Rules>(state: &S, rules: &R, node: u32) -> Option<(u32, u32)>
+fn find_at_representative<S: State, R: Rules>(state: &S, rules: &R, node: u32) -> Option<Addition>
     requires { node < node_count (S.facts state.now) }
     ensures { let w = R.context rules.now in let fs = S.facts state.now in
-        MatchOption result (rep fs node ≡ node → NothingFrom w fs (R.files rules.now) node)
-        (λ a. IsAddition w fs a.0 a.1) }
+        MatchOption result (rep fs node ≡ node → NothingFrom w fs (R.files rules.now) node) (IsAddition w fs (R.files rules.now)) }
 {
     if state.representative(node) != node {
         return None;
@@ -35,11 +36,11 @@ fn find_at_representative<S: State, R: Rules>(state: &S, rules: &R, node: u32) -
     find_from(state, rules, node)
 }
 
-// What is to be added because of what the node has.
-fn find_from<S: State, R: Rules>(state: &S, rules: &R, node: u32) -> Option<(u32, u32)>
+/// What is to be added because of what the node has; none exactly where there is nothing.
+pub fn find_from<S: State, R: Rules>(state: &S, rules: &R, node: u32) -> Option<Addition>
     requires { node < node_count (S.facts state.now) }
     ensures { let w = R.context rules.now in let fs = S.facts state.now in
-        MatchOption result (NothingFrom w fs (R.files rules.now) node) (λ a. IsAddition w fs a.0 a.1) }
+        MatchOption result (NothingFrom w fs (R.files rules.now) node) (IsAddition w fs (R.files rules.now)) }
 {
     match find_at_node(state, rules, node) {
         Some(addition) => Some(addition),

@@ -2,17 +2,17 @@
 ghost use Rattle.std.specs.Prelude.{◌≡◌, ◌<◌, true, false, MatchOption, IfOk, IsTrue};
 ghost use Rattle.std.specs.List.{list_any};
 ghost use Rattle.shape_specs.specs.Shape.{shape_of};
-ghost use Rattle.shape_specs.specs.Shape.Shape.{at_most};
+ghost use Rattle.shape_specs.specs.Shape.Shape.{union, at_most};
 ghost use Rattle.fact_specs.specs.Joins.{rep};
-ghost use Rattle.fact_specs.specs.State.{node_count, has as holds};
-ghost use Rattle.step_finders.specs.Choosing.{IsChoosable, HasComplement, LacksComplement, IsDecided, IsUndecided, AllDecided, UndecidedAtEnd, NoPair, IsPair, NoChoiceByShape, NoChoiceAt, NothingToChoose};
+ghost use Rattle.fact_specs.specs.State.{node_count, has as holds, is_successor};
+ghost use Rattle.tableau_specs.specs.Steps.{below_of};
+ghost use Rattle.step_finders.specs.Choosing.{IsChoosable, HasComplement, LacksComplement, IsDecided, IsUndecided, AllDecided, UndecidedAtEnd, NoPair, IsPair, IsRoleTo, NoUnionByShape, NoMostByShape, NoUnionAt, NoMostAt, NoUnion, NoMost, NothingToChoose};
 
 use crate::counted::filled_successors;
 use crate::unapart::find_unapart;
-use crate::{NoMemory, Rules, State};
+use crate::{Choosing, NoMemory, Rules, State};
 use shq_nnf::Shape;
 use std::alloc::Global;
-use tableau_specs::Branch;
 
 // Whether the node has one of the concepts.
 fn has_any<S: State>(state: &S, node: u32, concepts: &[u32]) -> bool
@@ -31,6 +31,7 @@ fn has_complement<S: State, R: Rules>(state: &S, rules: &R, node: u32, concept: 
     ensures yes { IsTrue result → HasComplement (R.context rules.now) (S.facts state.now) node concept }
     ensures no { result ≡ false → LacksComplement (R.context rules.now) (S.facts state.now) node concept }
 {
+    rules.is_ready();
     match rules.complement(concept) {
         Some(complement) => state.has(node, complement),
         None => false,
@@ -48,20 +49,20 @@ fn is_decided<S: State, R: Rules>(state: &S, rules: &R, node: u32, concept: u32)
     has_complement(state, rules, node, concept)
 }
 
-// A successor by a role below this one that has neither the filler nor its complement.
+// An edge by a role below this one, as its role and its end, whose end has neither the filler nor its complement.
 fn find_undecided<S: State, R: Rules>(
     state: &S,
     rules: &R,
     node: u32,
     role: u32,
     filler: u32,
-) -> Option<u32>
+) -> Option<(u32, u32)>
     ensures { let w = R.context rules.now in let fs = S.facts state.now in
-        MatchOption result (AllDecided w fs node role filler) (UndecidedAtEnd w fs node role filler) }
+        MatchOption result (AllDecided w fs node role filler) (λ p. UndecidedAtEnd w fs node role filler p.0 p.1) }
 {
     for edge in state.edges(node) {
         if rules.is_below(edge.0, role) && !is_decided(state, rules, edge.1, filler) {
-            return Some(state.representative(edge.1));
+            return Some((edge.0, state.representative(edge.1)));
         }
     }
     None
@@ -88,7 +89,60 @@ fn find_pair<S: State, R: Rules>(
     Ok(find_unapart(state, &nodes))
 }
 
-// What there is to choose since the node has an 'at most'.
+/// A role below this one by which an edge leads from the node to this representative; none exactly where there is none.
+pub fn role_to<S: State, R: Rules>(
+    state: &S,
+    rules: &R,
+    node: u32,
+    role: u32,
+    end: u32,
+) -> Option<u32>
+    ensures { let w = R.context rules.now in let fs = S.facts state.now in
+        MatchOption result (is_successor fs (λ r. below_of w r role) node end ≡ false) (IsRoleTo w fs node role end) }
+{
+    for edge in state.edges(node) {
+        if rules.is_below(edge.0, role) && state.representative(edge.1) == end {
+            return Some(edge.0);
+        }
+    }
+    None
+}
+
+// The choice of two successors, with their edges.
+fn pair_of<S: State, R: Rules>(
+    state: &S,
+    rules: &R,
+    node: u32,
+    concept: u32,
+    count: u32,
+    role: u32,
+    filler: u32,
+    first: u32,
+    second: u32,
+) -> Option<Choosing>
+    requires is_node { node < node_count (S.facts state.now) }
+    requires holds { holds (S.facts state.now) node concept ≡ true }
+    requires shape { shape_of (R.context rules.now).table concept ≡ at_most count role filler }
+    requires pair { IsPair (R.context rules.now) (S.facts state.now) node count role filler first second }
+    ensures { MatchOption result ⊥ (IsChoosable (R.context rules.now) (S.facts state.now)) }
+{
+    match role_to(state, rules, node, role, first) {
+        Some(first_role) => match role_to(state, rules, node, role, second) {
+            Some(second_role) => Some(Choosing::Pair {
+                first,
+                second,
+                from: node,
+                first_role,
+                second_role,
+                concept,
+            }),
+            None => None,
+        },
+        None => None,
+    }
+}
+
+// What there is to choose at successors since the node has an 'at most'.
 fn find_by_most<S: State, R: Rules>(
     alloc: Global,
     state: &S,
@@ -98,45 +152,73 @@ fn find_by_most<S: State, R: Rules>(
     count: u32,
     role: u32,
     filler: u32,
-) -> Result<Option<Branch>, NoMemory>
+) -> Result<Option<Choosing>, NoMemory>
     requires is_node { node < node_count (S.facts state.now) }
     requires holds { holds (S.facts state.now) node concept ≡ true }
     requires shape { shape_of (R.context rules.now).table concept ≡ at_most count role filler }
     ensures { let w = R.context rules.now in let fs = S.facts state.now in
-        IfOk result (λ found. MatchOption found (NoChoiceByShape w fs node (at_most count role filler))
+        IfOk result (λ found. MatchOption found (NoMostByShape w fs node (at_most count role filler))
         (IsChoosable w fs)) }
 {
     match find_undecided(state, rules, node, role, filler) {
-        Some(end) => Ok(Some(Branch::Choose(end, filler))),
+        Some((by, end)) => Ok(Some(Choosing::Filler {
+            node: end,
+            filler,
+            from: node,
+            role: by,
+            concept,
+        })),
         None => match find_pair(alloc, state, rules, node, count, role, filler)? {
-            Some((first, second)) => Ok(Some(Branch::Pair(first, second))),
+            Some((first, second)) => Ok(pair_of(
+                state, rules, node, concept, count, role, filler, first, second,
+            )),
             None => Ok(None),
         },
     }
 }
 
-// What there is to choose since the node has the concept.
-fn find_by_concept<S: State, R: Rules>(
+// Which part is to be chosen since the node has a union.
+fn find_by_union<S: State, R: Rules>(
+    state: &S,
+    rules: &R,
+    node: u32,
+    concept: u32,
+    parts: &[u32],
+) -> Option<Choosing>
+    requires is_node { node < node_count (S.facts state.now) }
+    requires holds { holds (S.facts state.now) node concept ≡ true }
+    requires shape { shape_of (R.context rules.now).table concept ≡ union parts.now }
+    ensures { let w = R.context rules.now in let fs = S.facts state.now in
+        MatchOption result (NoUnionByShape w fs node (union parts.now)) (IsChoosable w fs) }
+{
+    rules.is_ready();
+    if has_any(state, node, parts) {
+        None
+    } else {
+        Some(Choosing::Union { node, concept })
+    }
+}
+
+/// What there is to choose at successors since the node has the concept, where that is an 'at most'; none exactly where
+/// there is nothing.
+///
+/// # Errors
+///
+/// Want of memory.
+pub fn find_most_by<S: State, R: Rules>(
     alloc: Global,
     state: &S,
     rules: &R,
     node: u32,
     concept: u32,
-) -> Result<Option<Branch>, NoMemory>
+) -> Result<Option<Choosing>, NoMemory>
     requires is_node { node < node_count (S.facts state.now) }
     requires holds { holds (S.facts state.now) node concept ≡ true }
     ensures { let w = R.context rules.now in let fs = S.facts state.now in
-        IfOk result (λ found. MatchOption found (NoChoiceByShape w fs node (shape_of w.table concept))
+        IfOk result (λ found. MatchOption found (NoMostByShape w fs node (shape_of w.table concept))
         (IsChoosable w fs)) }
 {
     match rules.shape(concept) {
-        Shape::Or(parts) => {
-            if has_any(state, node, parts) {
-                Ok(None)
-            } else {
-                Ok(Some(Branch::Or(node, concept)))
-            }
-        }
         Shape::Max(count, role, filler) => {
             find_by_most(alloc, state, rules, node, concept, count, role, filler)
         }
@@ -144,44 +226,129 @@ fn find_by_concept<S: State, R: Rules>(
     }
 }
 
-// What there is to choose since the node has some concept.
-fn find_from<S: State, R: Rules>(
+/// Which part is to be chosen since the node has the concept, where that is a union; none exactly where none is.
+pub fn find_union_by<S: State, R: Rules>(
+    state: &S,
+    rules: &R,
+    node: u32,
+    concept: u32,
+) -> Option<Choosing>
+    requires is_node { node < node_count (S.facts state.now) }
+    requires holds { holds (S.facts state.now) node concept ≡ true }
+    ensures { let w = R.context rules.now in let fs = S.facts state.now in
+        MatchOption result (NoUnionByShape w fs node (shape_of w.table concept)) (IsChoosable w fs) }
+{
+    match rules.shape(concept) {
+        Shape::Or(parts) => find_by_union(state, rules, node, concept, parts),
+        _ => None,
+    }
+}
+
+/// What there is to choose at successors of the node; none exactly where there is nothing.
+///
+/// # Errors
+///
+/// Want of memory.
+pub fn find_most_at<S: State, R: Rules>(
     alloc: Global,
     state: &S,
     rules: &R,
     node: u32,
-) -> Result<Option<Branch>, NoMemory>
+) -> Result<Option<Choosing>, NoMemory>
     requires { node < node_count (S.facts state.now) }
     ensures { let w = R.context rules.now in let fs = S.facts state.now in
-        IfOk result (λ found. MatchOption found (NoChoiceAt w fs node) (IsChoosable w fs)) }
+        IfOk result (λ found. MatchOption found (NoMostAt w fs node) (IsChoosable w fs)) }
 {
     for concept in state.label(node) {
-        match find_by_concept(alloc, state, rules, node, *concept)? {
-            Some(branch) => return Ok(Some(branch)),
+        match find_most_by(alloc, state, rules, node, *concept)? {
+            Some(choosing) => return Ok(Some(choosing)),
             None => {}
         }
     }
     Ok(None)
 }
 
-// The same, where the node is a representative.
-fn find_at_representative<S: State, R: Rules>(
+/// Which part of a union of the node is to be chosen; none exactly where none is.
+pub fn find_union_at<S: State, R: Rules>(state: &S, rules: &R, node: u32) -> Option<Choosing>
+    requires { node < node_count (S.facts state.now) }
+    ensures { let w = R.context rules.now in let fs = S.facts state.now in
+        MatchOption result (NoUnionAt w fs node) (IsChoosable w fs) }
+{
+    for concept in state.label(node) {
+        match find_union_by(state, rules, node, *concept) {
+            Some(choosing) => return Some(choosing),
+            None => {}
+        }
+    }
+    None
+}
+
+// What there is to choose at successors of the node, where it is a representative.
+fn find_most_of_rep<S: State, R: Rules>(
     alloc: Global,
     state: &S,
     rules: &R,
     node: u32,
-) -> Result<Option<Branch>, NoMemory>
+) -> Result<Option<Choosing>, NoMemory>
     requires { node < node_count (S.facts state.now) }
     ensures { let w = R.context rules.now in let fs = S.facts state.now in
-        IfOk result (λ found. MatchOption found (rep fs node ≡ node → NoChoiceAt w fs node) (IsChoosable w fs)) }
+        IfOk result (λ found. MatchOption found (rep fs node ≡ node → NoMostAt w fs node) (IsChoosable w fs)) }
 {
     if state.representative(node) != node {
         return Ok(None);
     }
-    find_from(alloc, state, rules, node)
+    find_most_at(alloc, state, rules, node)
 }
 
-/// What there is to choose; none exactly where there is nothing.
+// Which part of a union of the node is to be chosen, where it is a representative.
+fn find_union_of_rep<S: State, R: Rules>(state: &S, rules: &R, node: u32) -> Option<Choosing>
+    requires { node < node_count (S.facts state.now) }
+    ensures { let w = R.context rules.now in let fs = S.facts state.now in
+        MatchOption result (rep fs node ≡ node → NoUnionAt w fs node) (IsChoosable w fs) }
+{
+    if state.representative(node) != node {
+        return None;
+    }
+    find_union_at(state, rules, node)
+}
+
+/// A filler to be chosen at a successor, or two successors to be made one or kept apart; none exactly where there are none.
+///
+/// # Errors
+///
+/// Want of memory.
+pub fn find_most<S: State, R: Rules>(
+    alloc: Global,
+    state: &S,
+    rules: &R,
+) -> Result<Option<Choosing>, NoMemory>
+    ensures { let w = R.context rules.now in let fs = S.facts state.now in
+        IfOk result (λ found. MatchOption found (NoMost w fs) (IsChoosable w fs)) }
+{
+    for node in 0..state.nodes() {
+        match find_most_of_rep(alloc, state, rules, node)? {
+            Some(choosing) => return Ok(Some(choosing)),
+            None => {}
+        }
+    }
+    Ok(None)
+}
+
+/// A union of which a part is to be chosen; none exactly where there is none.
+pub fn find_union<S: State, R: Rules>(state: &S, rules: &R) -> Option<Choosing>
+    ensures { let w = R.context rules.now in let fs = S.facts state.now in
+        MatchOption result (NoUnion w fs) (IsChoosable w fs) }
+{
+    for node in 0..state.nodes() {
+        match find_union_of_rep(state, rules, node) {
+            Some(choosing) => return Some(choosing),
+            None => {}
+        }
+    }
+    None
+}
+
+/// What there is to choose, fillers and pairs before unions; none exactly where there is nothing.
 ///
 /// # Errors
 ///
@@ -190,15 +357,12 @@ pub fn find_choice<S: State, R: Rules>(
     alloc: Global,
     state: &S,
     rules: &R,
-) -> Result<Option<Branch>, NoMemory>
+) -> Result<Option<Choosing>, NoMemory>
     ensures { let w = R.context rules.now in let fs = S.facts state.now in
         IfOk result (λ found. MatchOption found (NothingToChoose w fs) (IsChoosable w fs)) }
 {
-    for node in 0..state.nodes() {
-        match find_at_representative(alloc, state, rules, node)? {
-            Some(branch) => return Ok(Some(branch)),
-            None => {}
-        }
+    match find_most(alloc, state, rules)? {
+        Some(choosing) => Ok(Some(choosing)),
+        None => Ok(find_union(state, rules)),
     }
-    Ok(None)
 }

@@ -1,12 +1,13 @@
-// A plain clash that a concept more makes.
-ghost use Rattle.std.specs.Prelude.{◌≡◌, ◌<◌, true, MatchOption, IfOk};
+// A plain clash that a step makes.
+ghost use Rattle.std.specs.Prelude.{◌≡◌, ℕ, ◌<◌, ◌↔◌, true, MatchOption, IfOk, IsTrue};
 ghost use Rattle.std.specs.List.{All};
 ghost use Rattle.shape_specs.specs.Shape.{shape_of};
+ghost use Rattle.shape_specs.specs.Shape.Shape.{bottom};
 ghost use Rattle.fact_specs.specs.State.{node_count, has as holds};
 ghost use Rattle.shape_specs.specs.Tree.{IsComplement};
 ghost use Rattle.clash_specs.specs.Near.{speak_of_nodes};
 ghost use Rattle.step_finders.specs.Choosing.{LacksComplement};
-ghost use Rattle.step_finders.specs.Clashing.{IsShown, AnswersOverrun, NotOverrun, IsMost, NoneByShape, NoneAbove, NoClashBy, IsOfParent};
+ghost use Rattle.step_finders.specs.Clashing.{IsShown, AnswersOverrun, NotOverrun, IsMost, NoneByShape, NoneAbove, NoClashBy, IsOfParent, NoneOver, NoClashByNew, NoClashByApart, NoClashByJoin, ShownClashesArePlain};
 
 use crate::counted::filled_successors;
 use crate::unapart::find_unapart;
@@ -18,11 +19,28 @@ use std::alloc::Global;
 #[derive(Clone, Copy, Debug, PartialEq, Eq)]
 pub enum Clash {
     /// A node that has bottom.
-    Bottom(u32),
-    /// A node that has a class, as a concept, and its complement.
-    Both(u32, u32),
+    Bottom {
+        /// The node.
+        node: u32,
+        /// The number of bottom.
+        concept: u32,
+    },
+    /// A node that has a class and its complement.
+    Both {
+        /// The node.
+        node: u32,
+        /// The number of the class.
+        class: u32,
+        /// The number of its complement.
+        complement: u32,
+    },
     /// A node with an 'at most' of too many.
-    Most(u32, u32),
+    Most {
+        /// The node.
+        node: u32,
+        /// The number of the 'at most'.
+        concept: u32,
+    },
 }
 
 // Whether the successors with the filler are more than so many, and pairwise apart.
@@ -67,7 +85,7 @@ fn find_by_most<S: State, R: Rules>(
     match rules.shape(concept) {
         Shape::Max(count, role, _) => {
             if is_overrun(alloc, state, rules, node, count, role, filler)? {
-                Ok(Some(Clash::Most(node, concept)))
+                Ok(Some(Clash::Most { node, concept }))
             } else {
                 Ok(None)
             }
@@ -105,6 +123,7 @@ fn find_opposite<S: State, R: Rules>(state: &S, rules: &R, node: u32, concept: u
         MatchOption result (LacksComplement w fs node concept)
         (λ c. IsComplement w.table concept c × (holds fs node c ≡ true)) }
 {
+    rules.is_ready();
     match rules.complement(concept) {
         Some(complement) => {
             if state.has(node, complement) {
@@ -130,19 +149,28 @@ fn find_at_node<S: State, R: Rules>(
     ensures { let w = R.context rules.now in let fs = S.facts state.now in
         IfOk result (λ found. MatchOption found (NoneByShape w fs node (shape_of w.table concept)) (IsShown w fs)) }
 {
+    rules.is_ready();
     match rules.shape(concept) {
-        Shape::Bottom => Ok(Some(Clash::Bottom(node))),
+        Shape::Bottom => Ok(Some(Clash::Bottom { node, concept })),
         Shape::Name(_) => match find_opposite(state, rules, node, concept) {
-            Some(_) => Ok(Some(Clash::Both(node, concept))),
+            Some(complement) => Ok(Some(Clash::Both {
+                node,
+                class: concept,
+                complement,
+            })),
             None => Ok(None),
         },
         Shape::NotName(_) => match find_opposite(state, rules, node, concept) {
-            Some(class) => Ok(Some(Clash::Both(node, class))),
+            Some(class) => Ok(Some(Clash::Both {
+                node,
+                class,
+                complement: concept,
+            })),
             None => Ok(None),
         },
         Shape::Max(count, role, filler) => {
             if is_overrun(alloc, state, rules, node, count, role, filler)? {
-                Ok(Some(Clash::Most(node, concept)))
+                Ok(Some(Clash::Most { node, concept }))
             } else {
                 Ok(None)
             }
@@ -201,3 +229,160 @@ pub fn find_clash<S: State, R: Rules>(
         }
     }
 }
+
+// A clash by an 'at most' of the node with this filler.
+fn find_by_filler<S: State, R: Rules>(
+    alloc: Global,
+    state: &S,
+    rules: &R,
+    node: u32,
+    filler: u32,
+) -> Result<Option<Clash>, NoMemory>
+    requires { node < node_count (S.facts state.now) }
+    ensures { let w = R.context rules.now in let fs = S.facts state.now in
+        IfOk result (λ found. MatchOption found (NoneOver w fs node filler) (IsShown w fs)) }
+{
+    let found = find_by_mosts(alloc, state, rules, node, filler, rules.mosts(filler))?;
+    Ok(found)
+}
+
+// Whether the concept is bottom.
+fn is_bottom<R: Rules>(rules: &R, concept: u32) -> bool
+    ensures { IsTrue result ↔ (shape_of (R.context rules.now).table concept ≡ bottom) }
+{
+    match rules.shape(concept) {
+        Shape::Bottom => true,
+        _ => false,
+    }
+}
+
+// A clash by an 'at most' of the node whose filler is this one or top.
+fn find_by_fillers<S: State, R: Rules>(
+    alloc: Global,
+    state: &S,
+    rules: &R,
+    node: u32,
+    filler: u32,
+) -> Result<Option<Clash>, NoMemory>
+    requires { node < node_count (S.facts state.now) }
+    ensures { let w = R.context rules.now in let fs = S.facts state.now in
+        IfOk result (λ found. MatchOption found (NoneOver w fs node 0 × NoneOver w fs node filler) (IsShown w fs)) }
+{
+    match find_by_filler(alloc, state, rules, node, 0)? {
+        Some(clash) => Ok(Some(clash)),
+        None => {
+            let found = find_by_filler(alloc, state, rules, node, filler)?;
+            Ok(found)
+        }
+    }
+}
+
+/// A plain clash that is there since new nodes with this concept are at the ends of edges from the parent, where `first` is
+/// one of them; none exactly where there is none.
+///
+/// # Errors
+///
+/// Want of memory.
+pub fn find_clash_of_new_nodes<S: State, R: Rules>(
+    alloc: Global,
+    state: &S,
+    rules: &R,
+    parent: u32,
+    filler: u32,
+    first: u32,
+) -> Result<Option<Clash>, NoMemory>
+    requires parent { parent < node_count (S.facts state.now) }
+    requires first { first < node_count (S.facts state.now) }
+    requires holds { holds (S.facts state.now) first filler ≡ true }
+    ensures { let w = R.context rules.now in let fs = S.facts state.now in
+        IfOk result (λ found. MatchOption found ((s : ℕ) → NoClashByNew w fs parent s filler) (IsShown w fs)) }
+{
+    if is_bottom(rules, filler) {
+        return Ok(Some(Clash::Bottom {
+            node: first,
+            concept: filler,
+        }));
+    }
+    let found = find_by_fillers(alloc, state, rules, parent, filler)?;
+    Ok(found)
+}
+
+// A clash above the first node by the concept, where the second has it too.
+fn find_shared<S: State, R: Rules>(
+    alloc: Global,
+    state: &S,
+    rules: &R,
+    first: u32,
+    second: u32,
+    concept: u32,
+) -> Result<Option<Clash>, NoMemory>
+    requires is_node { first < node_count (S.facts state.now) }
+    requires speak { speak_of_nodes (S.facts state.now) ≡ true }
+    requires above { IsOfParent (S.facts state.now) first }
+    ensures { let w = R.context rules.now in let fs = S.facts state.now in
+        IfOk result (λ found. MatchOption found (holds fs second concept ≡ true → NoneAbove w fs first concept) (IsShown w fs)) }
+{
+    if !state.has(second, concept) {
+        return Ok(None);
+    }
+    let found = find_above(alloc, state, rules, first, concept)?;
+    Ok(found)
+}
+
+/// A plain clash that is there since the two nodes are apart; none exactly where there is none.
+///
+/// # Errors
+///
+/// Want of memory.
+pub fn find_clash_of_apart<S: State, R: Rules>(
+    alloc: Global,
+    state: &S,
+    rules: &R,
+    first: u32,
+    second: u32,
+) -> Result<Option<Clash>, NoMemory>
+    requires is_node { first < node_count (S.facts state.now) }
+    requires speak { speak_of_nodes (S.facts state.now) ≡ true }
+    requires above { IsOfParent (S.facts state.now) first }
+    ensures { let w = R.context rules.now in let fs = S.facts state.now in
+        IfOk result (λ found. MatchOption found (NoClashByApart w fs first second) (IsShown w fs)) }
+{
+    for concept in state.label(first) {
+        match find_shared(alloc, state, rules, first, second, *concept)? {
+            Some(clash) => return Ok(Some(clash)),
+            None => {}
+        }
+    }
+    Ok(None)
+}
+
+/// A plain clash that is there since the node is one with another; none exactly where there is none.
+///
+/// # Errors
+///
+/// Want of memory.
+pub fn find_clash_of_join<S: State, R: Rules>(
+    alloc: Global,
+    state: &S,
+    rules: &R,
+    node: u32,
+) -> Result<Option<Clash>, NoMemory>
+    requires is_node { node < node_count (S.facts state.now) }
+    requires speak { speak_of_nodes (S.facts state.now) ≡ true }
+    requires above { IsOfParent (S.facts state.now) node }
+    ensures { let w = R.context rules.now in let fs = S.facts state.now in
+        IfOk result (λ found. MatchOption found (NoClashByJoin w fs node) (IsShown w fs)) }
+{
+    for concept in state.label(node) {
+        match find_clash(alloc, state, rules, node, *concept)? {
+            Some(clash) => return Ok(Some(clash)),
+            None => {}
+        }
+    }
+    Ok(None)
+}
+
+/// What the finders show is a plain clash.
+pub fn shown_clashes_are_plain()
+    ensures { ShownClashesArePlain }
+{}

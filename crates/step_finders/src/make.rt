@@ -14,13 +14,19 @@ use crate::{NoMemory, Rules, State};
 use shq_nnf::Shape;
 use std::alloc::Global;
 
-/// Nodes to be made: the node below which they are, the role and the concept, and how many.
+/// Nodes to be made at the ends of edges.
 #[derive(Clone, Copy, Debug, PartialEq, Eq)]
 pub struct NewNodes {
+    /// The node where the edges begin.
     pub parent: u32,
+    /// The role of the edges.
     pub role: u32,
+    /// The number of the concept that each new node gets.
     pub filler: u32,
+    /// How many nodes.
     pub count: u32,
+    /// The number of the parent's concept that asks for them.
+    pub concept: u32,
 }
 
 // Whether a successor by a role below this one has the filler.
@@ -106,8 +112,39 @@ fn has_run_among<S: State>(state: &S, ends: &[u32], bound: u32, count: u32) -> b
     false
 }
 
-// What is to be made since the node has the concept.
-fn find_by_concept<S: State, R: Rules>(
+// What is to be made since the node has an existential restriction.
+fn find_by_some<S: State, R: Rules>(
+    state: &S,
+    rules: &R,
+    node: u32,
+    concept: u32,
+    role: u32,
+    filler: u32,
+) -> Option<NewNodes>
+    requires is_open { IsOpen (R.context rules.now) (S.facts state.now) node }
+    requires holds { holds (S.facts state.now) node concept ≡ true }
+    requires shape { shape_of (R.context rules.now).table concept ≡ some_of role filler }
+    ensures { let w = R.context rules.now in let fs = S.facts state.now in
+        MatchOption result (NoMakingByShape w fs node (some_of role filler)) (IsMaking w fs) }
+{
+    if has_filler(state, rules, node, role, filler) {
+        return None;
+    }
+    Some(NewNodes {
+        parent: node,
+        role,
+        filler,
+        count: 1,
+        concept,
+    })
+}
+
+/// What is to be made since the node has the concept; none exactly where nothing is.
+///
+/// # Errors
+///
+/// Want of memory.
+pub fn find_making_by<S: State, R: Rules>(
     alloc: Global,
     state: &S,
     rules: &R,
@@ -122,16 +159,7 @@ fn find_by_concept<S: State, R: Rules>(
 {
     match rules.shape(concept) {
         Shape::SomeOf(role, filler) => {
-            if has_filler(state, rules, node, role, filler) {
-                Ok(None)
-            } else {
-                Ok(Some(NewNodes {
-                    parent: node,
-                    role,
-                    filler,
-                    count: 1,
-                }))
-            }
+            Ok(find_by_some(state, rules, node, concept, role, filler))
         }
         Shape::Min(count, role, filler) => find_by_least(
             alloc, state, rules, node, concept, count, role, filler,
@@ -159,6 +187,7 @@ fn find_by_least<S: State, R: Rules>(
         IfOk result (λ found. MatchOption found (NoMakingByShape w fs node (at_least count role filler))
         (IsMaking w fs)) }
 {
+    rules.is_ready();
     if has_run(alloc, state, rules, node, count, role, filler)? {
         return Ok(None);
     }
@@ -167,11 +196,16 @@ fn find_by_least<S: State, R: Rules>(
         role,
         filler,
         count,
+        concept,
     }))
 }
 
-// What is to be made since the node has some concept.
-fn find_from<S: State, R: Rules>(
+/// What is to be made since the node has some concept; none exactly where nothing is.
+///
+/// # Errors
+///
+/// Want of memory.
+pub fn find_making_at<S: State, R: Rules>(
     alloc: Global,
     state: &S,
     rules: &R,
@@ -182,7 +216,7 @@ fn find_from<S: State, R: Rules>(
         IfOk result (λ found. MatchOption found (NoMakingAt w fs node) (IsMaking w fs)) }
 {
     for concept in state.label(node) {
-        match find_by_concept(alloc, state, rules, node, *concept)? {
+        match find_making_by(alloc, state, rules, node, *concept)? {
             Some(new) => return Ok(Some(new)),
             None => {}
         }
@@ -207,7 +241,7 @@ fn find_at_open<S: State, R: Rules>(
     if !state.is_clear(node) {
         return Ok(None);
     }
-    find_from(alloc, state, rules, node)
+    find_making_at(alloc, state, rules, node)
 }
 
 /// What nodes are to be made; none exactly where there are none.

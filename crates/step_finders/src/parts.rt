@@ -2,15 +2,15 @@
 ghost use Rattle.std.specs.Prelude.{◌≡◌, ℕ, ◌<◌, true, false, MatchOption, List};
 ghost use Rattle.std.specs.List.{All, Contains};
 ghost use Rattle.shape_specs.specs.Shape.{shape_of};
-ghost use Rattle.shape_specs.specs.Shape.Shape.{all_of};
-ghost use Rattle.fact_specs.specs.Joins.{rep};
+ghost use Rattle.shape_specs.specs.Shape.Shape.{all_of, intersection};
 ghost use Rattle.fact_specs.specs.State.{node_count, has as holds};
-ghost use Rattle.step_finders.specs.Found.{IsAddition, NoneByShape, NoneByConcepts, AllEndsHave, LacksAtEnd, LacksCarried, AllCarried, AreCarries};
+ghost use Rattle.step_finders.specs.Found.{NoneByShape, NoneByConcepts, AllEndsHave, LacksAtEnd, AllCarried, AreCarries};
+ghost use Rattle.step_finders.specs.Reasons.{IsAddition};
 
-use crate::{Rules, State};
+use crate::{Addition, Reason, Rules, State};
 use shq_nnf::Shape;
 
-/// A part that the node does not have.
+/// One of the concepts that the node does not have.
 pub fn find_part<S: State>(state: &S, node: u32, parts: &[u32]) -> Option<u32>
     ensures { let fs = S.facts state.now in
         MatchOption result (All (λ d. holds fs node d ≡ true) parts.now)
@@ -24,93 +24,148 @@ pub fn find_part<S: State>(state: &S, node: u32, parts: &[u32]) -> Option<u32>
     None
 }
 
-/// A successor by a role below this one that does not have the filler.
+// An edge by a role below this one, as its role and its end, whose end does not have the filler.
 #[tactic(auto, using(crate::proofs::Edges::all_ends_have, crate::proofs::Edges::lacks_at_end))]
-pub fn find_end<S: State, R: Rules>(
+fn find_end<S: State, R: Rules>(
     state: &S,
     rules: &R,
     node: u32,
     role: u32,
     filler: u32,
-) -> Option<u32>
+) -> Option<(u32, u32)>
     ensures { let w = R.context rules.now in let fs = S.facts state.now in
-        MatchOption result (AllEndsHave w fs node role filler) (LacksAtEnd w fs node role filler) }
+        MatchOption result (AllEndsHave w fs node role filler) (λ p. LacksAtEnd w fs node role filler p.0 p.1) }
 {
     for edge in state.edges(node) {
         if rules.is_below(edge.0, role) && !state.has(edge.1, filler) {
-            return Some(state.representative(edge.1));
+            return Some((edge.0, state.representative(edge.1)));
         }
     }
     None
 }
 
-/// A successor and a universal restriction that is to be carried to it.
-pub fn find_carried<S: State, R: Rules>(
+// What the transitive roles of these pairs carry to a successor, where they are those of the universal restriction.
+fn find_carried<S: State, R: Rules>(
     state: &S,
     rules: &R,
     node: u32,
+    concept: u32,
+    role: u32,
+    filler: u32,
     carries: &[(u32, u32)],
-) -> Option<(u32, u32)>
+) -> Option<Addition>
+    requires is_node { node < node_count (S.facts state.now) }
+    requires holds { holds (S.facts state.now) node concept ≡ true }
+    requires shape { shape_of (R.context rules.now).table concept ≡ all_of role filler }
+    requires carries { AreCarries (R.context rules.now) role filler carries.now }
     ensures { let w = R.context rules.now in let fs = S.facts state.now in
-        MatchOption result (AllCarried w fs node carries.now) (λ a. LacksCarried w fs node carries.now a.0 a.1) }
+        MatchOption result (AllCarried w fs node carries.now) (IsAddition w fs (R.files rules.now)) }
 {
     for carry in carries {
         match find_end(state, rules, node, carry.0, carry.1) {
-            Some(end) => return Some((end, carry.1)),
+            Some((by, end)) => {
+                return Some(Addition {
+                    node: end,
+                    concept: carry.1,
+                    reason: Reason::Carry {
+                        from: node,
+                        role: by,
+                        over: carry.0,
+                        concept,
+                    },
+                });
+            }
             None => {}
         }
     }
     None
 }
 
-/// What the node's universal restriction of this role and filler adds to a successor, where `carries` are the pairs of it.
-pub fn find_by_all<S: State, R: Rules>(
+// What the node's universal restriction of this role and filler adds to a successor.
+fn find_by_all<S: State, R: Rules>(
     state: &S,
     rules: &R,
     node: u32,
     concept: u32,
     role: u32,
     filler: u32,
-) -> Option<(u32, u32)>
+) -> Option<Addition>
     requires is_node { node < node_count (S.facts state.now) }
     requires holds { holds (S.facts state.now) node concept ≡ true }
     requires shape { shape_of (R.context rules.now).table concept ≡ all_of role filler }
     ensures { let w = R.context rules.now in let fs = S.facts state.now in
-        MatchOption result (NoneByShape w fs node (all_of role filler)) (λ a. IsAddition w fs a.0 a.1) }
+        MatchOption result (NoneByShape w fs node (all_of role filler)) (IsAddition w fs (R.files rules.now)) }
 {
     match find_end(state, rules, node, role, filler) {
-        Some(end) => Some((end, filler)),
-        None => find_carried(state, rules, node, rules.carries(concept)),
+        Some((by, end)) => Some(Addition {
+            node: end,
+            concept: filler,
+            reason: Reason::All {
+                from: node,
+                role: by,
+                concept,
+            },
+        }),
+        None => find_carried(
+            state,
+            rules,
+            node,
+            concept,
+            role,
+            filler,
+            rules.carries(concept),
+        ),
     }
 }
 
-/// What a concept of the node adds to a node.
+// What the node's intersection of these parts adds to it.
+fn find_by_and<S: State, R: Rules>(
+    state: &S,
+    rules: &R,
+    node: u32,
+    concept: u32,
+    parts: &[u32],
+) -> Option<Addition>
+    requires is_node { node < node_count (S.facts state.now) }
+    requires holds { holds (S.facts state.now) node concept ≡ true }
+    requires shape { shape_of (R.context rules.now).table concept ≡ intersection parts.now }
+    ensures { let w = R.context rules.now in let fs = S.facts state.now in
+        MatchOption result (All (λ d. holds fs node d ≡ true) parts.now) (IsAddition w fs (R.files rules.now)) }
+{
+    match find_part(state, node, parts) {
+        Some(part) => Some(Addition {
+            node,
+            concept: part,
+            reason: Reason::And { concept },
+        }),
+        None => None,
+    }
+}
+
+/// What a concept of the node adds to a node; none exactly where it adds nothing.
 pub fn find_by_concept<S: State, R: Rules>(
     state: &S,
     rules: &R,
     node: u32,
     concept: u32,
-) -> Option<(u32, u32)>
+) -> Option<Addition>
     requires is_node { node < node_count (S.facts state.now) }
     requires holds { holds (S.facts state.now) node concept ≡ true }
     ensures { let w = R.context rules.now in let fs = S.facts state.now in
-        MatchOption result (NoneByShape w fs node (shape_of w.table concept)) (λ a. IsAddition w fs a.0 a.1) }
+        MatchOption result (NoneByShape w fs node (shape_of w.table concept)) (IsAddition w fs (R.files rules.now)) }
 {
     match rules.shape(concept) {
-        Shape::And(parts) => match find_part(state, node, parts) {
-            Some(part) => Some((node, part)),
-            None => None,
-        },
+        Shape::And(parts) => find_by_and(state, rules, node, concept, parts),
         Shape::AllOf(role, filler) => find_by_all(state, rules, node, concept, role, filler),
         _ => None,
     }
 }
 
-/// What a concept of the node adds to a node.
-pub fn find_at_node<S: State, R: Rules>(state: &S, rules: &R, node: u32) -> Option<(u32, u32)>
+/// What the concepts of the node add to a node; none exactly where they add nothing.
+pub fn find_at_node<S: State, R: Rules>(state: &S, rules: &R, node: u32) -> Option<Addition>
     requires { node < node_count (S.facts state.now) }
     ensures { let w = R.context rules.now in let fs = S.facts state.now in
-        MatchOption result (NoneByConcepts w fs node) (λ a. IsAddition w fs a.0 a.1) }
+        MatchOption result (NoneByConcepts w fs node) (IsAddition w fs (R.files rules.now)) }
 {
     for concept in state.label(node) {
         match find_by_concept(state, rules, node, *concept) {

@@ -1,11 +1,12 @@
 // What the rows add.
 ghost use Rattle.std.specs.Prelude.{◌≡◌, ℕ, ◌<◌, ◌==◌, true, false, MatchOption, IsTrue};
-ghost use Rattle.std.specs.List.{All, Contains, list_all};
+ghost use Rattle.std.specs.List.{All, list_all};
 ghost use Rattle.fact_specs.specs.State.{node_count, has as holds, is_successor};
-ghost use Rattle.step_finders.specs.Found.{IsAddition, NamedHold, NamedLacks, NamedDue, NamesHold, EdgeHolds, EdgesHold, HoldsRows};
+ghost use Rattle.step_finders.specs.Found.{PlainHolds, PlainDue, NamedHold, NamedLacks, NamedDue, NamesHold, EdgeHolds, EdgesHold, HoldsRows};
+ghost use Rattle.step_finders.specs.Reasons.{IsAddition};
 
 use crate::parts::find_part;
-use crate::{NamedRow, Rules, State};
+use crate::{Addition, NamedRow, PlainRow, Reason, Rules, State};
 
 // Whether the node has each of the concepts.
 fn has_all<S: State>(state: &S, node: u32, concepts: &[u32]) -> bool
@@ -22,46 +23,63 @@ fn is_due<S: State>(state: &S, node: u32, row: &NamedRow) -> bool
     ensures yes { IsTrue result → NamedLacks (S.facts state.now) node row.now }
     ensures no { result ≡ false → NamedHold (S.facts state.now) node row.now }
 {
-    !state.has(node, row.gives) && has_all(state, node, &row.waits)
+    !state.has(node, row.gives) && has_all(state, node, row.waits.items())
 }
 
-// What one of the rows gives the node, which does not have it.
-fn find_due<S: State>(state: &S, node: u32, rows: &[NamedRow]) -> Option<u32>
+// The place of a row that gives the node what it does not have, and what it gives.
+fn find_due<S: State>(state: &S, node: u32, rows: &[NamedRow]) -> Option<(usize, u32)>
     ensures { let fs = S.facts state.now in
-        MatchOption result (All (NamedHold fs node) rows.now) (λ d. NamedDue fs node rows.now d) }
+        MatchOption result (All (NamedHold fs node) rows.now) (λ p. NamedDue fs node rows.now p.0 p.1) }
 {
-    for row in rows {
+    for (place, row) in rows.iter().enumerate() {
         if is_due(state, node, row) {
-            return Some(row.gives);
+            return Some((place, row.gives));
         }
     }
     None
 }
 
-/// What a row gives the node since it has the concept.
-fn find_by_name<S: State, R: Rules>(
+// A row that gives the node what it does not have.
+fn find_plain<S: State>(state: &S, node: u32, rows: &[PlainRow]) -> Option<PlainRow>
+    ensures { let fs = S.facts state.now in
+        MatchOption result (All (PlainHolds fs node) rows.now) (PlainDue fs node rows.now) }
+{
+    for row in rows {
+        if !state.has(node, row.gives) {
+            return Some(*row);
+        }
+    }
+    None
+}
+
+/// What a row gives the node that waits for one of its concepts, among others; none exactly where they give nothing new.
+pub fn find_by_name<S: State, R: Rules>(
     state: &S,
     rules: &R,
     node: u32,
     concept: u32,
-) -> Option<(u32, u32)>
+) -> Option<Addition>
     requires is_node { node < node_count (S.facts state.now) }
     requires holds { holds (S.facts state.now) node concept ≡ true }
     ensures { let w = R.context rules.now in let fs = S.facts state.now in
-        MatchOption result (All (NamedHold fs node) ((R.files rules.now).named concept))
-        (λ a. IsAddition w fs a.0 a.1) }
+        MatchOption result (All (NamedHold fs node) ((R.files rules.now).named concept)) (IsAddition w fs (R.files rules.now)) }
 {
+    rules.is_ready();
     match find_due(state, node, rules.named(concept)) {
-        Some(due) => Some((node, due)),
+        Some((place, gives)) => Some(Addition {
+            node,
+            concept: gives,
+            reason: Reason::Named { concept, place },
+        }),
         None => None,
     }
 }
 
-/// What a row gives the node since it has some concept.
-fn find_by_names<S: State, R: Rules>(state: &S, rules: &R, node: u32) -> Option<(u32, u32)>
+/// What a row gives the node since it has some concepts; none exactly where such rows give nothing new.
+pub fn find_by_names<S: State, R: Rules>(state: &S, rules: &R, node: u32) -> Option<Addition>
     requires { node < node_count (S.facts state.now) }
     ensures { let w = R.context rules.now in let fs = S.facts state.now in
-        MatchOption result (NamesHold (R.files rules.now) fs node) (λ a. IsAddition w fs a.0 a.1) }
+        MatchOption result (NamesHold (R.files rules.now) fs node) (IsAddition w fs (R.files rules.now)) }
 {
     for concept in state.label(node) {
         match find_by_name(state, rules, node, *concept) {
@@ -72,33 +90,82 @@ fn find_by_names<S: State, R: Rules>(state: &S, rules: &R, node: u32) -> Option<
     None
 }
 
-/// What a row gives where the edge begins or ends.
-fn find_by_edge<S: State, R: Rules>(
+/// What a row gives where the edge begins; none exactly where such rows give nothing new.
+pub fn find_at_begin<S: State, R: Rules>(
     state: &S,
     rules: &R,
     node: u32,
     role: u32,
     end: u32,
-) -> Option<(u32, u32)>
+) -> Option<Addition>
     requires is_node { node < node_count (S.facts state.now) }
     requires next { is_successor (S.facts state.now) (λ r. r == role) node end ≡ true }
     ensures { let w = R.context rules.now in let fs = S.facts state.now in
-        MatchOption result (EdgeHolds (R.files rules.now) fs node role end) (λ a. IsAddition w fs a.0 a.1) }
+        MatchOption result (All (PlainHolds fs node) ((R.files rules.now).begins role)) (IsAddition w fs (R.files rules.now)) }
 {
-    match find_part(state, node, rules.at_begins(role)) {
-        Some(given) => Some((node, given)),
-        None => match find_part(state, end, rules.at_ends(role)) {
-            Some(given) => Some((end, given)),
-            None => None,
-        },
+    rules.is_ready();
+    match find_plain(state, node, rules.at_begins(role)) {
+        Some(row) => Some(Addition {
+            node,
+            concept: row.gives,
+            reason: Reason::Begin { role, end, row },
+        }),
+        None => None,
     }
 }
 
-/// What a row gives where some edge from the node begins or ends.
-fn find_by_edges<S: State, R: Rules>(state: &S, rules: &R, node: u32) -> Option<(u32, u32)>
+/// What a row gives where the edge ends; none exactly where such rows give nothing new.
+pub fn find_at_end<S: State, R: Rules>(
+    state: &S,
+    rules: &R,
+    node: u32,
+    role: u32,
+    end: u32,
+) -> Option<Addition>
+    requires is_node { node < node_count (S.facts state.now) }
+    requires next { is_successor (S.facts state.now) (λ r. r == role) node end ≡ true }
+    ensures { let w = R.context rules.now in let fs = S.facts state.now in
+        MatchOption result (All (PlainHolds fs end) ((R.files rules.now).ends role)) (IsAddition w fs (R.files rules.now)) }
+{
+    rules.is_ready();
+    match find_plain(state, end, rules.at_ends(role)) {
+        Some(row) => Some(Addition {
+            node: end,
+            concept: row.gives,
+            reason: Reason::End {
+                from: node,
+                role,
+                row,
+            },
+        }),
+        None => None,
+    }
+}
+
+/// What a row gives where the edge begins or ends; none exactly where such rows give nothing new.
+pub fn find_by_edge<S: State, R: Rules>(
+    state: &S,
+    rules: &R,
+    node: u32,
+    role: u32,
+    end: u32,
+) -> Option<Addition>
+    requires is_node { node < node_count (S.facts state.now) }
+    requires next { is_successor (S.facts state.now) (λ r. r == role) node end ≡ true }
+    ensures { let w = R.context rules.now in let fs = S.facts state.now in
+        MatchOption result (EdgeHolds (R.files rules.now) fs node role end) (IsAddition w fs (R.files rules.now)) }
+{
+    match find_at_begin(state, rules, node, role, end) {
+        Some(addition) => Some(addition),
+        None => find_at_end(state, rules, node, role, end),
+    }
+}
+
+/// What a row gives where some edge from the node begins or ends; none exactly where such rows give nothing new.
+pub fn find_by_edges<S: State, R: Rules>(state: &S, rules: &R, node: u32) -> Option<Addition>
     requires { node < node_count (S.facts state.now) }
     ensures { let w = R.context rules.now in let fs = S.facts state.now in
-        MatchOption result (EdgesHold (R.files rules.now) fs node) (λ a. IsAddition w fs a.0 a.1) }
+        MatchOption result (EdgesHold (R.files rules.now) fs node) (IsAddition w fs (R.files rules.now)) }
 {
     for edge in state.edges(node) {
         match find_by_edge(state, rules, node, edge.0, state.representative(edge.1)) {
@@ -109,14 +176,31 @@ fn find_by_edges<S: State, R: Rules>(state: &S, rules: &R, node: u32) -> Option<
     None
 }
 
-/// What a row gives the node, or the end of an edge from it.
-pub fn find_by_rows<S: State, R: Rules>(state: &S, rules: &R, node: u32) -> Option<(u32, u32)>
+/// What a row gives the node that is used at each node; none exactly where such rows give nothing new.
+pub fn find_general<S: State, R: Rules>(state: &S, rules: &R, node: u32) -> Option<Addition>
     requires { node < node_count (S.facts state.now) }
     ensures { let w = R.context rules.now in let fs = S.facts state.now in
-        MatchOption result (HoldsRows (R.files rules.now) fs node) (λ a. IsAddition w fs a.0 a.1) }
+        MatchOption result (All (PlainHolds fs node) (R.files rules.now).general) (IsAddition w fs (R.files rules.now)) }
 {
-    match find_part(state, node, rules.general()) {
-        Some(given) => Some((node, given)),
+    rules.is_ready();
+    match find_plain(state, node, rules.general()) {
+        Some(row) => Some(Addition {
+            node,
+            concept: row.gives,
+            reason: Reason::General { row },
+        }),
+        None => None,
+    }
+}
+
+/// What a row gives the node, or the end of an edge from it; none exactly where rows give nothing new.
+pub fn find_by_rows<S: State, R: Rules>(state: &S, rules: &R, node: u32) -> Option<Addition>
+    requires { node < node_count (S.facts state.now) }
+    ensures { let w = R.context rules.now in let fs = S.facts state.now in
+        MatchOption result (HoldsRows (R.files rules.now) fs node) (IsAddition w fs (R.files rules.now)) }
+{
+    match find_general(state, rules, node) {
+        Some(addition) => Some(addition),
         None => match find_by_names(state, rules, node) {
             Some(addition) => Some(addition),
             None => find_by_edges(state, rules, node),

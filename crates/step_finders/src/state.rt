@@ -1,19 +1,22 @@
 // What finders read.
-ghost use Rattle.std.specs.Prelude.{◌≡◌, ℕ, ◌+◌, ◌<◌, ◌^◌, ◌↔◌, List, MatchOption, IsTrue};
+ghost use Rattle.std.specs.Prelude.{◌≡◌, ℕ, ◌+◌, ◌<◌, ◌==◌, ◌^◌, ◌↔◌, true, List, MatchOption, IsTrue, IsNone, IfSome};
 ghost use Rattle.fact_specs.specs.declared.Fact.{Fact as PlainFact};
 ghost use Rattle.fact_specs.specs.Joins.{rep};
-ghost use Rattle.fact_specs.specs.State.{node_count, parent as parent_of, has as holds, are_apart as kept_apart};
+ghost use Rattle.fact_specs.specs.State.{node_count, parent as parent_of, has as holds, has_edge, are_apart as kept_apart};
 ghost use Rattle.shape_specs.specs.Shape.{shape_of, IsTable};
 ghost use Rattle.shape_specs.specs.Tree.{IsComplement};
+ghost use Rattle.shape_specs.specs.Rows.{IsChoice};
 ghost use Rattle.shq_nnf.specs.Shapes.{form_of};
 ghost use Rattle.tableau_specs.specs.declared.Block.TheVariants.{Clear};
 ghost use Rattle.tableau_specs.specs.Blocked.{block_of};
 ghost use Rattle.tableau_specs.specs.Steps.{SearchContext, below_of};
+ghost use Rattle.tableau_specs.specs.LineLaws.{RangesAreFirst};
 ghost use Rattle.step_finders.specs.Clashing.{AreMosts};
 ghost use Rattle.fact_specs.specs.Listed.{IsLabel, AreEdges};
 ghost use Rattle.step_finders.specs.Found.{AreCarriesOf, Files, AreFiled};
 
 use shq_nnf::Shape;
+use shq_terms::NumberList;
 
 /// A state of a search, as a list of facts.
 pub trait State {
@@ -32,6 +35,12 @@ pub trait State {
     fn parent(&self, node: u32) -> Option<u32>
         requires { node < node_count (facts self.now) }
         ensures { result ≡ parent_of (facts self.now) node };
+
+    /// The first edge into a node: its role, and the node where it begins. Node 0 has none.
+    fn origin(&self, node: u32) -> Option<(u32, u32)>
+        requires { node < node_count (facts self.now) }
+        ensures none { IsNone result → node ≡ 0 }
+        ensures some { IfSome result (λ o. (has_edge (facts self.now) (λ s. s == o.0) o.1 node ≡ true) × (parent_of (facts self.now) node ≡ Some o.1)) };
 
     /// Whether the node has the concept.
     fn has(&self, node: u32, concept: u32) -> bool
@@ -56,12 +65,29 @@ pub trait State {
         ensures { result ≡ kept_apart (facts self.now) first second };
 }
 
-/// A row that is used at nodes with all of some concepts.
+/// A row that waits for no concept.
+#[derive(Clone, Copy, Debug, PartialEq, Eq)]
+pub struct PlainRow {
+    /// The number of its axiom.
+    pub axiom: u32,
+    /// The number of its part in the axiom, from 1.
+    pub part: u32,
+    /// The number of the concept that it gives.
+    pub gives: u32,
+}
+
+/// A row that is used at nodes with all of some names.
 #[derive(Drop)]
 pub struct NamedRow {
-    /// What it waits for, by number.
-    pub waits: Vec<u32>,
-    /// What it gives then.
+    /// The number of its axiom.
+    pub axiom: u32,
+    /// The number of its part in the axiom, from 1.
+    pub part: u32,
+    /// The positions, from 1, of the conjuncts that it waits for.
+    pub positions: NumberList,
+    /// The numbers of these conjuncts, in the same order.
+    pub waits: NumberList,
+    /// The number of the concept that it gives.
     pub gives: u32,
 }
 
@@ -91,23 +117,26 @@ pub trait Rules {
     fn mosts(&self, filler: u32) -> &[u32]
         ensures { AreMosts (context self.now).table filler result.now };
 
-    /// What the rows give that are used at each node.
-    fn general(&self) -> &[u32]
+    /// The rows that are used at each node.
+    fn general(&self) -> &[PlainRow]
         ensures { result.now ≡ (files self.now).general };
 
     /// The rows that wait for this concept, among others.
     fn named(&self, concept: u32) -> &[NamedRow]
         ensures { result.now ≡ (files self.now).named concept };
 
-    /// What the rows give that are used where an edge of the role begins.
-    fn at_begins(&self, role: u32) -> &[u32]
+    /// The rows that are used where an edge of the role begins.
+    fn at_begins(&self, role: u32) -> &[PlainRow]
         ensures { result.now ≡ (files self.now).begins role };
 
-    /// What the rows give that are used where an edge of the role ends.
-    fn at_ends(&self, role: u32) -> &[u32]
+    /// The rows that are used where an edge of the role ends.
+    fn at_ends(&self, role: u32) -> &[PlainRow]
         ensures { result.now ≡ (files self.now).ends role };
 
-    ghost tabled: { (r : Self) → IsTable (context r).table };
-
-    ghost filed: { (r : Self) → AreFiled (context r) (files r) };
+    /// What is always so of rules. Nothing is computed.
+    fn is_ready(&self)
+        ensures tabled { IsTable (context self.now).table }
+        ensures chosen { IsChoice (context self.now).theory (context self.now).table (context self.now).rows }
+        ensures ranged { RangesAreFirst (context self.now).theory }
+        ensures filed { AreFiled (context self.now) (files self.now) };
 }

@@ -7,19 +7,18 @@ ghost use Rattle.step_finders.specs.Choosing.{NothingToChoose};
 use crate::add::find_add;
 use crate::choose::find_choice;
 use crate::make::{NewNodes, find_making};
-use crate::{NoMemory, Rules, State};
+use crate::{Addition, Choosing, NoMemory, Rules, State};
 use std::alloc::Global;
-use tableau_specs::Branch;
 
 /// A step that is legal where there is no plain clash.
 #[derive(Clone, Copy, Debug, PartialEq, Eq)]
 pub enum Step {
-    /// A node gets a concept.
-    Add(u32, u32),
+    /// A node gets a concept by a rule without branches.
+    Add(Addition),
     /// Nodes are made.
     Generate(NewNodes),
     /// There is something to choose.
-    Choose(Branch),
+    Choose(Choosing),
 }
 
 /// The next step; none exactly where there is none.
@@ -33,27 +32,27 @@ pub fn find_step<S: State, R: Rules>(
     rules: &R,
 ) -> Result<Option<Step>, NoMemory>
     ensures { let w = R.context rules.now in let fs = S.facts state.now in
-        IfOk result (λ found. MatchOption found (NoStep w fs) (IsStep w fs)) }
+        IfOk result (λ found. MatchOption found (NoStep w fs) (IsStep w fs (R.files rules.now))) }
 {
     match find_add(state, rules) {
-        Some((node, concept)) => Ok(Some(Step::Add(node, concept))),
+        Some(addition) => Ok(Some(Step::Add(addition))),
         None => find_branching(alloc, state, rules),
     }
 }
 
-// A step that makes nodes or branches.
+// A step that makes nodes or branches: nodes first, and unions last.
 fn find_branching<S: State, R: Rules>(
     alloc: Global,
     state: &S,
     rules: &R,
 ) -> Result<Option<Step>, NoMemory>
     ensures { let w = R.context rules.now in let fs = S.facts state.now in
-        IfOk result (λ found. MatchOption found (NothingToMake w fs × NothingToChoose w fs) (IsStep w fs)) }
+        IfOk result (λ found. MatchOption found (NothingToMake w fs × NothingToChoose w fs) (IsStep w fs (R.files rules.now))) }
 {
-    match find_choice(alloc, state, rules)? {
-        Some(branch) => Ok(Some(Step::Choose(branch))),
-        None => match find_making(alloc, state, rules)? {
-            Some(new) => Ok(Some(Step::Generate(new))),
+    match find_making(alloc, state, rules)? {
+        Some(new) => Ok(Some(Step::Generate(new))),
+        None => match find_choice(alloc, state, rules)? {
+            Some(choosing) => Ok(Some(Step::Choose(choosing))),
             None => Ok(None),
         },
     }

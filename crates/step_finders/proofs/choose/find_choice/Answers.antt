@@ -1,18 +1,11 @@
-use Rattle.std.proofs.Common.{arith, ◌≡◌, below_more}
-use Rattle.fact_specs.specs.Joins.{rep}
-use Rattle.step_finders.specs.Choosing.{NoChoiceAt, IsChoosable}
-use Rattle.step_finders.proofs.Each.{none_said}
-use Rattle.step_finders.proofs.Choosing.{nothing_to_choose}
+use Rattle.step_finders.specs.Choosing.{NoMost, NoUnion, NothingToChoose, IsChoosable}
+use Rattle.step_finders.proofs.Each.{answers_more, none_said}
+use Rattle.step_finders.proofs.Chosen.{nothing_to_choose}
 use Rattle.step_finders.proofs.choose.find_choice.Goals as goal
 
-pub returns : goal.returns
-returns g c =
-    nothing_to_choose (g.R.Rules.context c.args.rules.now) (g.S.State.facts c.args.state.now)
-    (λ z lt own. c.loop-node.invariant z (omega (arith, lt, c.loop-node-test.false, c.nodes-node-end.ensures.count)) own)
-
-pub loop-node-preserved : goal.loop-node-preserved
-loop-node-preserved g c =
+pub returns-in-None : goal.returns-in-None
+returns-in-None g c =
     let w = g.R.Rules.context c.args.rules.now in
     let fs = g.S.State.facts c.args.state.now in
-    below_more _ _ c.loop-node.invariant
-    (none_said (rep fs c.loop-node.node ≡ c.loop-node.node → NoChoiceAt w fs c.loop-node.node) (IsChoosable w fs) c.in_ok-branch.field-0 c.in-None.is c.in_ok-branch.ensures)
+    let mosts = none_said (NoMost w fs) (IsChoosable w fs) c.in_ok-choosing.field-0 c.in-None.is c.in_ok-choosing.ensures in
+    answers_more c.find_union.result (NoUnion w fs) (NothingToChoose w fs) (IsChoosable w fs) (IsChoosable w fs) (λ unions. nothing_to_choose w fs unions mosts) (λ k h. h) c.find_union.ensures

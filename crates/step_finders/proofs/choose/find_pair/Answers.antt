@@ -5,7 +5,7 @@ use Rattle.fact_specs.specs.State.{node_count}
 use Rattle.tableau_specs.specs.Steps.{below_of}
 use Rattle.step_finders.specs.Filled.{AreUnapart}
 use Rattle.step_finders.proofs.Members.{filled_nodes}
-use Rattle.step_finders.proofs.Choosing.{no_pair_few, pair_or_none}
+use Rattle.step_finders.proofs.Chosen.{no_pair_few, pair_or_none}
 use Rattle.step_finders.proofs.choose.find_pair.Goals as goal
 
 pub returns-then-len-count : goal.returns-then-len-count

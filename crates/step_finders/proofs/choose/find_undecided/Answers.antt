@@ -2,7 +2,7 @@ use Rattle.std.proofs.Common.{sym, arith, refl, ◌≡◌, true, ℕ}
 use Rattle.tableau_specs.specs.Steps.{below_of}
 use Rattle.step_finders.specs.Choosing.{IsDecided}
 use Rattle.step_finders.proofs.Each.{each_more}
-use Rattle.step_finders.proofs.Choosing.{undecided_at_end, all_decided}
+use Rattle.step_finders.proofs.Chosen.{undecided_at_end, all_decided}
 use Rattle.step_finders.proofs.choose.find_undecided.Goals as goal
 use Rattle.step_finders.proofs.choose.find_undecided.Goals.{else-is_below-via-then-is_below+else-not-is_decided, else-is_below-via-else-is_below}
 

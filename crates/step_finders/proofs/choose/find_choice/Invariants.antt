@@ -1,7 +1,0 @@
-use Rattle.std.proofs.Common.{◌≡◌, ℕ, ◌<◌}
-use Rattle.fact_specs.specs.Joins.{rep}
-use Rattle.step_finders.specs.Choosing.{NoChoiceAt}
-use Rattle.step_finders.proofs.choose.find_choice.Given as goal
-
-abbrev pub invariant-loop-node : goal.invariant-loop-node
-invariant-loop-node g l = (k : ℕ) → k < l.node → rep (g.S.State.facts l.state) k ≡ k → NoChoiceAt (g.R.Rules.context l.rules) (g.S.State.facts l.state) k

@@ -1,0 +1,8 @@
+use Rattle.std.proofs.Common.{ℕ, ◌<◌, get_or}
+use Rattle.shape_specs.specs.Shape.{shape_of}
+use Rattle.step_finders.specs.Making.{NoMakingByShape}
+use Rattle.step_finders.proofs.make.find_making_at.Given as goal
+
+abbrev pub invariant-loop-concept : goal.invariant-loop-concept
+invariant-loop-concept g l = (k d : ℕ) → k < l.concept-index
+    → NoMakingByShape (g.R.Rules.context l.rules) (g.S.State.facts l.state) l.node (shape_of (g.R.Rules.context l.rules).table (get_or l.concept-items k d))

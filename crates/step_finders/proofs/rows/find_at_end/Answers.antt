@@ -1,0 +1,11 @@
+use Rattle.std.proofs.Common.{List, subst}
+use Rattle.step_finders.specs.declared.state.PlainRow.{PlainRow}
+use Rattle.step_finders.specs.Found.{PlainDue}
+use Rattle.step_finders.proofs.Filed.{end_due}
+use Rattle.step_finders.proofs.rows.find_at_end.Goals as goal
+
+pub returns-in-Some : goal.returns-in-Some
+returns-in-Some g c =
+    end_due (g.R.Rules.context c.args.rules.now) (g.R.Rules.files c.args.rules.now) c.is_ready.ensures.tabled c.is_ready.ensures.chosen c.is_ready.ensures.filed (g.S.State.facts c.args.state.now)
+    c.args.node c.args.role c.args.end c.in-Some.row c.requires.is_node c.requires.next
+    (subst (λ (us : List PlainRow). PlainDue (g.S.State.facts c.args.state.now) c.args.end us c.in-Some.row) c.at_ends.ensures c.in-Some.ensures)

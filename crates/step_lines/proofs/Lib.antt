@@ -1,0 +1,6 @@
+pub mod Follows
+pub mod Going
+pub mod ConceptLines
+pub mod RowLines
+pub mod Branching
+pub mod Many

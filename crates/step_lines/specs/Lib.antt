@@ -1,0 +1,3 @@
+pub mod Serving
+pub mod Kinds
+pub mod Grounds

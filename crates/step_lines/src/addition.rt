@@ -1,0 +1,128 @@
+// The line of an addition.
+ghost use Rattle.std.specs.Prelude.{◌≡◌, IfOk};
+ghost use Rattle.refutation_tree.specs.RuleLine.{line_of};
+ghost use Rattle.step_finders.specs.Reasons.{HasReason, IsByAnd, IsByAll, IsByCarry};
+ghost use Rattle.step_lines.specs.Kinds.{ServesAddition};
+
+use crate::grounded::{one_ground, two_grounds};
+use crate::rows::{line_of_begin, line_of_end, line_of_general, line_of_named};
+use crate::{GroundedLine, NoMemory};
+use fact_specs::Fact;
+use refutation_tree::Line;
+use std::alloc::Global;
+use step_finders::{Addition, Reason, Rules, State};
+
+// The line of an intersection.
+fn line_of_and<S: State, R: Rules>(
+    alloc: Global,
+    state: &S,
+    rules: &R,
+    node: u32,
+    concept: u32,
+    part: u32,
+) -> Result<GroundedLine, NoMemory>
+    requires { IsByAnd (R.context rules.now) (S.facts state.now) concept node part }
+    ensures { IfOk result (λ g. ServesAddition (R.context rules.now) (S.facts state.now) node part (line_of g.line) g.grounds.items) }
+{
+    rules.is_ready();
+    let grounds = one_ground(alloc, Fact::Has(node, concept))?;
+    Ok(GroundedLine {
+        line: Line::And(node, concept),
+        grounds,
+    })
+}
+
+// The line of a universal restriction.
+fn line_of_all<S: State, R: Rules>(
+    alloc: Global,
+    state: &S,
+    rules: &R,
+    from: u32,
+    role: u32,
+    concept: u32,
+    node: u32,
+    filler: u32,
+) -> Result<GroundedLine, NoMemory>
+    requires { IsByAll (R.context rules.now) (S.facts state.now) from role concept node filler }
+    ensures { IfOk result (λ g. ServesAddition (R.context rules.now) (S.facts state.now) node filler (line_of g.line) g.grounds.items) }
+{
+    rules.is_ready();
+    let grounds = two_grounds(
+        alloc,
+        Fact::Has(from, concept),
+        Fact::Edge(role, from, node),
+    )?;
+    Ok(GroundedLine {
+        line: Line::All(from, node, concept),
+        grounds,
+    })
+}
+
+// The line of a universal restriction that a transitive role carries on.
+fn line_of_carry<S: State, R: Rules>(
+    alloc: Global,
+    state: &S,
+    rules: &R,
+    from: u32,
+    role: u32,
+    over: u32,
+    concept: u32,
+    node: u32,
+    carried: u32,
+) -> Result<GroundedLine, NoMemory>
+    requires { IsByCarry (R.context rules.now) (S.facts state.now) from role over concept node carried }
+    ensures { IfOk result (λ g. ServesAddition (R.context rules.now) (S.facts state.now) node carried (line_of g.line) g.grounds.items) }
+{
+    rules.is_ready();
+    let grounds = two_grounds(
+        alloc,
+        Fact::Has(from, concept),
+        Fact::Edge(role, from, node),
+    )?;
+    Ok(GroundedLine {
+        line: Line::Carry(from, node, over, concept),
+        grounds,
+    })
+}
+
+/// The line by which a node gets a concept for the reason that was found, and the facts that it rests on.
+///
+/// # Errors
+///
+/// Want of memory.
+pub fn line_of_addition<S: State, R: Rules>(
+    alloc: Global,
+    state: &S,
+    rules: &R,
+    addition: &Addition,
+) -> Result<GroundedLine, NoMemory>
+    requires { HasReason (R.context rules.now) (S.facts state.now) (R.files rules.now) addition.now.reason addition.now.node addition.now.concept }
+    ensures { IfOk result (λ g. ServesAddition (R.context rules.now) (S.facts state.now) addition.now.node addition.now.concept (line_of g.line) g.grounds.items) }
+{
+    let node = addition.node;
+    let given = addition.concept;
+    match addition.reason {
+        Reason::And { concept } => line_of_and(alloc, state, rules, node, concept, given),
+        Reason::All {
+            from,
+            role,
+            concept,
+        } => line_of_all(alloc, state, rules, from, role, concept, node, given),
+        Reason::Carry {
+            from,
+            role,
+            over,
+            concept,
+        } => line_of_carry(alloc, state, rules, from, role, over, concept, node, given),
+        Reason::Named { concept, place } => {
+            line_of_named(alloc, state, rules, concept, place, node, given)
+        }
+        Reason::General { row } => line_of_general(alloc, state, rules, row, node, given),
+        Reason::Begin { role, end, row } => {
+            line_of_begin(alloc, state, rules, role, end, row, node, given)
+        }
+        Reason::End { from, role, row } => {
+            line_of_end(alloc, state, rules, from, role, row, node, given)
+        }
+    }
+}

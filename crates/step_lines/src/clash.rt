@@ -1,0 +1,77 @@
+// The line of a clash.
+ghost use Rattle.std.specs.Prelude.{◌≡◌, IfOk};
+ghost use Rattle.refutation_tree.specs.RuleLine.{line_of};
+ghost use Rattle.step_finders.specs.Clashing.{IsShown, HasBottom, HasBoth};
+ghost use Rattle.step_lines.specs.Kinds.{ServesClash};
+
+use crate::grounded::{one_ground, two_grounds};
+use crate::most::line_of_most;
+use crate::{GroundedLine, NoMemory};
+use fact_specs::Fact;
+use refutation_tree::Line;
+use std::alloc::Global;
+use step_finders::{Clash, Rules, State};
+
+// The line of bottom.
+fn line_of_bottom<S: State, R: Rules>(
+    alloc: Global,
+    state: &S,
+    rules: &R,
+    node: u32,
+    concept: u32,
+) -> Result<GroundedLine, NoMemory>
+    requires { HasBottom (R.context rules.now) (S.facts state.now) node concept }
+    ensures { IfOk result (λ g. ServesClash (R.context rules.now) (S.facts state.now) (line_of g.line) g.grounds.items) }
+{
+    rules.is_ready();
+    let grounds = one_ground(alloc, Fact::Has(node, concept))?;
+    Ok(GroundedLine {
+        line: Line::Bottom(node),
+        grounds,
+    })
+}
+
+// The line of a class and its complement.
+fn line_of_both<S: State, R: Rules>(
+    alloc: Global,
+    state: &S,
+    rules: &R,
+    node: u32,
+    class: u32,
+    complement: u32,
+) -> Result<GroundedLine, NoMemory>
+    requires { HasBoth (R.context rules.now) (S.facts state.now) node class complement }
+    ensures { IfOk result (λ g. ServesClash (R.context rules.now) (S.facts state.now) (line_of g.line) g.grounds.items) }
+{
+    rules.is_ready();
+    let grounds = two_grounds(alloc, Fact::Has(node, class), Fact::Has(node, complement))?;
+    Ok(GroundedLine {
+        line: Line::Clash(node, class),
+        grounds,
+    })
+}
+
+/// The line that a clash is, and the facts that it rests on.
+///
+/// # Errors
+///
+/// Want of memory.
+pub fn line_of_clash<S: State, R: Rules>(
+    alloc: Global,
+    state: &S,
+    rules: &R,
+    clash: &Clash,
+) -> Result<GroundedLine, NoMemory>
+    requires { IsShown (R.context rules.now) (S.facts state.now) clash.now }
+    ensures { IfOk result (λ g. ServesClash (R.context rules.now) (S.facts state.now) (line_of g.line) g.grounds.items) }
+{
+    match clash {
+        Clash::Bottom { node, concept } => line_of_bottom(alloc, state, rules, *node, *concept),
+        Clash::Both {
+            node,
+            class,
+            complement,
+        } => line_of_both(alloc, state, rules, *node, *class, *complement),
+        Clash::Most { node, concept } => line_of_most(alloc, state, rules, *node, *concept),
+    }
+}

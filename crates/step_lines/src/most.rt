@@ -1,0 +1,190 @@
+// The line of too many successors.
+ghost use Rattle.std.specs.Prelude.{◌≡◌, ◌∷◌, ◌<◌, ◌++◌, true, map, All, IfOk, OnOk};
+ghost use Rattle.fact_specs.specs.declared.Fact.TheVariants.{Has as has_fact, Apart as apart_fact};
+ghost use Rattle.fact_specs.specs.State.{node_count, is_successor};
+ghost use Rattle.refutation_tree.specs.RuleLine.{line_of};
+ghost use Rattle.tableau_specs.specs.Steps.{below_of};
+ghost use Rattle.clash_specs.specs.Near.{IsOverrun};
+ghost use Rattle.step_finders.specs.Choosing.{IsRoleTo};
+ghost use Rattle.step_finders.specs.Clashing.{HasMost};
+ghost use Rattle.step_lines.specs.Grounds.{IsFilledEnd, AreMany, AreLinks, link_facts, apart_facts};
+ghost use Rattle.step_lines.specs.Kinds.{ServesClash};
+
+use crate::grounded::list_of;
+use crate::{GroundedLine, NoMemory};
+use fact_specs::Fact;
+use refutation_tree::Line;
+use shq_nnf::Shape;
+use std::alloc::Global;
+use step_finders::{Rules, State, filled_successors, role_to};
+
+// As many successors as are one too many, with the filler and pairwise apart.
+fn many_ends<S: State, R: Rules>(
+    alloc: Global,
+    state: &S,
+    rules: &R,
+    node: u32,
+    concept: u32,
+    count: u32,
+    role: u32,
+    filler: u32,
+) -> Result<Vec<u32>, NoMemory>
+    requires { let w = R.context rules.now in IsOverrun (below_of w) w.table (S.facts state.now) node concept count role filler }
+    ensures { IfOk result (λ v. AreMany (R.context rules.now) (S.facts state.now) node count role filler v.items) }
+{
+    let mut ends = filled_successors(alloc, state, rules, node, role, filler)?;
+    ends.truncate(count as usize + 1);
+    Ok(ends)
+}
+
+// The role of an edge to the successor, below this one.
+fn role_of<S: State, R: Rules>(state: &S, rules: &R, node: u32, role: u32, end: u32) -> u32
+    requires { let w = R.context rules.now in is_successor (S.facts state.now) (λ r. below_of w r role) node end ≡ true }
+    ensures { IsRoleTo (R.context rules.now) (S.facts state.now) node role end result }
+{
+    match role_to(state, rules, node, role, end) {
+        Some(by) => by,
+        None => role,
+    }
+}
+
+// The edges to these successors, each as its role and its end.
+fn links_to<S: State, R: Rules>(
+    alloc: Global,
+    state: &S,
+    rules: &R,
+    node: u32,
+    role: u32,
+    filler: u32,
+    ends: &[u32],
+) -> Result<Vec<(u32, u32)>, NoMemory>
+    requires { All (IsFilledEnd (R.context rules.now) (S.facts state.now) node role filler) ends.now }
+    ensures { IfOk result (λ v. AreLinks (R.context rules.now) (S.facts state.now) node role filler ends.now v.items) }
+{
+    let mut links = Vec::new(alloc);
+    for end in ends {
+        links.push((role_of(state, rules, node, role, *end), *end))?;
+    }
+    Ok(links)
+}
+
+// The edges, and that their ends have the filler.
+fn push_links(
+    grounds: &mut Vec<Fact<u32>>,
+    node: u32,
+    filler: u32,
+    links: &[(u32, u32)],
+) -> Result<(), NoMemory>
+    ensures { OnOk result (grounds.new.items ≡ grounds.old.items ++ link_facts node filler links.now) }
+{
+    for link in links {
+        grounds.push(Fact::Edge(link.0, node, link.1))?;
+        grounds.push(Fact::Has(link.1, filler))?;
+    }
+    Ok(())
+}
+
+// That the first is apart from each of the others.
+fn push_apart_from(grounds: &mut Vec<Fact<u32>>, first: u32, others: &[u32]) -> Result<(), NoMemory>
+    ensures { OnOk result (grounds.new.items ≡ grounds.old.items ++ map (apart_fact first) others.now) }
+{
+    for other in others {
+        grounds.push(Fact::Apart(first, *other))?;
+    }
+    Ok(())
+}
+
+// That the nodes are pairwise apart.
+fn push_apart(grounds: &mut Vec<Fact<u32>>, nodes: &[u32]) -> Result<(), NoMemory>
+    ensures { OnOk result (grounds.new.items ≡ grounds.old.items ++ apart_facts nodes.now) }
+{
+    for place in 0..nodes.len() {
+        push_apart_from(grounds, nodes[place], &nodes[place + 1..])?;
+    }
+    Ok(())
+}
+
+// What the line of these successors rests on.
+fn most_grounds(
+    alloc: Global,
+    node: u32,
+    concept: u32,
+    filler: u32,
+    links: &[(u32, u32)],
+    ends: &[u32],
+) -> Result<Vec<Fact<u32>>, NoMemory>
+    ensures { IfOk result (λ v. v.items ≡ has_fact node concept ∷ (link_facts node filler links.now ++ apart_facts ends.now)) }
+{
+    let mut grounds = Vec::new(alloc);
+    grounds.push(Fact::Has(node, concept))?;
+    push_links(&mut grounds, node, filler, links)?;
+    push_apart(&mut grounds, ends)?;
+    Ok(grounds)
+}
+
+// The line of these successors.
+fn line_of_ends<S: State, R: Rules>(
+    alloc: Global,
+    state: &S,
+    rules: &R,
+    node: u32,
+    concept: u32,
+    count: u32,
+    role: u32,
+    filler: u32,
+    ends: &[u32],
+) -> Result<GroundedLine, NoMemory>
+    requires is_node { node < node_count (S.facts state.now) }
+    requires overrun { let w = R.context rules.now in IsOverrun (below_of w) w.table (S.facts state.now) node concept count role filler }
+    requires many { AreMany (R.context rules.now) (S.facts state.now) node count role filler ends.now }
+    ensures { IfOk result (λ g. ServesClash (R.context rules.now) (S.facts state.now) (line_of g.line) g.grounds.items) }
+{
+    rules.is_ready();
+    let links = links_to(alloc, state, rules, node, role, filler, ends)?;
+    let grounds = most_grounds(alloc, node, concept, filler, &links, ends)?;
+    let nodes = list_of(alloc, ends)?;
+    Ok(GroundedLine {
+        line: Line::Most(node, concept, nodes),
+        grounds,
+    })
+}
+
+// The line of an 'at most' of this count, role and filler.
+fn line_of_overrun<S: State, R: Rules>(
+    alloc: Global,
+    state: &S,
+    rules: &R,
+    node: u32,
+    concept: u32,
+    count: u32,
+    role: u32,
+    filler: u32,
+) -> Result<GroundedLine, NoMemory>
+    requires is_node { node < node_count (S.facts state.now) }
+    requires overrun { let w = R.context rules.now in IsOverrun (below_of w) w.table (S.facts state.now) node concept count role filler }
+    ensures { IfOk result (λ g. ServesClash (R.context rules.now) (S.facts state.now) (line_of g.line) g.grounds.items) }
+{
+    let ends = many_ends(alloc, state, rules, node, concept, count, role, filler)?;
+    line_of_ends(
+        alloc, state, rules, node, concept, count, role, filler, &ends,
+    )
+}
+
+/// The line of a node's 'at most' of too many successors.
+pub fn line_of_most<S: State, R: Rules>(
+    alloc: Global,
+    state: &S,
+    rules: &R,
+    node: u32,
+    concept: u32,
+) -> Result<GroundedLine, NoMemory>
+    requires { HasMost (R.context rules.now) (S.facts state.now) node concept }
+    ensures { IfOk result (λ g. ServesClash (R.context rules.now) (S.facts state.now) (line_of g.line) g.grounds.items) }
+{
+    match rules.shape(concept) {
+        Shape::Max(count, role, filler) => line_of_overrun(
+            alloc, state, rules, node, concept, count, role, filler,
+        ),
+        _ => Err(NoMemory),
+    }
+}

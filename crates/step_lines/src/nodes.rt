@@ -1,0 +1,44 @@
+// The line of new nodes.
+ghost use Rattle.std.specs.Prelude.{◌≡◌, IfOk};
+ghost use Rattle.refutation_tree.specs.RuleLine.{line_of};
+ghost use Rattle.shape_specs.specs.Shape.{shape_of};
+ghost use Rattle.step_finders.specs.Making.{IsMaking};
+ghost use Rattle.step_lines.specs.Kinds.{making_line, ServesNewNodes};
+
+use crate::grounded::one_ground;
+use crate::{GroundedLine, NoMemory};
+use fact_specs::Fact;
+use refutation_tree::Line;
+use shq_nnf::Shape;
+use std::alloc::Global;
+use step_finders::{NewNodes, Rules, State};
+
+// The line by which the concept makes nodes.
+fn making_line<R: Rules>(rules: &R, parent: u32, first: u32, concept: u32) -> Line
+    ensures { line_of result ≡ making_line (shape_of (R.context rules.now).table concept) parent first concept }
+{
+    match rules.shape(concept) {
+        Shape::Min(..) => Line::Least(parent, first, concept),
+        _ => Line::SomeOf(parent, first, concept),
+    }
+}
+
+/// The line by which nodes are made, the first of which is the next node of the state, and the fact that it rests on.
+///
+/// # Errors
+///
+/// Want of memory.
+pub fn line_of_new_nodes<S: State, R: Rules>(
+    alloc: Global,
+    state: &S,
+    rules: &R,
+    new: &NewNodes,
+) -> Result<GroundedLine, NoMemory>
+    requires { IsMaking (R.context rules.now) (S.facts state.now) new.now }
+    ensures { IfOk result (λ g. ServesNewNodes (R.context rules.now) (S.facts state.now) new.now (line_of g.line) g.grounds.items) }
+{
+    rules.is_ready();
+    let grounds = one_ground(alloc, Fact::Has(new.parent, new.concept))?;
+    let line = making_line(rules, new.parent, state.nodes(), new.concept);
+    Ok(GroundedLine { line, grounds })
+}

@@ -1,0 +1,151 @@
+// The lines of rows.
+ghost use Rattle.std.specs.Prelude.{◌≡◌, ◌++◌, ◌<◌, true, map, IfOk, OnOk};
+ghost use Rattle.std.specs.List.{list_all};
+ghost use Rattle.fact_specs.specs.declared.Fact.TheVariants.{Has as has_fact};
+ghost use Rattle.fact_specs.specs.State.{node_count, has as holds};
+ghost use Rattle.refutation_tree.specs.RuleLine.{line_of};
+ghost use Rattle.step_finders.specs.Found.{IsNamed};
+ghost use Rattle.step_finders.specs.Reasons.{IsByNamed, IsByGeneral, IsByBegin, IsByEnd};
+ghost use Rattle.step_lines.specs.Grounds.{IsFirst};
+ghost use Rattle.step_lines.specs.Kinds.{ServesAddition};
+
+use crate::grounded::{list_of, node_grounds, one_ground};
+use crate::{GroundedLine, NoMemory};
+use fact_specs::Fact;
+use refutation_tree::Line;
+use shq_terms::NumberList;
+use std::alloc::Global;
+use step_finders::{NamedRow, PlainRow, Rules, State};
+
+/// The line of a row that is used at each node.
+pub fn line_of_general<S: State, R: Rules>(
+    alloc: Global,
+    state: &S,
+    rules: &R,
+    row: PlainRow,
+    node: u32,
+    given: u32,
+) -> Result<GroundedLine, NoMemory>
+    requires { IsByGeneral (R.context rules.now) (S.facts state.now) row node given }
+    ensures { IfOk result (λ g. ServesAddition (R.context rules.now) (S.facts state.now) node given (line_of g.line) g.grounds.items) }
+{
+    rules.is_ready();
+    let grounds = node_grounds(alloc, state, node)?;
+    Ok(GroundedLine {
+        line: Line::Row(node, row.axiom, row.part, NumberList::new(alloc)),
+        grounds,
+    })
+}
+
+/// The line of a row that is used where an edge begins.
+pub fn line_of_begin<S: State, R: Rules>(
+    alloc: Global,
+    state: &S,
+    rules: &R,
+    role: u32,
+    end: u32,
+    row: PlainRow,
+    node: u32,
+    given: u32,
+) -> Result<GroundedLine, NoMemory>
+    requires { IsByBegin (R.context rules.now) (S.facts state.now) role end row node given }
+    ensures { IfOk result (λ g. ServesAddition (R.context rules.now) (S.facts state.now) node given (line_of g.line) g.grounds.items) }
+{
+    rules.is_ready();
+    let grounds = one_ground(alloc, Fact::Edge(role, node, end))?;
+    Ok(GroundedLine {
+        line: Line::Row(node, row.axiom, row.part, NumberList::new(alloc)),
+        grounds,
+    })
+}
+
+/// The line of a row that is used where an edge ends.
+pub fn line_of_end<S: State, R: Rules>(
+    alloc: Global,
+    state: &S,
+    rules: &R,
+    from: u32,
+    role: u32,
+    row: PlainRow,
+    node: u32,
+    given: u32,
+) -> Result<GroundedLine, NoMemory>
+    requires { IsByEnd (R.context rules.now) (S.facts state.now) from role row node given }
+    ensures { IfOk result (λ g. ServesAddition (R.context rules.now) (S.facts state.now) node given (line_of g.line) g.grounds.items) }
+{
+    rules.is_ready();
+    let grounds = one_ground(alloc, Fact::Edge(role, from, node))?;
+    Ok(GroundedLine {
+        line: Line::Range(from, node, row.axiom),
+        grounds,
+    })
+}
+
+// Facts by which the node is known, where there are no concepts by which it is.
+fn first_grounds<S: State>(
+    alloc: Global,
+    state: &S,
+    node: u32,
+    concepts: &[u32],
+) -> Result<Vec<Fact<u32>>, NoMemory>
+    requires { node < node_count (S.facts state.now) }
+    ensures { IfOk result (λ v. IsFirst (S.facts state.now) node concepts.now v.items) }
+{
+    if concepts.is_empty() {
+        node_grounds(alloc, state, node)
+    } else {
+        Ok(Vec::new(alloc))
+    }
+}
+
+// That the node has each of the concepts.
+fn push_concepts(grounds: &mut Vec<Fact<u32>>, node: u32, concepts: &[u32]) -> Result<(), NoMemory>
+    ensures { OnOk result (grounds.new.items ≡ grounds.old.items ++ map (has_fact node) concepts.now) }
+{
+    for concept in concepts {
+        grounds.push(Fact::Has(node, *concept))?;
+    }
+    Ok(())
+}
+
+// The line of a row that waits for names, all of which the node has.
+fn line_of_row<S: State, R: Rules>(
+    alloc: Global,
+    state: &S,
+    rules: &R,
+    row: &NamedRow,
+    node: u32,
+    given: u32,
+) -> Result<GroundedLine, NoMemory>
+    requires is_node { node < node_count (S.facts state.now) }
+    requires named { IsNamed (R.context rules.now) row.now }
+    requires waits { list_all (holds (S.facts state.now) node) row.now.waits ≡ true }
+    requires gives { row.now.gives ≡ given }
+    ensures { IfOk result (λ g. ServesAddition (R.context rules.now) (S.facts state.now) node given (line_of g.line) g.grounds.items) }
+{
+    rules.is_ready();
+    let mut grounds = first_grounds(alloc, state, node, row.waits.items())?;
+    push_concepts(&mut grounds, node, row.waits.items())?;
+    let positions = list_of(alloc, row.positions.items())?;
+    Ok(GroundedLine {
+        line: Line::Row(node, row.axiom, row.part, positions),
+        grounds,
+    })
+}
+
+/// The line of the row at this place among those that wait for the concept.
+pub fn line_of_named<S: State, R: Rules>(
+    alloc: Global,
+    state: &S,
+    rules: &R,
+    concept: u32,
+    place: usize,
+    node: u32,
+    given: u32,
+) -> Result<GroundedLine, NoMemory>
+    requires { IsByNamed (R.context rules.now) (S.facts state.now) (R.files rules.now) concept place node given }
+    ensures { IfOk result (λ g. ServesAddition (R.context rules.now) (S.facts state.now) node given (line_of g.line) g.grounds.items) }
+{
+    let rows = rules.named(concept);
+    line_of_row(alloc, state, rules, &rows[place], node, given)
+}
