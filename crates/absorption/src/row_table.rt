@@ -1,5 +1,6 @@
 // The rows of a set of axioms.
 ghost use Rattle.std.specs.Prelude.{◌≡◌, [], IfOk, OnOk, All, length};
+ghost use Rattle.std.specs.Map.{keys_of};
 ghost use Rattle.shape_specs.specs.Shape.{IsTable};
 ghost use Rattle.shq_nnf.specs.Numbers.{Extends};
 ghost use Rattle.axiom_sets.specs.Sets.{IsWithin, member_list};
@@ -78,6 +79,17 @@ impl RowTable {
         ensures { result.now ≡ rows_under self.now.at_roles role }
     {
         rows_at(&self.at_roles, role)
+    }
+
+    /// The roles at which rows stand, each once.
+    ///
+    /// # Errors
+    ///
+    /// Out of memory.
+    pub fn roles(&self, alloc: Global) -> Result<Vec<u32>, NoMemory>
+        ensures { IfOk result (λ roles. roles.items ≡ keys_of self.now.at_roles) }
+    {
+        Ok(self.at_roles.keys().copied().collect(alloc)?)
     }
 
     /// The rows that wait for nothing.

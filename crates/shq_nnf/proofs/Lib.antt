@@ -1,6 +1,7 @@
 pub mod Same
 pub mod Grown
 pub mod Inserted
+pub mod Looked
 pub mod Numbers
 pub mod Opened
 pub mod Bounded

@@ -1,5 +1,5 @@
 // The table itself: what it holds, and how a shape is put into it.
-ghost use Rattle.std.specs.Prelude.{◌≡◌, ◌+◌, ◌<◌, ◌≤◌, [], ◌∷◌, ◌++◌, IsTrue, IfOk, OnOk, OnErr, length, take};
+ghost use Rattle.std.specs.Prelude.{◌≡◌, ℕ, ◌+◌, ◌<◌, ◌≤◌, [], ◌∷◌, ◌++◌, IsTrue, IfOk, OnOk, OnErr, MatchOption, length, take};
 ghost use Rattle.shape_specs.specs.Shape.{shape_of, has_parts_below, is_normal, IsTable};
 ghost use Rattle.shape_specs.specs.Shape.Shape.{top as plain_top};
 ghost use Rattle.shq_nnf.specs.Shapes.{form_of, form_of_owned, concept_of};
@@ -109,8 +109,19 @@ impl Concepts {
         Ok(number as u32)
     }
 
+    /// The number that has a shape, if one has it.
+    pub fn find(&self, shape: &OwnedShape) -> Option<u32>
+        ensures { MatchOption result ((n : ℕ) → n < length self.now → ¬ (shape_of self.now n ≡ form_of_owned shape.now))
+            (λ n. (n < length self.now) × (shape_of self.now n ≡ form_of_owned shape.now)) }
+    {
+        match self.kept.get_index_of(shape) {
+            Some(number) => Some(number as u32),
+            None => None,
+        }
+    }
+
     /// The first numbers alone.
-    pub(crate) fn truncate(&mut self, len: u32)
+    pub fn truncate(&mut self, len: u32)
         requires { 0 < len }
         ensures { self.new ≡ take len self.old }
     {

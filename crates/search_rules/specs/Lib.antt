@@ -1,0 +1,6 @@
+pub mod RuleLists
+pub mod Lists
+pub mod Files
+pub mod Mosts
+pub mod Tables
+pub mod Queries

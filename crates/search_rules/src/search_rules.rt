@@ -1,0 +1,251 @@
+// The rules of searches over one set of axioms.
+ghost use Rattle.std.specs.Prelude.{◌≡◌, ℕ, ◌<◌, ◌≤◌, All, IsTrue, IfOk, OnErr, length};
+ghost use Rattle.shape_specs.specs.Shape.{IsTable};
+ghost use Rattle.axiom_sets.specs.Sets.{IsWithin, member_list};
+ghost use Rattle.shq_nnf.specs.Counts.{has_counts_within};
+ghost use Rattle.shq_nnf.specs.Numbers.{Extends};
+ghost use Rattle.role_box.specs.RoleAxioms.{role_axioms};
+ghost use Rattle.ontology_limits.specs.Limits.{IsOntologyInLimit};
+
+use crate::NoMemory;
+use crate::edge_tables::EdgeTables;
+use crate::number_tables::NumberTables;
+use crate::query_numbers::{QueryNumbers, closed_tables, query_numbers};
+use absorption::RowTable;
+use axiom_sets::AxiomSet;
+use ontology_limits::each_axiom_is_in_limit;
+use role_box::RoleBox;
+use shq_nnf::{Concepts, Shape};
+use shq_terms::{Ontology, Query};
+use std::alloc::Global;
+use std::marker::Model;
+use step_finders::{NamedRow, PlainRow, Rules};
+
+/// The concepts, roles and rows by which searches use the axioms of one set, and what they ask of these.
+#[derive(Drop)]
+pub struct SearchRules<'a> {
+    ontology: &'a Ontology,
+    set: AxiomSet,
+    concepts: Concepts,
+    roles: RoleBox,
+    rows: RowTable,
+    numbers: NumberTables,
+    edges: EdgeTables,
+}
+
+impl<'a> Model for SearchRules<'a> {
+    ghost use Rattle.std.specs.Coded.{codes};
+    ghost use Rattle.shq_base.specs.Code.{concept_code};
+    ghost use Rattle.axiom_sets.specs.Sets.{limited_code};
+    ghost use Rattle.search_rules.specs.RuleLists.{RuleLists};
+    ghost use Rattle.search_rules.specs.Tables.{AreKept};
+
+    ghost Value = { RuleLists };
+
+    ghost coded = { Prim.hlevel (codes, concept_code, limited_code) };
+
+    ghost view = { λ r. record { ontology = r.ontology.now; set = r.set; table = r.concepts; filed = r.rows } };
+
+    ghost invariant = { λ r. AreKept (record { ontology = r.ontology.now; set = r.set; table = r.concepts; filed = r.rows }) r.roles r.numbers r.edges };
+}
+
+impl<'a> SearchRules<'a> {
+    ghost use Rattle.search_rules.specs.RuleLists.{RuleLists, numbers_in, context_in, IsReady, IsGrown, AreNumbersOf};
+
+    /// The rules of the axioms of a set, which is of axioms of the ontology.
+    ///
+    /// # Errors
+    ///
+    /// Out of memory, or out of numbers for concepts.
+    pub fn build(
+        alloc: Global,
+        ontology: &'a Ontology,
+        set: &AxiomSet,
+    ) -> Result<SearchRules<'a>, NoMemory>
+        requires numbers { IsWithin (length ontology.now.axioms) set.now.members }
+        requires in_limit { IsOntologyInLimit ontology.now }
+        ensures ontology { IfOk result (λ r. r.ontology ≡ ontology.now) }
+        ensures set { IfOk result (λ r. r.set ≡ set.now) }
+    {
+        each_axiom_is_in_limit();
+        let only = listed(alloc, set)?;
+        let roles = RoleBox::build(alloc, ontology, &only)?;
+        let mut concepts = Concepts::new(alloc)?;
+        let rows = RowTable::build(alloc, ontology, set, &mut concepts)?;
+        put_complements_of_names(&mut concepts)?;
+        let numbers = closed_tables(alloc, &mut concepts, &roles, &rows)?;
+        let edges = EdgeTables::build(alloc, &roles, &rows)?;
+        Ok(SearchRules {
+            ontology,
+            set: set.try_clone()?,
+            concepts,
+            roles,
+            rows,
+            numbers,
+            edges,
+        })
+    }
+
+    /// The numbers of what a query asks whose cardinalities are at most 100: of its left side, and of the complement of its
+    /// right side. Where they are there already, nothing is made; where not, the tables are made anew.
+    ///
+    /// # Errors
+    ///
+    /// Out of memory, or out of numbers. The rules are as before then.
+    pub fn numbers_of(&mut self, alloc: Global, query: &Query) -> Result<(u32, u32), NoMemory>
+        requires sub { IsTrue (has_counts_within 100 query.now.sub) }
+        requires sup { IsTrue (has_counts_within 100 query.now.sup) }
+        ensures numbers { IfOk result (λ p. AreNumbersOf self.new query.now p.0 p.1) }
+        ensures kept { IsGrown self.old self.new }
+        ensures same { OnErr result (self.new ≡ self.old) }
+    {
+        let QueryNumbers {
+            sub,
+            not_sup,
+            tables,
+        } = query_numbers(alloc, &mut self.concepts, &self.roles, &self.rows, query)?;
+        match tables {
+            Some(tables) => {
+                self.numbers = tables;
+                Ok((sub, not_sup))
+            }
+            None => Ok((sub, not_sup)),
+        }
+    }
+
+    /// The ontology.
+    pub fn ontology(&self) -> &Ontology
+        ensures { result.now ≡ self.now.ontology }
+    {
+        self.ontology
+    }
+
+    /// The set of the axioms that are read.
+    pub fn set(&self) -> &AxiomSet
+        ensures set { result.now ≡ self.now.set }
+        ensures ready { IsReady self.now }
+    {
+        &self.set
+    }
+
+    /// The concepts by number.
+    pub fn concepts(&self) -> &Concepts
+        ensures concepts { result.now ≡ self.now.table }
+        ensures ready { IsReady self.now }
+    {
+        &self.concepts
+    }
+
+    /// The roles of the set.
+    pub fn roles(&self) -> &RoleBox
+        ensures { result.now ≡ role_axioms self.now.ontology.axioms (numbers_in self.now) }
+    {
+        &self.roles
+    }
+
+    /// The rows of the set.
+    pub fn rows(&self) -> &RowTable
+        ensures rows { result.now ≡ self.now.filed }
+        ensures ready { IsReady self.now }
+    {
+        &self.rows
+    }
+}
+
+// The members of the set, ascending.
+fn listed(alloc: Global, set: &AxiomSet) -> Result<Vec<u32>, NoMemory>
+    ensures { IfOk result (λ numbers. numbers.items ≡ member_list set.now) }
+{
+    Ok(set.numbers().collect(alloc)?)
+}
+
+// Puts the complement of each name, since a query asks for that of its right side.
+fn put_complements_of_names(concepts: &mut Concepts) -> Result<(), NoMemory>
+    ensures kept { Extends concepts.old concepts.new }
+    ensures table { IsTable concepts.new }
+{
+    for number in 0..concepts.len() {
+        put_complement_of_name(concepts, number)?;
+    }
+    Ok(())
+}
+
+fn put_complement_of_name(concepts: &mut Concepts, number: u32) -> Result<(), NoMemory>
+    requires { number < length concepts.old }
+    ensures kept { Extends concepts.old concepts.new }
+    ensures table { IsTable concepts.new }
+{
+    match class_of(concepts.shape(number)) {
+        Some(class) => {
+            concepts.put(Shape::NotName(class))?;
+            Ok(())
+        }
+        None => Ok(()),
+    }
+}
+
+fn class_of(shape: Shape<'_>) -> Option<u32> {
+    match shape {
+        Shape::Name(class) => Some(class),
+        _ => None,
+    }
+}
+
+impl<'a> Rules for SearchRules<'a> {
+    ghost use Rattle.std.specs.Prelude.{◌≡◌};
+    ghost use Rattle.shape_specs.specs.Shape.{IsTable};
+    ghost use Rattle.search_rules.specs.RuleLists.{context_in};
+    ghost use Rattle.search_rules.specs.Files.{files_in};
+
+    ghost context = { context_in };
+
+    ghost files = { files_in };
+
+    fn shape(&self, concept: u32) -> Shape<'_> {
+        if concept < self.concepts.len() {
+            self.concepts.shape(concept)
+        } else {
+            Shape::Top
+        }
+    }
+
+    fn is_below(&self, lower: u32, upper: u32) -> bool {
+        self.roles.below(lower, upper)
+    }
+
+    fn carries(&self, concept: u32) -> &[(u32, u32)] {
+        self.numbers.carries(concept)
+    }
+
+    fn complement(&self, concept: u32) -> Option<u32> {
+        if concept < self.concepts.len() {
+            self.numbers.complement(concept)
+        } else {
+            self.numbers.complement(0)
+        }
+    }
+
+    fn mosts(&self, filler: u32) -> &[u32] {
+        self.numbers.mosts(filler)
+    }
+
+    fn general(&self) -> &[PlainRow] {
+        self.edges.general()
+    }
+
+    fn named(&self, concept: u32) -> &[NamedRow] {
+        self.numbers.named(concept)
+    }
+
+    fn at_begins(&self, role: u32) -> &[PlainRow] {
+        self.edges.begins(role)
+    }
+
+    fn at_ends(&self, role: u32) -> &[PlainRow] {
+        self.edges.ends(role)
+    }
+
+    fn is_ready(&self) {
+        let _ = &self.concepts;
+    }
+}
