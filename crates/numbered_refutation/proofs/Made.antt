@@ -1,5 +1,5 @@
 -- Lines with the numbers of the concepts that are named.
-use Rattle.std.proofs.Common.{◌≡◌, ℕ, ◌+◌, ◌<◌, ltb, true, List, [], ◌∷◌, ◌++◌, map, length, refl, ap, sym, ◌∙◌, subst, arith, Some, append_assoc}
+use Rattle.std.proofs.Common.{◌≡◌, ℕ, zero, suc, ◌+◌, ◌<◌, ltb, Bool, true, get_or, List, [], ◌∷◌, ◌++◌, map, length, refl, ap, sym, ◌∙◌, subst, arith, Some, append_assoc}
 use Rattle.std.specs.List.{list_all, All}
 use Rattle.std.proofs.lemmas.Bool.{and_parts, and_from, ltb-true, lt-ltb}
 use Rattle.std.proofs.lemmas.List.{map-append, append-nil}
@@ -19,7 +19,7 @@ use Rattle.tableau_specs.specs.Lines.{concept_in}
 use Rattle.closing_specs.specs.Renumbered.{renumbered, Reads}
 use Rattle.numbered_refutation.specs.Numbers.{is_used, are_used, number_in}
 use Rattle.numbered_refutation.specs.Naming.{IsNaming, IsNamed}
-use Rattle.numbered_refutation.specs.Finished.{is_over, are_over, lines_used, IsNumbered, IsLine, AreLines, IsNamingLines}
+use Rattle.numbered_refutation.specs.Finished.{is_over, are_over, lines_used, IsOfKind, IsNumbered, IsLine, AreLines, IsNamingLines}
 use Rattle.numbered_refutation.specs.declared.naming.Naming.{Naming}
 use Rattle.numbered_refutation.proofs.Places.{all_used_stay, numbers_stay}
 use Rattle.numbered_refutation.proofs.Trees.{IsRead, is_read}
@@ -66,6 +66,7 @@ module _ (table : List Shape) (old : Naming) (line : Line) where
   no_concept naming none = record {
     naming = naming;
     grown = grows_none old (length table);
+    kinds = λ q h asked all. all;
     used = ap (are_used old.used.keys) none;
     is = plain line none ∙ same_numbers (λ c. c) (number_in old.used.keys) line (ap (map (λ (c : ℕ). c)) none ∙ sym (ap (map (number_in old.used.keys)) none));
   }
@@ -93,6 +94,7 @@ module _ (table : List Shape) (old : Naming) (line : Line) where
   one_concept new c n made e lt h is = record {
     naming = h.naming;
     grown = grows_twice old old new (length table) (c + 1) (length table) (omega arith) (omega arith) (grows_none old (length table)) h.grown;
+    kinds = λ q hp asked all. h.kinds q hp (ap (list_all q) (sym e) ∙ asked) all;
     used = ap (are_used new.used.keys) e ∙ and_from (is_used new.used.keys c) true h.number'.used refl;
     is = is ∙ same_numbers (λ k. n) (number_in new.used.keys) line (ap (map (λ (k : ℕ). n)) e ∙ ap (λ (k : ℕ). k ∷ []) h.number'.is ∙ sym (ap (map (number_in new.used.keys)) e));
   }
@@ -114,7 +116,7 @@ made_later used more (l ∷ ls) h =
     cc
 
 pub lines_none : (table : List Shape) (n : Naming) → IsNaming table n → AreLines table n n [] []
-lines_none table n naming = record { naming = naming; grown = grows_none n (length table); used = refl; are = refl }
+lines_none table n naming = record { naming = naming; grown = grows_none n (length table); kinds = λ q h asked old. old; used = refl; are = refl }
 
 pub lines_more : (table : List Shape) (a b c : Naming) (ls made : List Line) (l m : Line) → AreLines table a b ls made → IsLine table b c l m → AreLines table a c (ls ++ l ∷ []) (made ++ m ∷ [])
 lines_more table a b c ls made l m h one =
@@ -122,6 +124,10 @@ lines_more table a b c ls made l m h one =
     record {
       naming = one.naming;
       grown = grows_twice a b c (length table) (length table) (length table) (omega arith) (omega arith) h.grown one.grown;
+      kinds = λ q hp asked old.
+          let named : Line → Bool = λ k. list_all q (concept_numbers k) in
+          let both = and_parts (list_all named ls) (list_all named (l ∷ [])) (sym (list_all-append named ls (l ∷ [])) ∙ asked) in
+          one.kinds q hp (and_parts (named l) true both.1).0 (h.kinds q hp both.0 old);
       used = list_all-append (λ k. are_used c.used.keys (concept_numbers k)) ls (l ∷ []) ∙ and_from (lines_used c.used.keys ls) (lines_used c.used.keys (l ∷ []))
           (subst (λ (u : List ℕ). lines_used u ls ≡ true) (sym one.grown.are) (used_later b.used.keys one.grown.more ls h.used)) (and_from (are_used c.used.keys (concept_numbers l)) true one.used refl);
       are =
@@ -181,15 +187,29 @@ begun_naming table n axioms none first =
       no_lines = ap (λ r. r.lines) first;
     }
 
-pub all_numbered : (table : List Shape) (old n : Naming) (axioms : Limited) (ls made : List Line) (r : RefutationLists) → old.refutation ≡ begun axioms → AreLines table old n ls made
+kind_at : (p : ℕ → Bool) (k : ℕ) (cs : List ℕ) → list_all p cs ≡ true → k < length cs → p (get_or cs k 0) ≡ true
+kind_at p k [] h lt = absurd (omega arith)
+kind_at p zero (c ∷ cs) h lt = (and_parts (p c) (list_all p cs) h).0
+kind_at p (suc k) (c ∷ cs) h lt = kind_at p k cs (and_parts (p c) (list_all p cs) h).1 (omega arith)
+
+-- each concept that is named is of the kind
+all_of_kind : (table : List Shape) (n : Naming) → IsNaming table n → (p : ℕ → Bool) → list_all p n.used.keys ≡ true → (k : ℕ) → k < length n.refutation.shapes → IsOfKind table p n.refutation.shapes (k + 1)
+all_of_kind table n naming p h k lt =
+    let lt' : k < length n.used.keys = omega (arith, naming.same_length) in
+    record { concept = get_or n.used.keys k 0; listed = naming.listed k 0 lt'; is_of_kind = kind_at p k n.used.keys h lt'; same = naming.reads k lt' }
+
+pub all_numbered : (table : List Shape) (old n : Naming) (axioms : Limited) (ls made : List Line) (r : RefutationLists) → old.used.keys ≡ [] → old.refutation ≡ begun axioms → AreLines table old n ls made
     → r ≡ record n.refutation { lines = n.refutation.lines ++ made } → IsNumbered table axioms ls r
-all_numbered table old n axioms ls made r first h is =
+all_numbered table old n axioms ls made r none first h is =
     let shapes : r.shapes ≡ n.refutation.shapes = ap (λ k. k.shapes) is in
     record {
       axioms_are = ap (λ k. k.axioms) is ∙ h.grown.axioms ∙ ap (λ k. k.axioms) first;
       number' = number_in n.used.keys;
       lines_are = ap (λ k. k.lines) is ∙ ap (λ (l : List Line). l ++ made) h.naming.no_lines ∙ h.are;
       reads = subst (λ (l : List Shape). All (Reads (concept_in table) (concept_at l) (number_in n.used.keys)) ls) (sym shapes) (lines_read table n h.naming ls h.used);
+      kinds = λ p hp asked.
+          let named = h.kinds p hp asked (ap (list_all p) none) in
+          subst (λ (l : List Shape). (k : ℕ) → k < length l → IsOfKind table p l (k + 1)) (sym shapes) (all_of_kind table n h.naming p named);
     }
 
 pub naming_none : (table : List Shape) (n : Naming) (lines made : List Kept) → IsNaming table n → are_over (length table) (map line_of lines) ≡ true → made ≡ [] → IsNamingLines table n n lines [] lines made

@@ -31,7 +31,7 @@ grows_twice a b c m n p le mt g h = record {
 }
 
 pub named_already : (table : List Shape) (n : Naming) (c k : ℕ) → IsNaming table n → IsNumberOf n c k → IsNamed table n n c k
-named_already table n c k naming is = record { naming = naming; grown = grows_none n (c + 1); number' = is }
+named_already table n c k naming is = record { naming = naming; grown = grows_none n (c + 1); kinds = λ q h asked old. old; number' = is }
 
 -- ---- a new concept
 
@@ -67,6 +67,10 @@ module _ (table : List Shape) (is_table : IsTable table) (old mid : Naming) (c :
           below = All-append (λ d. d < c + 1) r.grown.more (c ∷ []) (weaker c (c + 1) (omega arith) r.grown.more r.grown.below) (All-cons (λ d. d < c + 1) c [] (omega arith) (All-nil (λ d. d < c + 1)));
           axioms = ap (λ k. k.axioms) p.refutation ∙ r.grown.axioms;
         };
+        kinds = λ q h asked all.
+            let of_parts = h c lt (and_parts (q c) true asked).0 in
+            let before : list_all q mid.used.keys ≡ true = r.kinds q h of_parts all in
+            subst (λ (l : List ℕ). list_all q l ≡ true) (sym p.used) (list_all-append q mid.used.keys (c ∷ []) ∙ and_from (list_all q mid.used.keys) (list_all q (c ∷ [])) before asked);
         number' = record {
           used = subst (λ (l : List ℕ). is_used l c ≡ true) (sym p.used) (last_used mid.used.keys c);
           is = p.is ∙ ap (λ (k : ℕ). k + 1) r.naming.same_length ∙ sym (last_number mid.used.keys c unused) ∙ ap (λ (l : List ℕ). number_in l c) (sym p.used);
@@ -76,7 +80,7 @@ module _ (table : List Shape) (is_table : IsTable table) (old mid : Naming) (c :
 -- ---- parts
 
 pub renamed_none : (table : List Shape) (n : Naming) (bound : ℕ) → IsNaming table n → AreRenamed table n n bound [] []
-renamed_none table n bound naming = record { naming = naming; grown = grows_none n bound; used = refl; are = refl }
+renamed_none table n bound naming = record { naming = naming; grown = grows_none n bound; kinds = λ q h asked old. old; used = refl; are = refl }
 
 pub renamed_more : (table : List Shape) (a b c : Naming) (bound p n : ℕ) (ps ns : List ℕ) → p < bound → AreRenamed table a b bound ps ns → IsNamed table b c p n
     → AreRenamed table a c bound (ps ++ p ∷ []) (ns ++ n ∷ [])
@@ -87,6 +91,9 @@ renamed_more table a b c bound p n ps ns lt r h =
     record {
       naming = h.naming;
       grown = grows_twice a b c bound (p + 1) bound (omega arith) (omega arith) r.grown h.grown;
+      kinds = λ q hp asked old.
+          let both = and_parts (list_all q ps) (list_all q (p ∷ [])) (sym (list_all-append q ps (p ∷ [])) ∙ asked) in
+          h.kinds q hp both.1 (r.kinds q hp both.0 old);
       used = list_all-append (is_used c.used.keys) ps (p ∷ []) ∙ and_from (are_used c.used.keys ps) (are_used c.used.keys (p ∷ [])) old_used (and_from (is_used c.used.keys p) true h.number'.used refl);
       are = ap (λ (l : List ℕ). l ++ n ∷ []) (r.are ∙ sym old_numbers) ∙ ap (λ (k : ℕ). map (number_in c.used.keys) ps ++ k ∷ []) h.number'.is ∙ sym (map-append (number_in c.used.keys) ps (p ∷ []));
     }
@@ -114,17 +121,18 @@ parts_below table is_table c lt = by_shape (shape_of table c) (is_table.parts_be
 -- ---- shapes
 
 pub leaf_renamed : (table : List Shape) (n : Naming) (bound : ℕ) (s : Shape) → IsNaming table n → part_numbers s ≡ [] → renumbered_shape (number_in n.used.keys) s ≡ s → IsRenamed table n n bound s s
-leaf_renamed table n bound s naming none same = record { naming = naming; grown = grows_none n bound; parts = ap (are_used n.used.keys) none; is = sym same }
+leaf_renamed table n bound s naming none same = record { naming = naming; grown = grows_none n bound; kinds = λ q h asked old. old; parts = ap (are_used n.used.keys) none; is = sym same }
 
 pub parts_renamed : (table : List Shape) (old new : Naming) (bound : ℕ) (form s : Shape) (parts numbers : List ℕ) → AreRenamed table old new bound parts numbers
     → part_numbers form ≡ parts → (map (number_in new.used.keys) parts ≡ numbers → s ≡ renumbered_shape (number_in new.used.keys) form) → IsRenamed table old new bound form s
-parts_renamed table old new bound form s parts numbers h are is = record { naming = h.naming; grown = h.grown; parts = ap (are_used new.used.keys) are ∙ h.used; is = is (sym h.are) }
+parts_renamed table old new bound form s parts numbers h are is = record { naming = h.naming; grown = h.grown; kinds = λ q hp asked old. h.kinds q hp (ap (list_all q) (sym are) ∙ asked) old; parts = ap (are_used new.used.keys) are ∙ h.used; is = is (sym h.are) }
 
 pub filler_renamed : (table : List Shape) (old new : Naming) (bound : ℕ) (form s : Shape) (filler number : ℕ) → filler < bound → IsNamed table old new filler number
     → part_numbers form ≡ filler ∷ [] → (number_in new.used.keys filler ≡ number → s ≡ renumbered_shape (number_in new.used.keys) form) → IsRenamed table old new bound form s
 filler_renamed table old new bound form s filler number lt h are is = record {
   naming = h.naming;
   grown = grows_twice old old new bound (filler + 1) bound (omega arith) (omega arith) (grows_none old bound) h.grown;
+  kinds = λ q hp asked all. h.kinds q hp (ap (list_all q) (sym are) ∙ asked) all;
   parts = ap (are_used new.used.keys) are ∙ and_from (is_used new.used.keys filler) true h.number'.used refl;
   is = is (sym h.number'.is);
 }

@@ -1,8 +1,10 @@
 -- The refutation of lines whose concepts are numbers of a table.
-use Rattle.std.specs.Prelude.{◌≡◌, ℕ, nat_lt, Bool, true, List, ◌++◌, map, length, All}
+use Rattle.std.specs.Prelude.{◌≡◌, ℕ, ◌+◌, ◌<◌, nat_lt, Bool, true, List, ◌∷◌, ◌++◌, map, length, All}
 use Rattle.std.specs.List.{list_all}
 use Rattle.axiom_sets.specs.Sets.{Limited}
 use Rattle.shape_specs.specs.Shape.{Shape}
+use Rattle.shape_specs.specs.Shape.Shape.{top}
+use Rattle.shape_specs.specs.Tree.{tree_of}
 use Rattle.refutation_specs.specs.Line.{Line}
 use Rattle.refutation_specs.specs.Valid.{concept_at}
 use Rattle.refutation_tree.specs.declared.line.Line.{Line as Kept}
@@ -11,7 +13,7 @@ use Rattle.refutation_tree.specs.RefutationLists.{RefutationLists}
 use Rattle.tableau_specs.specs.Lines.{concept_in}
 use Rattle.closing_specs.specs.Renumbered.{renumbered, Reads}
 use Rattle.numbered_refutation.specs.Numbers.{are_used, number_in}
-use Rattle.numbered_refutation.specs.Naming.{IsNaming, Grows}
+use Rattle.numbered_refutation.specs.Naming.{IsNaming, Grows, HasParts, KeepsKinds}
 use Rattle.numbered_refutation.specs.declared.naming.Naming.{Naming}
 
 -- whether each concept that a line names is one of the table's first n numbers
@@ -21,12 +23,25 @@ is_over n line = list_all (λ c. nat_lt c n) (concept_numbers line)
 abbrev pub are_over : ℕ → List Line → Bool
 are_over n lines = list_all (is_over n) lines
 
+-- whether the concepts that the lines name are of a kind
+abbrev pub are_of_kind : (ℕ → Bool) → List Line → Bool
+are_of_kind p lines = list_all (λ l. list_all p (concept_numbers l)) lines
+
+-- the shape of this number stands for a concept of the table that is of the kind
+pub record IsOfKind (table : List Shape) (p : ℕ → Bool) (shapes : List Shape) (number : ℕ) : Type 0 where
+  pub concept : ℕ
+  pub listed : concept < length table
+  pub is_of_kind : p concept ≡ true
+  pub same : tree_of (top ∷ shapes) number ≡ tree_of table concept
+
 -- the refutation has these axioms and these lines, with numbers of its own that stand for the same concepts
 pub record IsNumbered (table : List Shape) (axioms : Limited) (lines : List Line) (r : RefutationLists) : Type 0 where
   pub axioms_are : r.axioms ≡ axioms
   pub number' : ℕ → ℕ
   pub lines_are : r.lines ≡ map (renumbered number') lines
   pub reads : All (Reads (concept_in table) (concept_at r.shapes) number') lines
+  -- it names nothing but parts of what the lines name
+  pub kinds : (p : ℕ → Bool) → HasParts table p → are_of_kind p lines ≡ true → (k : ℕ) → k < length r.shapes → IsOfKind table p r.shapes (k + 1)
 
 -- ---- while it is made
 
@@ -38,12 +53,14 @@ lines_used used lines = list_all (λ l. are_used used (concept_numbers l)) lines
 pub record IsLine (table : List Shape) (old new : Naming) (line made : Line) : Type 0 where
   pub naming : IsNaming table new
   pub grown : Grows old new (length table)
+  pub kinds : KeepsKinds table old new (concept_numbers line)
   pub used : are_used new.used.keys (concept_numbers line) ≡ true
   pub is : made ≡ renumbered (number_in new.used.keys) line
 
 pub record AreLines (table : List Shape) (old new : Naming) (lines made : List Line) : Type 0 where
   pub naming : IsNaming table new
   pub grown : Grows old new (length table)
+  pub kinds : (p : ℕ → Bool) → HasParts table p → are_of_kind p lines ≡ true → list_all p old.used.keys ≡ true → list_all p new.used.keys ≡ true
   pub used : lines_used new.used.keys lines ≡ true
   pub are : made ≡ map (renumbered (number_in new.used.keys)) lines
 

@@ -18,4 +18,4 @@ put_lines-requires c =
 pub returns : goal.returns
 returns c =
     all_numbered c.args.concepts.now c.new-naming.result c.name_lines.new.naming c.args.axioms (map line_of c.args.lines.items) (map line_of c.name_lines.new.made.items) c.put_lines.new.refutation
-    c.new-naming.ensures.refutation c.in_ok-name_lines.ensures (c.in_ok-put_lines.ensures ∙ ap (λ (r : RefutationLists). record r { lines = r.lines ++ map line_of c.name_lines.new.made.items }) c.into_refutation-refutation.ensures)
+    c.new-naming.ensures.used c.new-naming.ensures.refutation c.in_ok-name_lines.ensures (c.in_ok-put_lines.ensures ∙ ap (λ (r : RefutationLists). record r { lines = r.lines ++ map line_of c.name_lines.new.made.items }) c.into_refutation-refutation.ensures)

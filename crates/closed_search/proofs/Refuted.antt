@@ -1,0 +1,115 @@
+-- What is made of lines that close everything.
+use Rattle.std.proofs.Common.{◌≡◌, ℕ, ◌&&◌, ◌||◌, ◌<◌, ◌^◌, arith, Bool, true, List, [], ◌∷◌, map, length, Some, refl, ap, sym, ◌∙◌, subst}
+use Rattle.std.specs.List.{list_any, list_all}
+use Rattle.std.specs.FinSet as sets
+use Rattle.std.proofs.lemmas.Bool.{and_parts, and_from}
+use Rattle.std.proofs.lemmas.List.Elements.{All-tail}
+use Rattle.shq_base.specs.Concept.{Concept}
+use Rattle.lane_sieve.specs.Sets.{IsPart}
+use Rattle.axiom_sets.specs.Sets.{Limited, IsWithin, member_list}
+use Rattle.shq_terms.specs.declared.axioms.Numbered.{Numbered}
+use Rattle.shq_terms.specs.Listed.{Listed}
+use Rattle.shape_specs.specs.Shape.{Shape, IsTable}
+use Rattle.refutation_specs.specs.Line.{Line}
+use Rattle.refutation_specs.specs.Line.Line.{start_line, and_line, or_line, all_line, carry_line, row_line, range_line, some_line, least_line, choose_line, pair_line, bottom_line, clash_line, most_line}
+use Rattle.refutation_specs.specs.Rules.{nothing_known}
+use Rattle.refutation_specs.specs.Valid.{concept_at, IsRefutation}
+use Rattle.refutation_specs.proofs.Stack.{refutation_runs, run_refutes}
+use Rattle.refutation_truth.specs.Theory.{theory_of}
+use Rattle.refutation_tree.specs.RefutationLists.{RefutationLists, IsKept}
+use Rattle.refutation_tree.specs.ReadBack.{has_nodes, is_small}
+use Rattle.refutation_tree.specs.Written.{shape_is_listed, line_is_listed, names_are_listed}
+use Rattle.tableau_specs.specs.Lines.{concept_in}
+use Rattle.closing_specs.specs.Leaves.{leaves}
+use Rattle.closing_specs.specs.Noted.{NotedLine, noted_children, noted_start}
+use Rattle.closing_specs.specs.Renumbered.{renumbered, Reads}
+use Rattle.closing_specs.proofs.Plain.{refutes}
+use Rattle.closing_specs.proofs.Named.{same_run}
+use Rattle.numbered_refutation.specs.Finished.{IsNumbered}
+use Rattle.search_trace.specs.Trace.{TraceLists, lines_in}
+use Rattle.closed_search.specs.Refuted.{concept_is_listed, uses_names, CloseAll, IsWrittenRefutation}
+use Rattle.closed_search.specs.Named.{uses_axiom, is_role_number, names_axiom, NamesAxioms}
+use Rattle.closed_search.proofs.SameTheory.{have_same_roles, have_same_parts}
+use Rattle.closed_search.proofs.Listed.{have_parts, shapes_listed, lines_listed, concepts_listed}
+use Rattle.closed_search.proofs.Nodes.{closing_has_nodes, have_nodes}
+
+-- ---- the axioms of renumbered lines
+
+same_axiom : (f : ℕ → ℕ) (k : ℕ) (l : Line) → uses_axiom k (renumbered f l) ≡ uses_axiom k l
+same_axiom f k start_line = refl
+same_axiom f k (and_line x c) = refl
+same_axiom f k (or_line x c) = refl
+same_axiom f k (all_line x y c) = refl
+same_axiom f k (carry_line x y r c) = refl
+same_axiom f k (row_line x a p is) = refl
+same_axiom f k (range_line x y a) = refl
+same_axiom f k (some_line x y c) = refl
+same_axiom f k (least_line x y c) = refl
+same_axiom f k (choose_line y c) = refl
+same_axiom f k (pair_line y z) = refl
+same_axiom f k (bottom_line x) = refl
+same_axiom f k (clash_line x c) = refl
+same_axiom f k (most_line x c ys) = refl
+
+same_axioms : (f : ℕ → ℕ) (k : ℕ) (ls : List Line) → list_any (uses_axiom k) (map (renumbered f) ls) ≡ list_any (uses_axiom k) ls
+same_axioms f k [] = refl
+same_axioms f k (l ∷ ls) = λ i. same_axiom f k l i || same_axioms f k ls i
+
+-- the refutation names the axioms that its own lines use
+pub numbered_names : (axioms : List Numbered) (set named : Limited) (table : List Shape) (lines : List Line) (r : RefutationLists) → NamesAxioms axioms set lines named → IsNumbered table named lines r
+    → NamesAxioms axioms set r.lines r.axioms
+numbered_names axioms set named table lines r h is =
+    let same : (k : ℕ) → names_axiom axioms set.members lines k ≡ names_axiom axioms set.members r.lines k =
+    λ k. ap (λ (b : Bool). sets.contains set.members k && (is_role_number axioms k || b)) (sym (ap (list_any (uses_axiom k)) is.lines_are ∙ same_axioms is.number' k lines)) in
+    subst (NamesAxioms axioms set r.lines) (sym is.axioms_are) (record { limit = h.limit; members = λ k. h.members k ∙ same k })
+
+pub named_are_part : (axioms : List Numbered) (set : Limited) (lines : List Line) (named : Limited) → NamesAxioms axioms set lines named → IsPart named.members set.members
+named_are_part axioms set lines named h k member =
+    (and_parts (sets.contains set.members k) (is_role_number axioms k || list_any (uses_axiom k) lines) (sym (h.members k) ∙ member)).0
+
+-- ---- validity
+
+pub closed_refutes : (axioms : List Numbered) (set : Limited) (table : List Shape) (named : Limited) (ls : List NotedLine) (r : RefutationLists) → set.limit ≡ length axioms
+    → IsNumbered table named (start_line ∷ map (λ l. l.line) ls) r → NamesAxioms axioms set r.lines r.axioms → (sub sup : Concept)
+    → leaves (noted_children (theory_of axioms (member_list set)) (concept_in table)) (noted_start sub sup ∷ []) ls ≡ Some []
+    → IsRefutation (theory_of axioms (member_list r.axioms)) sub sup r.shapes r.lines
+closed_refutes axioms set table named ls r limit is names sub sup closes =
+    let one = theory_of axioms (member_list set) in
+    let other = theory_of axioms (member_list r.axioms) in
+    let reads = All-tail (Reads (concept_in table) (concept_at r.shapes) is.number') start_line (map (λ l. l.line) ls) is.reads in
+    let whole : IsRefutation one sub sup r.shapes r.lines = subst (IsRefutation one sub sup r.shapes) (sym is.lines_are) (refutes one sub sup (concept_in table) r.shapes is.number' ls reads closes) in
+    run_refutes other sub sup r.shapes r.lines
+    (sym (same_run one other sub sup (concept_at r.shapes) (have_same_roles axioms set r.lines r.axioms limit names) r.lines (have_same_parts axioms set r.lines r.axioms limit names) (nothing_known ∷ []))
+    ∙ refutation_runs one sub sup r.shapes r.lines whole)
+
+-- ---- names
+
+module _ (o : Listed) (set named : Limited) (table : List Shape) (trace : TraceLists) (lines : List Line) (r : RefutationLists) (begins : lines ≡ start_line ∷ lines_in trace) (is : IsNumbered table named lines r)
+    (uses : list_all (uses_names o table) (lines_in trace) ≡ true) (is_table : IsTable table) (kept : IsKept r.shapes r.lines) where
+  all_use : list_all (uses_names o table) lines ≡ true
+  all_use = ap (list_all (uses_names o table)) begins ∙ uses
+
+  pub names_listed : names_are_listed o r ≡ true
+  names_listed =
+      and_from (list_all (shape_is_listed o) r.shapes) (list_all (line_is_listed o) r.lines)
+      (shapes_listed o table r.shapes kept.are_shapes (is.kinds (concept_is_listed o table) (have_parts o table is_table) (concepts_listed o table lines all_use)))
+      (ap (list_all (line_is_listed o)) is.lines_are ∙ lines_listed o table is.number' lines all_use)
+
+  pub written : set.limit ≡ length o.axioms → NamesAxioms o.axioms set r.lines r.axioms → IsWithin r.axioms.limit r.axioms.members → r.axioms.limit < 2 ^ 32 → list_all is_small r.lines ≡ true → (sub sup : Concept)
+      → CloseAll o set table sub sup trace.lines → IsWrittenRefutation o sub sup r
+  written limit names within few small sub sup closes =
+      let theory = theory_of o.axioms (member_list set) in
+      let plain = subst (λ (ls : List Line). IsNumbered table named ls r) begins is in
+      let nodes = closing_has_nodes theory (concept_in table) trace.lines (noted_start sub sup ∷ []) [] closes in
+      record {
+        refutes = closed_refutes o.axioms set table named trace.lines r limit plain names sub sup closes;
+        writable = record {
+          kept = kept;
+          limit = names.limit;
+          within = within;
+          few_axioms = omega (arith, names.limit, few);
+          listed = names_listed;
+          have_nodes = ap (list_all has_nodes) is.lines_are ∙ have_nodes is.number' lines (ap (list_all has_nodes) begins ∙ nodes);
+          are_small = small;
+        };
+      }

@@ -1,0 +1,9 @@
+use Rattle.std.proofs.Common.{◌≡◌, map, drop}
+use Rattle.std.specs.List.{list_all}
+use Rattle.refutation_tree.specs.RuleLine.{line_of}
+use Rattle.refutation_tree.specs.ReadBack.{is_small}
+use Rattle.closed_search.proofs.small.show_small.Given as goal
+
+-- all are small when the rest are
+abbrev pub invariant-loop-line : goal.invariant-loop-line
+invariant-loop-line l = list_all is_small (map line_of l.lines) ≡ list_all is_small (map line_of (drop l.line-index l.lines))

@@ -1,0 +1,58 @@
+-- The axioms that a refutation names: of those of a set, the role axioms and those that stand in its lines.
+use Rattle.std.specs.Prelude.{◌≡◌, ℕ, ◌-◌, ◌==◌, ◌&&◌, ◌||◌, Bool, false, List, length, Option, Some, None, slice_get}
+use Rattle.std.specs.List.{list_any}
+use Rattle.std.specs.FinSet as sets
+use Rattle.lane_sieve.specs.Sets.{NumberSet}
+use Rattle.axiom_sets.specs.Sets.{Limited}
+use Rattle.shq_terms.specs.declared.axioms.Numbered.{Numbered}
+use Rattle.shq_nnf.specs.Meeting.{is_role_axiom}
+use Rattle.refutation_specs.specs.Line.{Line}
+use Rattle.refutation_specs.specs.Line.Line.{row_line, range_line}
+
+-- the axiom that stands in a line
+abbrev pub axiom_of : Line → Option ℕ
+axiom_of (row_line x a p is) = Some a
+axiom_of (range_line x y a) = Some a
+axiom_of _ = None
+
+abbrev pub is_axiom : ℕ → Option ℕ → Bool
+is_axiom k None = false
+is_axiom k (Some a) = a == k
+
+-- whether the axiom of this number stands in the line
+abbrev pub uses_axiom : ℕ → Line → Bool
+uses_axiom k line = is_axiom k (axiom_of line)
+
+abbrev pub says_of_roles : Option Numbered → Bool
+says_of_roles None = false
+says_of_roles (Some n) = is_role_axiom n.axiom
+
+-- whether the axiom of this number, from 1, is a role axiom
+abbrev pub is_role_number : List Numbered → ℕ → Bool
+is_role_number axioms k = says_of_roles (slice_get axioms (k - 1))
+
+-- whether a refutation over the set that has these lines names the axiom
+abbrev pub names_axiom : List Numbered → NumberSet → List Line → ℕ → Bool
+names_axiom axioms members lines k = sets.contains members k && (is_role_number axioms k || list_any (uses_axiom k) lines)
+
+pub record NamesAxioms (axioms : List Numbered) (set : Limited) (lines : List Line) (named : Limited) : Type 0 where
+  pub limit : named.limit ≡ length axioms
+  pub members : (k : ℕ) → sets.contains named.members k ≡ names_axiom axioms set.members lines k
+
+-- ---- while they are put in
+
+-- whether this is the number of the role axiom k
+abbrev pub takes_role : List Numbered → ℕ → ℕ → Bool
+takes_role axioms k number = number == k && is_role_number axioms k
+
+-- of the members of the set, those that pass the test are put in
+abbrev pub IsPut : NumberSet → (ℕ → Bool) → NumberSet → NumberSet → Type 0
+IsPut members test old new = (k : ℕ) → sets.contains new k ≡ (sets.contains old k || (sets.contains members k && test k))
+
+-- those that some of the items ask for are put in
+abbrev pub ArePut : {X : Type 0} → NumberSet → (ℕ → X → Bool) → List X → NumberSet → NumberSet → Type 0
+ArePut members asks items old new = IsPut members (λ k. list_any (asks k) items) old new
+
+-- of the items, the rest are left, and they make of the set what all make of the old one
+abbrev pub IsPutting : {X : Type 0} → NumberSet → (ℕ → X → Bool) → List X → NumberSet → NumberSet → List X → Type 0
+IsPutting members asks items old now rest = (k : ℕ) → (sets.contains now k || (sets.contains members k && list_any (asks k) rest)) ≡ (sets.contains old k || (sets.contains members k && list_any (asks k) items))

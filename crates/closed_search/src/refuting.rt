@@ -1,0 +1,51 @@
+// From a trace that is closed to its refutation.
+ghost use Rattle.std.specs.Prelude.{◌≡◌, true, IsTrue, IfOk, length};
+ghost use Rattle.std.specs.List.{list_all};
+ghost use Rattle.shq_base.specs.Concept.{Concept};
+ghost use Rattle.lane_sieve.specs.Sets.{IsPart};
+ghost use Rattle.refutation_tree.specs.Written.{names_are_listed};
+ghost use Rattle.numbered_refutation.specs.Finished.{are_over};
+ghost use Rattle.search_trace.specs.Trace.{lines_in};
+ghost use Rattle.closed_search.specs.Named.{NamesAxioms};
+ghost use Rattle.closed_search.specs.Refuted.{uses_names, CloseAll, IsWrittenRefutation};
+
+use crate::naming::axioms_named;
+use crate::small::show_small;
+use crate::{NoMemory, Refutation, Trace};
+use axiom_sets::AxiomSet;
+use numbered_refutation::numbered_refutation;
+use shq_nnf::Concepts;
+use shq_terms::Ontology;
+use std::alloc::Global;
+
+/// The refutation of the lines of a search over a set of axioms, where these close everything. It names the role axioms of
+/// the set, and the others that stand in its lines. The concepts of the lines are numbers of the table.
+///
+/// # Errors
+///
+/// Out of memory.
+pub fn refutation_of(
+    alloc: Global,
+    trace: Trace,
+    ontology: &Ontology,
+    set: &AxiomSet,
+    concepts: &Concepts,
+) -> Result<Refutation, NoMemory>
+    requires set { set.now.limit ≡ length ontology.now.axioms }
+    requires over { are_over (length concepts.now) (lines_in trace) ≡ true }
+    requires listed { list_all (uses_names ontology.now concepts.now) (lines_in trace) ≡ true }
+    ensures axioms { IfOk result (λ r. NamesAxioms ontology.now.axioms set.now r.lines r.axioms) }
+    ensures part { IfOk result (λ r. IsPart r.axioms.members set.now.members) }
+    ensures listed { IfOk result (λ r. IsTrue (names_are_listed ontology.now r)) }
+    ensures refutes { IfOk result (λ r. (sub sup : Concept) → CloseAll ontology.now set.now concepts.now sub sup trace.lines
+        → IsWrittenRefutation ontology.now sub sup r) }
+{
+    let _ = concepts.len();
+    let lines = trace.into_lines(alloc)?;
+    let named = axioms_named(alloc, ontology, set, &lines)?;
+    let refutation = numbered_refutation(alloc, named, concepts, lines)?;
+    let _ = refutation.shape_count();
+    let _ = refutation.axioms_used().limit();
+    show_small(refutation.lines());
+    Ok(refutation)
+}

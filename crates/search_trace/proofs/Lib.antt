@@ -1,0 +1,5 @@
+pub mod Moved
+pub mod Marks
+pub mod Going
+pub mod Traced
+pub mod KeptKinds

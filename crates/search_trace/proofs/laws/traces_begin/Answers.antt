@@ -1,0 +1,5 @@
+use Rattle.closing_specs.proofs.Places.{start_is_traced}
+use Rattle.search_trace.proofs.laws.traces_begin.Goals as goal
+
+pub returns : goal.returns
+returns c = λ theory table sub sup sub_number not_sup_number e f. record { are_at = tt; traced = start_is_traced theory table sub sup sub_number not_sup_number e f }

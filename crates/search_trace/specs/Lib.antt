@@ -1,0 +1,4 @@
+pub mod Lines
+pub mod Trace
+pub mod Going
+pub mod Laws
