@@ -46,10 +46,11 @@ impl Interp {
         }
     }
 
-    /// How many elements there are.
+    /// How many elements there are. All members and pairs are of elements.
     pub fn size(&self) -> u32
         ensures size { result ≡ self.now.size }
         ensures some { 1 ≤ result }
+        ensures inside { IsDomain self.now.size self.now.members self.now.links }
     {
         self.size
     }

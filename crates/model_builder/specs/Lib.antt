@@ -1,1 +1,4 @@
 pub mod Laws
+pub mod Numbered
+pub mod Collected
+pub mod Saturated

@@ -1,0 +1,134 @@
+-- The interpretation of the elements of a saturated trail is the trail's, and a counter-model.
+use Rattle.std.proofs.Common.{◌≡◌, ℕ, ◌<◌, ◌&&◌, Bool, true, List, [], ◌∷◌, length, get_or, refl, ap, ◌∙◌, sym, subst, arith, eq-eqb}
+use Rattle.std.specs.Prelude.{Option, nat_eq, nat_lt, IsTrue}
+use Rattle.std.specs.List.{list_all}
+use Rattle.std.proofs.lemmas.Bool.{and_parts, and_from, lt-ltb, ltb-true}
+use Rattle.std.proofs.lemmas.List.{get_or-map}
+use Rattle.std.proofs.lemmas.List.Folds.{list_any_at}
+use Rattle.std.proofs.lemmas.List.Sums.{list_all-from_AllPass, AllPass-from_list_all}
+use Rattle.shq_terms.specs.Listed.{Listed}
+use Rattle.shq_terms.specs.declared.axioms.Query.{Query}
+use Rattle.shq_meaning.specs.Truth.{Interpretation}
+use Rattle.shape_specs.specs.Shape.{Shape}
+use Rattle.role_box.specs.declared.role_axiom.RoleAxiom.{RoleAxiom}
+use Rattle.role_box.specs.RoleAxioms.{role_axioms}
+use Rattle.role_box.specs.Paths.{is_below}
+use Rattle.ontology_limits.specs.Limits.{IsInLimit}
+use Rattle.finite_model.specs.ModelLists.{ModelLists, IsDomain, meaning, is_member, is_link}
+use Rattle.finite_model.specs.Written.{uses_listed_names}
+use Rattle.fact_specs.specs.declared.Fact.{Fact}
+use Rattle.fact_specs.specs.State.{node_count, is_successor}
+use Rattle.tableau_specs.specs.Items.{facts_of}
+use Rattle.completion_tree.specs.declared.tree.Entry.{Entry}
+use Rattle.completion_tree.specs.declared.tree.Entry.TheVariants.{Fact as Grounded, Mark}
+use Rattle.completion_tree.specs.Trail.{facts_in, items_of}
+use Rattle.counter_models.specs.Elements.{elements, node_at, original}
+use Rattle.counter_models.specs.Built.{IsBuilt}
+use Rattle.counter_models.specs.Laws.{UsesListed, IsCounterModel}
+use Rattle.counter_models.proofs.Laws.{saturated_is_counter_model}
+use Rattle.structure_model.specs.declared.structure.Member.{Member}
+use Rattle.structure_model.specs.declared.structure.Edge.{Edge}
+use Rattle.structure_model.specs.Structure.{IsInterpretation}
+use Rattle.search_rules.specs.RuleLists.{RuleLists, numbers_in, context_in}
+use Rattle.model_builder.specs.Numbered.{AreNumbered}
+use Rattle.model_builder.specs.Collected.{has_class, AreMembers, leads_from, AreElementEdges, IsOfElements}
+use Rattle.model_builder.specs.Saturated.{IsSaturatedTrail}
+use Rattle.model_builder.proofs.Built.{structures_are_built}
+use Rattle.model_builder.proofs.Numbers.{all_elements}
+
+-- ---- what was collected is that of the elements
+
+module _ (table : List Shape) (roles : List RoleAxiom) (count : ℕ) (fs : List (Fact ℕ)) (numbers : List (Option ℕ)) (originals : List ℕ) (size : ℕ) (members : List Member) (edges : List Edge)
+    (numbered : AreNumbered fs (node_count fs) numbers originals) (all : size ≡ length originals) where
+  as_many : size ≡ length (elements fs)
+  as_many = all_elements fs numbers originals size numbered all
+
+  original_is : (v : ℕ) → v < length (elements fs) → get_or originals v 0 ≡ original fs (node_at fs v)
+  original_is v lt = ap (λ (os : List ℕ). get_or os v 0) numbered.originals_are ∙ get_or-map (original fs) (elements fs) v 0 0 lt
+
+  within : (v : ℕ) → v < length (elements fs) → nat_lt v size ≡ true
+  within v lt = lt-ltb v size (omega (arith, as_many))
+
+  pub of_elements : (i : Interpretation) → AreMembers table fs originals size members → AreElementEdges fs originals size edges → IsInterpretation size count members roles edges i → IsOfElements table roles count fs i
+  of_elements i has_members has_edges given = record {
+    members = members;
+    edges = edges;
+    are_of_elements = record {
+      members_are = λ a v lt.
+          has_members a v
+          ∙ ap (λ (b : Bool). b && has_class table fs (get_or originals v 0) a) (within v lt)
+          ∙ ap (λ (x : ℕ). has_class table fs x a) (original_is v lt);
+      edges_are = λ s v u lt mt.
+          has_edges (λ r. is_below roles r s) v u
+          ∙ ap (λ (b : Bool). b && leads_from fs (λ r. is_below roles r s) (get_or originals v 0) u) (within v lt)
+          ∙ ap (λ (b : Bool). b && is_successor fs (λ r. is_below roles r s) (get_or originals v 0) (node_at fs u)) (lt-ltb u (length (elements fs)) mt)
+          ∙ ap (λ (x : ℕ). is_successor fs (λ r. is_below roles r s) x (node_at fs u)) (original_is v lt);
+    };
+    is_interpretation = subst (λ (n : ℕ). IsInterpretation n count members roles edges i) as_many given;
+  }
+
+-- ---- a saturated trail
+
+pub facts_same : (es : List Entry) → facts_of (items_of es) ≡ facts_in es
+facts_same [] = refl
+facts_same (Grounded f by ∷ es) = ap (λ (fs : List (Fact ℕ)). f ∷ fs) (facts_same es)
+facts_same (Mark c ∷ es) = facts_same es
+
+module _ (r : RuleLists) (q : Query) (es : List Entry) (i : Interpretation) (limit : IsInLimit r.ontology q) (saturated : IsSaturatedTrail r q (items_of es)) where
+  abbrev roles : List RoleAxiom
+  roles = role_axioms r.ontology.axioms (numbers_in r)
+
+  abbrev count : ℕ
+  count = length r.ontology.roles
+
+  at_trail : IsOfElements r.table roles count (facts_of (items_of es)) i → IsBuilt (context_in r) (facts_of (items_of es)) i
+  at_trail given =
+      structures_are_built r.ontology (numbers_in r) q r.table (context_in r).rows saturated.steps (items_of es) given.members given.edges i limit saturated.reached
+      (record { members_are = given.are_of_elements.members_are; edges_are = given.are_of_elements.edges_are })
+      given.is_interpretation
+
+  trail_is_built : IsOfElements r.table roles count (facts_in es) i → IsBuilt (context_in r) (facts_in es) i
+  trail_is_built = subst (λ (fs : List (Fact ℕ)). IsOfElements r.table roles count fs i → IsBuilt (context_in r) fs i) (facts_same es) at_trail
+
+  pub built_by : (table : List Shape) (given : List RoleAxiom) (many : ℕ) → table ≡ r.table → given ≡ role_axioms r.ontology.axioms (numbers_in r) → many ≡ length r.ontology.roles
+      → IsOfElements table given many (facts_in es) i → IsBuilt (context_in r) (facts_in es) i
+  built_by table given many t g m has = trail_is_built (let same : IsOfElements table given many (facts_in es) i ≡ IsOfElements r.table roles count (facts_in es) i = (λ j. IsOfElements (t j) (g j) (m j) (facts_in es) i) in coe' same has)
+    where
+      coe' : {A B : Type 0} → A ≡ B → A → B
+      coe' e a = subst (λ (X : Type 0). X) e a
+
+  pub is_counter_model : IsBuilt (context_in r) (facts_in es) i → IsCounterModel r.ontology (numbers_in r) q i
+  is_counter_model built = saturated_is_counter_model r.ontology (numbers_in r) q r.table (context_in r).rows saturated.steps (items_of es) i (record {
+    in_limit = limit;
+    reached = saturated.reached;
+    is_saturated = saturated.is_saturated;
+    is_built = subst (λ (fs : List (Fact ℕ)). IsBuilt (context_in r) fs i) (sym (facts_same es)) built;
+  })
+
+-- ---- names that are listed
+
+member_itself : (m : ℕ × ℕ) → is_member m.0 m.1 m ≡ true
+member_itself m = and_from (nat_eq m.0 m.0) (nat_eq m.1 m.1) (eq-eqb m.0 m.0 refl) (eq-eqb m.1 m.1 refl)
+
+link_itself : (l : ℕ × ℕ × ℕ) → is_link l.0 l.1 l.2 l ≡ true
+link_itself l =
+    and_from (nat_eq l.0 l.0 && nat_eq l.1 l.1) (nat_eq l.2 l.2)
+    (and_from (nat_eq l.0 l.0) (nat_eq l.1 l.1) (eq-eqb l.0 l.0 refl) (eq-eqb l.1 l.1 refl)) (eq-eqb l.2 l.2 refl)
+
+module _ (o : Listed) (k : ModelLists) (uses : UsesListed o (meaning k)) (domain : IsDomain k.size k.members k.links) where
+  members_listed : list_all (λ m. nat_lt m.0 (length o.classes)) k.members ≡ true
+  members_listed = list_all-from_AllPass (λ (m : ℕ × ℕ). nat_lt m.0 (length o.classes)) k.members (λ n d lt.
+      let m = get_or k.members n d in
+      let inside = AllPass-from_list_all (λ (p : ℕ × ℕ). nat_lt p.1 k.size) k.members domain.members_inside n d lt in
+      lt-ltb m.0 (length o.classes) (uses.class_is m.0 m.1 (ltb-true m.1 k.size inside)
+      (list_any_at (is_member m.0 m.1) k.members n d lt (member_itself m))))
+
+  links_listed : list_all (λ l. nat_lt l.0 (length o.roles)) k.links ≡ true
+  links_listed = list_all-from_AllPass (λ (l : ℕ × ℕ × ℕ). nat_lt l.0 (length o.roles)) k.links (λ n d lt.
+      let l = get_or k.links n d in
+      let inside = and_parts (nat_lt l.1 k.size) (nat_lt l.2 k.size) (AllPass-from_list_all (λ (p : ℕ × ℕ × ℕ). nat_lt p.1 k.size && nat_lt p.2 k.size) k.links domain.links_inside n d lt) in
+      lt-ltb l.0 (length o.roles) (uses.role_is l.0 l.1 l.2 (ltb-true l.1 k.size inside.0) (ltb-true l.2 k.size inside.1)
+      (list_any_at (is_link l.0 l.1 l.2) k.links n d lt (link_itself l))))
+
+  pub names_listed : IsTrue (uses_listed_names o k)
+  names_listed = and_from (list_all (λ m. nat_lt m.0 (length o.classes)) k.members) (list_all (λ l. nat_lt l.0 (length o.roles)) k.links) members_listed links_listed

@@ -1,0 +1,87 @@
+// The model of a saturated tree.
+ghost use Rattle.std.specs.Prelude.{IsTrue, IfOk, length};
+ghost use Rattle.ontology_limits.specs.Limits.{IsInLimit};
+ghost use Rattle.finite_model.specs.ModelLists.{meaning};
+ghost use Rattle.finite_model.specs.Written.{uses_listed_names};
+ghost use Rattle.completion_tree.specs.Trail.{facts_in, items_of};
+ghost use Rattle.counter_models.specs.Built.{IsBuilt};
+ghost use Rattle.counter_models.specs.Laws.{IsCounterModel};
+ghost use Rattle.blocking.specs.Followed.{IsCurrent};
+ghost use Rattle.search_rules.specs.RuleLists.{numbers_in, context_in};
+ghost use Rattle.model_builder.specs.Collected.{IsOfElements};
+ghost use Rattle.model_builder.specs.Saturated.{IsSaturatedTrail};
+
+use crate::NoMemory;
+use crate::elements::elements_of;
+use crate::structure::{edges_of, members_of};
+use blocking::Prints;
+use completion_tree::Tree;
+use counter_models::elements_are_few;
+use finite_model::Interp;
+use role_box::RoleBox;
+use search_rules::SearchRules;
+use shq_nnf::Concepts;
+use shq_terms::Query;
+use std::alloc::{Allocator, Global};
+use structure_model::interpretation;
+
+/// The finite interpretation of a saturated tree: it meets the axioms of the rules, and its first element is in the left
+/// side of the query and not in its right side.
+///
+/// The tree's trail is one that a search over these rules for the query reaches, and is saturated; `prints` has its blocks.
+/// The interpretation is exactly that of the trail, and uses listed names alone. It costs what the labels and the edges of
+/// the elements cost, and the pairs of transitive roles.
+///
+/// # Errors
+///
+/// Memory may be refused.
+pub fn build<A: Allocator + Copy>(
+    alloc: Global,
+    tree: &Tree<A>,
+    prints: &Prints,
+    rules: &SearchRules<'_>,
+    query: &Query,
+) -> Result<Interp, NoMemory>
+    requires current { IsCurrent (facts_in tree.now) prints.now }
+    requires within { IsInLimit rules.now.ontology query.now }
+    requires saturated { IsSaturatedTrail rules.now query.now (items_of tree.now) }
+    ensures built { IfOk result (λ k. IsBuilt (context_in rules.now) (facts_in tree.now) (meaning k)) }
+    ensures counter_model { IfOk result (λ k. IsCounterModel rules.now.ontology (numbers_in rules.now) query.now (meaning k)) }
+    ensures listed { IfOk result (λ k. IsTrue (uses_listed_names rules.now.ontology k)) }
+{
+    let _ = query;
+    let count = rules.ontology().role_count();
+    let concepts = rules.concepts();
+    let model = interpretation_of_elements(alloc, tree, prints, concepts, rules.roles(), count)?;
+    let _size = model.size();
+    Ok(model)
+}
+
+/// The interpretation of a tree's elements: representatives that are not under a block, in the order of their nodes. A class
+/// has the elements whose node, or what blocks it, has its name; a role below `count` has the edges of these nodes by roles
+/// below it, and the chains of transitive roles below it.
+///
+/// # Errors
+///
+/// Memory may be refused.
+pub fn interpretation_of_elements<A: Allocator + Copy>(
+    alloc: Global,
+    tree: &Tree<A>,
+    prints: &Prints,
+    concepts: &Concepts,
+    roles: &RoleBox,
+    count: u32,
+) -> Result<Interp, NoMemory>
+    requires { IsCurrent (facts_in tree.now) prints.now }
+    ensures { IfOk result (λ k. IsOfElements concepts.now roles.now count (facts_in tree.now) (meaning k)) }
+{
+    elements_are_few();
+    let elements = elements_of(alloc, tree, prints)?;
+    let numbers = elements.numbers.as_slice();
+    let originals = elements.originals.as_slice();
+    let size = originals.len() as u32;
+    let members = members_of(alloc, tree, concepts, originals, size)?;
+    let edges = edges_of(alloc, tree, numbers, originals, size)?;
+    let model = interpretation(alloc, size, &members, &edges, roles, count)?;
+    Ok(model)
+}
