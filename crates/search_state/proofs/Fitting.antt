@@ -1,0 +1,107 @@
+-- The lines of a trace that has gone back are fit.
+use Rattle.std.proofs.Common.{◌≡◌, ℕ, nat_lt, Bool, true, false, List, [], ◌∷◌, map, length, Option, Some, None, refl}
+use Rattle.std.specs.List.{All, list_all}
+use Rattle.std.proofs.lemmas.Bool.{and_parts, and_from}
+use Rattle.std.proofs.lemmas.List.Elements.{All-nil, All-cons, All-head, All-tail}
+use Rattle.lane_sieve.specs.Sets.{NumberSet}
+use Rattle.shq_base.specs.Concept.{Concept}
+use Rattle.shape_specs.specs.Rows.{Part, Theory, part_at}
+use Rattle.shape_specs.specs.Tree.{tree_of}
+use Rattle.refutation_specs.specs.Line.{Line}
+use Rattle.refutation_specs.specs.Line.Line.{start_line, and_line, or_line, all_line, carry_line, row_line, range_line, some_line, least_line, choose_line, pair_line, bottom_line, clash_line, most_line}
+use Rattle.refutation_tree.specs.RuleLine.{concept_numbers}
+use Rattle.tableau_specs.specs.KeptKinds.{IsKept}
+use Rattle.tableau_specs.specs.Steps.{SearchContext}
+use Rattle.closing_specs.specs.Noted.{NotedLine}
+use Rattle.step_lines.specs.Serving.{HasPart}
+use Rattle.search_trace.specs.Trace.{TraceLists, turned_back}
+use Rattle.search_trace.proofs.KeptKinds.{kinds_kept}
+use Rattle.search_state.specs.Progress.{IsFitLine}
+
+-- ---- a line's part
+
+abbrev is_there : Option Part → Bool
+is_there None = false
+is_there (Some q) = true
+
+there : (o : Option Part) → is_there o ≡ true → (q : Part) × (o ≡ Some q)
+there None h = absurd (cc h)
+there (Some q) h = (q, refl)
+
+is_found : (o : Option Part) → (q : Part) × (o ≡ Some q) → is_there o ≡ true
+is_found None (q, h) = absurd (cc h)
+is_found (Some q) h = refl
+
+abbrev part_there : Theory → Line → Bool
+part_there theory (row_line x a p positions) = is_there (part_at theory a p)
+part_there theory (range_line x y a) = is_there (part_at theory a 1)
+part_there theory _ = true
+
+has_part : (theory : Theory) (line : Line) → part_there theory line ≡ true → HasPart theory line
+has_part theory (row_line x a p positions) h = there (part_at theory a p) h
+has_part theory (range_line x y a) h = there (part_at theory a 1) h
+has_part theory start_line h = tt
+has_part theory (and_line x c) h = tt
+has_part theory (or_line x c) h = tt
+has_part theory (all_line x y c) h = tt
+has_part theory (carry_line x y role c) h = tt
+has_part theory (some_line x y c) h = tt
+has_part theory (least_line x y c) h = tt
+has_part theory (choose_line y c) h = tt
+has_part theory (pair_line y z) h = tt
+has_part theory (bottom_line x) h = tt
+has_part theory (clash_line x c) h = tt
+has_part theory (most_line x c ys) h = tt
+
+shows_part : (theory : Theory) (line : Line) → HasPart theory line → part_there theory line ≡ true
+shows_part theory (row_line x a p positions) h = is_found (part_at theory a p) h
+shows_part theory (range_line x y a) h = is_found (part_at theory a 1) h
+shows_part theory start_line h = refl
+shows_part theory (and_line x c) h = refl
+shows_part theory (or_line x c) h = refl
+shows_part theory (all_line x y c) h = refl
+shows_part theory (carry_line x y role c) h = refl
+shows_part theory (some_line x y c) h = refl
+shows_part theory (least_line x y c) h = refl
+shows_part theory (choose_line y c) h = refl
+shows_part theory (pair_line y z) h = refl
+shows_part theory (bottom_line x) h = refl
+shows_part theory (clash_line x c) h = refl
+shows_part theory (most_line x c ys) h = refl
+
+-- ---- fit lines by tests
+
+module _ (w : SearchContext) (sub not_sup : ℕ) where
+  all_pass : (p : Line → Bool) → ((l : NotedLine) → IsFitLine w sub not_sup l → p l.line ≡ true) → (ls : List NotedLine) → All (IsFitLine w sub not_sup) ls → list_all p (map (λ l. l.line) ls) ≡ true
+  all_pass p passes [] h = refl
+  all_pass p passes (l ∷ ls) h = and_from (p l.line) (list_all p (map (λ m. m.line) ls)) (passes l (All-head (IsFitLine w sub not_sup) l ls h)) (all_pass p passes ls (All-tail (IsFitLine w sub not_sup) l ls h))
+
+  abbrev over : Line → Bool
+  over line = list_all (λ c. nat_lt c (length w.table)) (concept_numbers line)
+
+  abbrev of_kind : (Concept → Bool) → Line → Bool
+  of_kind p line = list_all (λ c. p (tree_of w.table c)) (concept_numbers line)
+
+  abbrev AreOfKinds : List NotedLine → Type 0
+  AreOfKinds ls = (p : Concept → Bool) (e : ℕ → Bool) → IsKept w.theory (λ c. p c ≡ true) (λ r. e r ≡ true) → p (tree_of w.table sub) ≡ true → p (tree_of w.table not_sup) ≡ true
+      → list_all (of_kind p) (map (λ l. l.line) ls) ≡ true
+
+  all_fit : (ls : List NotedLine) → list_all over (map (λ l. l.line) ls) ≡ true → AreOfKinds ls → list_all (part_there w.theory) (map (λ l. l.line) ls) ≡ true → All (IsFitLine w sub not_sup) ls
+  all_fit [] a b c = All-nil (IsFitLine w sub not_sup)
+  all_fit (l ∷ ls) a b c =
+      let here = and_parts (over l.line) (list_all over (map (λ m. m.line) ls)) a in
+      let cs = and_parts (part_there w.theory l.line) (list_all (part_there w.theory) (map (λ m. m.line) ls)) c in
+      let bs : (p : Concept → Bool) (e : ℕ → Bool) → IsKept w.theory (λ c. p c ≡ true) (λ r. e r ≡ true) → p (tree_of w.table sub) ≡ true → p (tree_of w.table not_sup) ≡ true
+          → (of_kind p l.line ≡ true) × (list_all (of_kind p) (map (λ m. m.line) ls) ≡ true) =
+      (λ p e kept is_sub is_not_sup. and_parts (of_kind p l.line) (list_all (of_kind p) (map (λ m. m.line) ls)) (b p e kept is_sub is_not_sup)) in
+      All-cons (IsFitLine w sub not_sup) l ls
+      (record { over = here.0; of_kind = λ p e kept is_sub is_not_sup. (bs p e kept is_sub is_not_sup).0; has_part = has_part w.theory l.line cs.0 })
+      (all_fit ls here.1 (λ p e kept is_sub is_not_sup. (bs p e kept is_sub is_not_sup).1) cs.1)
+
+  -- going back leaves fit lines
+  pub fit_back : (t : TraceLists) (u : NumberSet) → All (IsFitLine w sub not_sup) t.lines → All (IsFitLine w sub not_sup) (turned_back t u).lines
+  fit_back t u fit =
+      all_fit (turned_back t u).lines
+      (kinds_kept over t u (all_pass over (λ l f. f.over) t.lines fit))
+      (λ p e kept is_sub is_not_sup. kinds_kept (of_kind p) t u (all_pass (of_kind p) (λ l f. f.of_kind p e kept is_sub is_not_sup) t.lines fit))
+      (kinds_kept (part_there w.theory) t u (all_pass (part_there w.theory) (λ l f. shows_part w.theory l.line f.has_part) t.lines fit))

@@ -1,0 +1,110 @@
+-- Whether the last fact has made a plain clash.
+use Rattle.std.proofs.Common.{◌≡◌, ℕ, zero, suc, ◌+◌, ◌<◌, ◌≤◌, ◌&&◌, ◌||◌, eqb, Bool, true, false, max, List, [], ◌∷◌, ◌++◌, map, length, take, Option, Some, None, refl, ap, ◌∙◌, sym, subst, arith, eq-eqb}
+use Rattle.std.specs.Prelude.{slice_get, MatchOption}
+use Rattle.std.specs.List.{list_any}
+use Rattle.std.proofs.lemmas.Bool.{and_from, or_left, or_right}
+use Rattle.std.proofs.lemmas.List.Folds.{list_any-append}
+use Rattle.std.proofs.Math.Seq.{take-append_seam}
+use Rattle.fact_specs.specs.declared.Fact.{Fact}
+use Rattle.fact_specs.specs.declared.Fact.TheVariants.{Has, Edge, Apart, Same}
+use Rattle.fact_specs.specs.Joins.{rep}
+use Rattle.fact_specs.specs.State.{node_count, has, is_given, gives_concept}
+use Rattle.tableau_specs.specs.declared.Item.{Item}
+use Rattle.tableau_specs.specs.declared.Item.TheVariants.{Fact as Says}
+use Rattle.tableau_specs.specs.Items.{facts_of}
+use Rattle.tableau_specs.specs.Clash.{IsPlainClash}
+use Rattle.tableau_specs.specs.Steps.{SearchContext, below_of}
+use Rattle.tableau_specs.specs.StepLaws.{IsOn, IsChild}
+use Rattle.tableau_specs.proofs.Reached.{nodes_before, successor_is_child}
+use Rattle.clash_specs.specs.Near.{speak_of_nodes}
+use Rattle.clash_specs.proofs.Marks.{reached_speak}
+use Rattle.clash_specs.proofs.Concept.{concept_clashes}
+use Rattle.clash_specs.proofs.Join.{join_clashes}
+use Rattle.clash_specs.proofs.Parted.{apart_clashes}
+use Rattle.completion_tree.specs.declared.tree.Entry.{Entry}
+use Rattle.completion_tree.specs.declared.tree.Entry.TheVariants.{Fact as Grounded}
+use Rattle.completion_tree.specs.Trail.{facts_in, items_of}
+use Rattle.step_finders.specs.declared.clash.Clash.{Clash}
+use Rattle.step_finders.specs.Clashing.{IsOfParent, IsShown}
+use Rattle.search_state.specs.Progress.{ProgressLists, IsStanding, IsLast, IsClashOf, IsSearching}
+use Rattle.search_state.specs.Looking.{IsLookedAt, IsLookable, IsNoEdge, NoClashByFact}
+use Rattle.search_state.proofs.Entries.{facts-items, facts-append, items-append}
+use Rattle.search_state.proofs.Marks.{get-behind}
+
+-- ---- one fact more
+
+count_more : (fs : List (Fact ℕ)) (f : Fact ℕ) → node_count fs ≤ node_count (fs ++ f ∷ [])
+count_more [] (Has x c) = omega arith
+count_more [] (Edge r x y) = omega arith
+count_more [] (Apart x y) = omega arith
+count_more [] (Same x y) = omega arith
+count_more (Has x c ∷ fs) f = count_more fs f
+count_more (Edge r x y ∷ fs) f = omega (arith, count_more fs f)
+count_more (Apart x y ∷ fs) f = count_more fs f
+count_more (Same x y ∷ fs) f = count_more fs f
+
+has_last : (fs : List (Fact ℕ)) (x c : ℕ) → has (fs ++ Has x c ∷ []) x c ≡ true
+has_last fs x c =
+    let gs = fs ++ Has x c ∷ [] in
+    let p = gives_concept (λ d. eqb d c) (rep gs) (rep gs x) in
+    let here : p (Has x c) ≡ true = and_from (eqb (rep gs x) (rep gs x)) (eqb c c) (eq-eqb (rep gs x) (rep gs x) refl) (eq-eqb c c refl) in
+    or_right (eqb c 0) (is_given (λ d. eqb d c) gs x) (list_any-append p fs (Has x c ∷ []) ∙ or_right (list_any p fs) (p (Has x c) || false) (or_left (p (Has x c)) false here))
+
+module _ (w : SearchContext) (s : ProgressLists) (st : IsStanding w s) where
+  pub speaks : speak_of_nodes (facts_in s.entries) ≡ true
+  speaks = subst (λ (fs : List (Fact ℕ)). speak_of_nodes fs ≡ true) (facts-items s.entries) (reached_speak w s.sub s.not_sup s.steps (items_of s.entries) st.follows)
+
+  pub above : (x : ℕ) → IsOfParent (facts_in s.entries) x
+  above x = subst (λ (fs : List (Fact ℕ)). IsOfParent fs x) (facts-items s.entries) (λ roles z h. successor_is_child w s.sub s.not_sup s.steps (items_of s.entries) st.follows roles z x h)
+
+  module _ (f : Fact ℕ) (last : IsLast w s.entries f) where
+    pub facts_are : facts_in s.entries ≡ facts_in last.front ++ f ∷ []
+    facts_are = ap facts_in last.splits ∙ facts-append last.front (Grounded f last.by ∷ [])
+
+    items_are : items_of s.entries ≡ items_of last.front ++ Says f ∷ []
+    items_are = ap items_of last.splits ∙ items-append last.front (Grounded f last.by ∷ [])
+
+    pub on : IsOn (node_count (facts_in last.front)) (Says f)
+    on =
+        let front = items_of last.front in
+        let place = length front in
+        let at : slice_get (items_of s.entries) place ≡ Some (Says f) = ap (λ (is : List Item). slice_get is place) items_are ∙ get-behind front (Says f) [] in
+        let before : facts_of (take place (items_of s.entries)) ≡ facts_in last.front =
+        ap (λ (is : List Item). facts_of (take place is)) items_are ∙ ap facts_of (take-append_seam front (Says f ∷ [])) ∙ facts-items last.front in
+        subst (λ (fs : List (Fact ℕ)). IsOn (node_count fs) (Says f)) before (nodes_before w s.sub s.not_sup s.steps (items_of s.entries) st.follows place (Says f) at)
+
+    grown : node_count (facts_in last.front) ≤ node_count (facts_in s.entries)
+    grown = subst (λ (fs : List (Fact ℕ)). node_count (facts_in last.front) ≤ node_count fs) (sym facts_are) (count_more (facts_in last.front) f)
+
+  looked_at : (x n : ℕ) → x < n → n ≤ node_count (facts_in s.entries) → IsLookedAt (facts_in s.entries) x
+  looked_at x n lt le = record { is_node = omega (arith, lt, le); speak = speaks; above = above x }
+
+  pub lookable : (f : Fact ℕ) (last : IsLast w s.entries f) → IsNoEdge f → IsLookable (facts_in s.entries) f
+  lookable (Has x c) last p = (looked_at x (node_count (facts_in last.front)) (on (Has x c) last) (grown (Has x c) last), subst (λ (fs : List (Fact ℕ)). has fs x c ≡ true) (sym (facts_are (Has x c) last)) (has_last (facts_in last.front) x c))
+  lookable (Edge r x y) last p = p
+  lookable (Apart y z) last p = looked_at y (node_count (facts_in last.front)) (on (Apart y z) last).0 (grown (Apart y z) last)
+  lookable (Same y z) last p = looked_at y (node_count (facts_in last.front)) (on (Same y z) last).0 (grown (Same y z) last)
+
+  -- where the last fact makes no plain clash there is none
+  none_by : (f : Fact ℕ) (last : IsLast w s.entries f) → NoClashByFact w (facts_in last.front ++ f ∷ []) f → ¬ IsPlainClash (below_of w) w.table (facts_in last.front ++ f ∷ [])
+  none_by (Has x c) last free clash = free.none ((concept_clashes (below_of w) w.table (facts_in last.front) x c (on (Has x c) last) last.none).0 clash)
+  none_by (Edge r x y) last free clash = free
+  none_by (Apart y z) last free clash = free.none ((apart_clashes (below_of w) w.table (facts_in last.front) y z last.none).0 clash)
+  none_by (Same y z) last free clash = free.none ((join_clashes (below_of w) w.table (facts_in last.front) y z (on (Same y z) last).0 (on (Same y z) last).1 last.none).0 clash)
+
+  pub no_clash : (f : Fact ℕ) (last : IsLast w s.entries f) → NoClashByFact w (facts_in s.entries) f → ¬ IsPlainClash (below_of w) w.table (facts_in s.entries)
+  no_clash f last free =
+      let e = facts_are f last in
+      subst (λ (fs : List (Fact ℕ)). ¬ IsPlainClash (below_of w) w.table fs) (sym e) (none_by f last (subst (λ (fs : List (Fact ℕ)). NoClashByFact w fs f) e free))
+
+  -- the clash that was looked for is that of the trail
+  pub clash_known : (f : Fact ℕ) (last : IsLast w s.entries f) (found : Option Clash) → MatchOption found (NoClashByFact w (facts_in s.entries) f) (IsShown w (facts_in s.entries)) → IsClashOf w (facts_in s.entries) found
+  clash_known f last None h = no_clash f last h
+  clash_known f last (Some clash) h = h
+
+  pub looked : (f : Fact ℕ) (last : IsLast w s.entries f) (found : Option Clash) → MatchOption found (NoClashByFact w (facts_in s.entries) f) (IsShown w (facts_in s.entries))
+      → IsSearching w (record s { clash = found })
+  looked f last found h = record {
+    standing = record { asked = st.asked; follows = st.follows; current = st.current; places = st.places; traced = st.traced; are_marks = st.are_marks; grounded = st.grounded; fit = st.fit };
+    clash = clash_known f last found h;
+  }

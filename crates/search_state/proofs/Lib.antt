@@ -1,0 +1,16 @@
+pub mod Entries
+pub mod Marks
+pub mod Holding
+pub mod Moving
+pub mod LastFact
+pub mod NewFacts
+pub mod Parts
+pub mod Steps
+pub mod Choices
+pub mod Placed
+pub mod Fitting
+pub mod GoneBack
+pub mod Taking
+pub mod Nexts
+pub mod Begun
+pub mod Beginnings

@@ -1,0 +1,131 @@
+-- A step that is made keeps what is always so of a search.
+use Rattle.std.proofs.Common.{◌≡◌, ℕ, suc, ◌+◌, ◌<◌, Bool, true, false, cond, List, [], ◌∷◌, ◌++◌, map, length, refl, ap, ◌∙◌, sym, subst, arith}
+use Rattle.std.specs.List.{All, list_all}
+use Rattle.std.proofs.lemmas.List.Elements.{All-append, All-cons, All-nil}
+use Rattle.std.proofs.lemmas.List.{append-nil}
+use Rattle.lane_sieve.specs.Sets.{NumberSet}
+use Rattle.shq_base.specs.Concept.{Concept}
+use Rattle.fact_specs.specs.declared.Fact.{Fact}
+use Rattle.refutation_specs.specs.Line.{Line}
+use Rattle.tableau_specs.specs.Items.{facts_of, says}
+use Rattle.tableau_specs.specs.KeptKinds.{IsKept}
+use Rattle.tableau_specs.specs.Steps.{SearchContext, below_of, IsLegal}
+use Rattle.tableau_specs.specs.Reached.{start, Follows, IsReached}
+use Rattle.tableau_specs.specs.StepLaws.{AreOfKind}
+use Rattle.tableau_specs.proofs.KeptKinds.{kept_kinds_stay}
+use Rattle.closing_specs.specs.Noted.{marked, NotedLine, noted_start}
+use Rattle.closing_specs.specs.Premises.{Added, is_single}
+use Rattle.closing_specs.specs.Trail.{MarkedFact, Puts}
+use Rattle.closing_specs.specs.Grounded.{AreGrounded}
+use Rattle.closing_specs.specs.Places.{Place}
+use Rattle.completion_tree.specs.declared.tree.By.{By}
+use Rattle.completion_tree.specs.declared.tree.Entry.{Entry}
+use Rattle.completion_tree.specs.Trail.{facts_in, items_of, grounded}
+use Rattle.blocking.specs.Followed.{IsCurrent}
+use Rattle.search_trace.specs.Trace.{TraceLists, next_line, with_line}
+use Rattle.search_trace.specs.Laws.{IsTracedAt}
+use Rattle.search_trace.proofs.Traced.{goes_on}
+use Rattle.search_state.specs.Marked.{marked_in}
+use Rattle.search_state.specs.Branchings.{AreMarks}
+use Rattle.search_state.specs.Resting.{IsResting}
+use Rattle.search_state.specs.Progress.{ProgressLists, IsAsked, IsFitLine, IsStanding, IsSameQuery, HasMoved}
+use Rattle.search_state.proofs.Entries.{facts-items, items-append, items-grounded, marked-append, marked-grounded}
+use Rattle.search_state.proofs.Marks.{marks_stay}
+
+-- how the progress after a step differs from that before
+pub record IsNext (old new : ProgressLists) (entries : List Entry) (trace : TraceLists) (marks : List ℕ) : Type 0 where
+  pub query : new.query ≡ old.query
+  pub sub : new.sub ≡ old.sub
+  pub not_sup : new.not_sup ≡ old.not_sup
+  pub entries_are : new.entries ≡ entries
+  pub trace_is : new.trace ≡ trace
+  pub marks_are : new.marks ≡ marks
+  pub counted : new.steps ≡ old.steps + 1
+  pub current : IsCurrent (facts_in new.entries) new.prints
+
+module _ (w : SearchContext) (old : ProgressLists) where
+  -- what is kept of the entries, the trace and the marks
+  pub record AreKept (entries : List Entry) (trace : TraceLists) (marks : List ℕ) : Type 0 where
+    pub is_legal : IsLegal w (items_of old.entries) (items_of entries)
+    pub places : List Place
+    pub traced : IsTracedAt w.theory w.table (noted_start old.query.sub old.query.sup) trace places (marked_in entries)
+    pub are_marks : AreMarks w entries marks places
+    pub grounded : AreGrounded (marked_in entries)
+    pub fit : All (IsFitLine w old.sub old.not_sup) trace.lines
+
+  pub moved : IsAsked w old.query old.sub old.not_sup → Follows w (start old.sub old.not_sup) old.steps (items_of old.entries) → (new : ProgressLists) (entries : List Entry) (trace : TraceLists) (marks : List ℕ) → AreKept entries trace marks → IsNext old new entries trace marks → HasMoved w old new
+  moved asked follows new entries trace marks k n =
+      let explicit : ProgressLists = record { query = old.query; sub = old.sub; not_sup = old.not_sup; entries = entries; prints = new.prints; trace = trace; marks = marks; clash = new.clash; steps = old.steps + 1 } in
+      let same : explicit ≡ new =
+      (λ i. record { query = sym n.query i; sub = sym n.sub i; not_sup = sym n.not_sup i; entries = sym n.entries_are i; prints = new.prints; trace = sym n.trace_is i; marks = sym n.marks_are i; clash = new.clash; steps = sym n.counted i }) in
+      let more : suc old.steps ≡ old.steps + 1 = omega arith in
+      let base : Follows w (start old.sub old.not_sup) (suc old.steps) (items_of entries) = (items_of old.entries, follows, k.is_legal) in
+      let here : IsStanding w explicit = record {
+        asked = asked;
+        follows = subst (λ (m : ℕ). Follows w (start old.sub old.not_sup) m (items_of entries)) more base;
+        current = subst (λ (es : List Entry). IsCurrent (facts_in es) new.prints) n.entries_are n.current;
+        places = k.places;
+        traced = k.traced;
+        are_marks = k.are_marks;
+        grounded = k.grounded;
+        fit = k.fit;
+      } in
+      record {
+        same = record { query = n.query; sub = n.sub; not_sup = n.not_sup };
+        standing = subst (λ (q : ProgressLists). IsStanding w q) same here;
+        is_legal = subst (λ (es : List Entry). IsLegal w (items_of old.entries) (items_of es)) (sym n.entries_are) k.is_legal;
+        counted = n.counted;
+      }
+
+module _ (w : SearchContext) (old : ProgressLists) (st : IsStanding w old) where
+  -- ---- the trail is reached
+
+  pub reached : IsReached w.theory old.query.sub old.query.sup w.table w.rows old.steps (items_of old.entries)
+  reached = record {
+    is_table = st.asked.is_table;
+    is_choice = st.asked.is_choice;
+    sub_number = old.sub;
+    sub_listed = st.asked.sub_listed;
+    sub_reads = st.asked.sub_is;
+    not_sup_number = old.not_sup;
+    not_sup_listed = st.asked.not_sup_listed;
+    not_sup_reads = st.asked.not_sup_is;
+    follows = st.follows;
+  }
+
+  -- a line that is written for the trail is fit
+  pub line_fits : (number : ℕ) (line : Line) (u : NumberSet) (children : List Added) (nodes : List ℕ) → IsResting w old.entries line u children nodes
+      → IsFitLine w old.sub old.not_sup (record { number = number; line = line; marks = u })
+  line_fits number line u children nodes r = record {
+    over = r.numbered;
+    of_kind = λ p e kept is_sub is_not_sup.
+        (let kinds = kept_kinds_stay w.theory old.query.sub old.query.sup w.table w.rows old.steps (items_of old.entries) reached p e kept
+        (subst (λ (c : Concept). p c ≡ true) st.asked.sub_is is_sub) (subst (λ (c : Concept). p c ≡ true) st.asked.not_sup_is is_not_sup) in
+        r.of_kind p e kept (subst (λ (fs : List (Fact ℕ)). AreOfKind w.table fs p e) (facts-items old.entries) kinds));
+    has_part = r.has_part;
+  }
+
+  pub lines_fit : (number : ℕ) (line : Line) (u : NumberSet) (children : List Added) (nodes : List ℕ) → IsResting w old.entries line u children nodes
+      → All (IsFitLine w old.sub old.not_sup) (old.trace.lines ++ record { number = number; line = line; marks = u } ∷ [])
+  lines_fit number line u children nodes r = (let l : NotedLine = record { number = number; line = line; marks = u } in
+      All-append (IsFitLine w old.sub old.not_sup) old.trace.lines (l ∷ []) st.fit (All-cons (IsFitLine w old.sub old.not_sup) l [] (line_fits number line u children nodes r) (All-nil (IsFitLine w old.sub old.not_sup))))
+
+  -- ---- one line with one child
+
+  pub single_kept : (line : Line) (u : NumberSet) (child : Added) (nodes : List ℕ) (fs : List (Fact ℕ)) (by : By) → IsResting w old.entries line u (child ∷ []) nodes → Puts w.table child fs → is_single line ≡ true
+      → by.marks ≡ u → AreGrounded (marked_in old.entries ++ map (marked u) fs) → IsLegal w (items_of old.entries) (items_of old.entries ++ says fs)
+      → AreKept w old (old.entries ++ grounded by fs) (with_line old.trace line u) old.marks
+  single_kept line u child nodes fs by r puts single same ground legal =
+      let at = r.holds old.trace.next in
+      let ms : marked_in (old.entries ++ grounded by fs) ≡ marked_in old.entries ++ map (marked u) fs =
+      marked-append old.entries (grounded by fs) ∙ ap (λ (ns : List MarkedFact). marked_in old.entries ++ ns) (marked-grounded by fs ∙ ap (λ (v : NumberSet). map (marked v) fs) same) in
+      let trail : items_of (old.entries ++ grounded by fs) ≡ items_of old.entries ++ says fs = items-append old.entries (grounded by fs) ∙ ap (λ xs. items_of old.entries ++ xs) (items-grounded by fs) in
+      record {
+        is_legal = subst (λ xs. IsLegal w (items_of old.entries) xs) (sym trail) legal;
+        places = st.places;
+        traced = subst (λ (ns : List MarkedFact). IsTracedAt w.theory w.table (noted_start old.query.sub old.query.sup) (with_line old.trace line u) st.places ns) (sym ms)
+            ((goes_on w.theory w.table (noted_start old.query.sub old.query.sup) old.trace st.places (marked_in old.entries) st.traced).single line u at.rule child fs at.holds at.children_are single puts);
+        are_marks = marks_stay w old.entries (grounded by fs) old.marks st.places st.are_marks;
+        grounded = subst AreGrounded (sym ms) ground;
+        fit = lines_fit old.trace.next line u (child ∷ []) nodes r;
+      }

@@ -1,0 +1,84 @@
+-- What each kind of step keeps.
+use Rattle.std.proofs.Common.{◌≡◌, ℕ, zero, suc, ◌+◌, ◌<◌, ◌≤◌, ◌&&◌, leb, Bool, true, false, List, [], ◌∷◌, ◌++◌, map, length, take, drop, Option, Some, None, refl, ap, ◌∙◌, sym, subst, arith}
+use Rattle.std.specs.Prelude.{slice_get}
+use Rattle.std.specs.List.{list_all}
+use Rattle.std.specs.FinSet as sets
+use Rattle.std.proofs.lemmas.Bool.{and_parts, leb-true}
+use Rattle.lane_sieve.specs.Sets.{NumberSet}
+use Rattle.shape_specs.specs.Shape.{Shape, shape_of, is_normal, IsTable}
+use Rattle.shape_specs.specs.Shape.Shape.{top, bottom, name, not_name, intersection, union, some_of, all_of, at_least, at_most}
+use Rattle.fact_specs.specs.declared.Fact.{Fact}
+use Rattle.fact_specs.specs.declared.Fact.TheVariants.{Has}
+use Rattle.fact_specs.specs.State.{node_count, has, fresh_facts}
+use Rattle.refutation_specs.specs.Line.{Line}
+use Rattle.tableau_specs.specs.Items.{facts_of, says}
+use Rattle.tableau_specs.specs.Clash.{IsPlainClash}
+use Rattle.tableau_specs.specs.Steps.{SearchContext, below_of, Adds, Generates, IsLegal, HasPlainClash}
+use Rattle.tableau_specs.specs.Steps.IsLegal.{add, generate}
+use Rattle.closing_specs.specs.Noted.{marked}
+use Rattle.closing_specs.specs.Grounded.{named, is_known_within, AreGrounded}
+use Rattle.closing_specs.specs.Trail.{MarkedFact}
+use Rattle.completion_tree.specs.declared.tree.By.{By}
+use Rattle.completion_tree.specs.declared.tree.Entry.{Entry}
+use Rattle.completion_tree.specs.declared.tree.Entry.TheVariants.{Fact as Grounded}
+use Rattle.completion_tree.specs.Trail.{facts_in, items_of, grounded, with_fresh}
+use Rattle.step_finders.specs.declared.reason.Addition.{Addition}
+use Rattle.step_finders.specs.declared.make.NewNodes.{NewNodes}
+use Rattle.step_finders.specs.Found.{Files}
+use Rattle.step_finders.specs.Reasons.{IsAddition}
+use Rattle.tableau_specs.proofs.Listed.{listed}
+use Rattle.step_finders.specs.Making.{Asks, IsMaking}
+use Rattle.step_lines.specs.Serving.{FactsStayGrounded, NewNodesStayGrounded}
+use Rattle.search_trace.specs.Trace.{with_line}
+use Rattle.search_state.specs.Marked.{marked_in}
+use Rattle.search_state.specs.Resting.{RestsAddition, RestsNewNodes}
+use Rattle.search_state.specs.Progress.{ProgressLists, IsStanding, HasMoved}
+use Rattle.search_state.proofs.Entries.{facts-items}
+use Rattle.search_state.proofs.Holding.{part_itself}
+use Rattle.search_state.proofs.Moving.{IsNext, moved, single_kept}
+
+module _ (w : SearchContext) (old : ProgressLists) (st : IsStanding w old) where
+  -- what the facts of the entries say, the items say
+  pub at_items : (P : List (Fact ℕ) → Type 0) → P (facts_in old.entries) → P (facts_of (items_of old.entries))
+  at_items P h = subst P (sym (facts-items old.entries)) h
+
+  pub addition_moves : (files : Files) (a : Addition) → ¬ IsPlainClash (below_of w) w.table (facts_in old.entries) → IsAddition w (facts_in old.entries) files a → FactsStayGrounded
+      → (line : Line) (u : NumberSet) → RestsAddition w old.entries a.node a.concept line u → (by : By) → by.marks ≡ u
+      → (new : ProgressLists) → IsNext old new (old.entries ++ Grounded (Has a.node a.concept) by ∷ []) (with_line old.trace line u) old.marks → HasMoved w old new
+  addition_moves files a none is stay line u r by same new n =
+      let f : Fact ℕ = Has a.node a.concept in
+      let legal : IsLegal w (items_of old.entries) (items_of old.entries ++ says (f ∷ [])) =
+      add a.node a.concept (at_items (λ fs. ¬ IsPlainClash (below_of w) w.table fs) none) (at_items (λ fs. Adds w fs a.node a.concept) is.adds) (at_items (λ fs. has fs a.node a.concept ≡ false) is.lacks) in
+      moved w old st.asked st.follows new (old.entries ++ grounded by (f ∷ [])) (with_line old.trace line u) old.marks
+      (single_kept w old st line u r.child (a.node ∷ []) (f ∷ []) by r.resting r.puts r.single same (stay u u (marked_in old.entries) f st.grounded (part_itself u) r.resting.knows) legal) n
+
+  pub new_nodes_move : (m : NewNodes) → ¬ IsPlainClash (below_of w) w.table (facts_in old.entries) → IsMaking w (facts_in old.entries) m → NewNodesStayGrounded
+      → (line : Line) (u : NumberSet) → RestsNewNodes w old.entries m line u → (by : By) → by.marks ≡ u
+      → (new : ProgressLists) → IsNext old new (with_fresh old.entries m.parent m.role m.filler m.count by) (with_line old.trace line u) old.marks → HasMoved w old new
+  new_nodes_move m none is stay line u r by same new n =
+      let first = node_count (facts_in old.entries) in
+      let fs : List (Fact ℕ) = fresh_facts m.parent m.role m.filler first m.count in
+      let legal : IsLegal w (items_of old.entries) (items_of old.entries ++ says fs) = generate fs (at_items (λ gs. ¬ IsPlainClash (below_of w) w.table gs) none) (at_items (λ gs. Generates w gs fs) is.generates) in
+      let known = (and_parts (is_known_within u (marked_in old.entries) m.parent) true r.resting.knows).0 in
+      moved w old st.asked st.follows new (old.entries ++ grounded by fs) (with_line old.trace line u) old.marks
+      (single_kept w old st line u r.child (m.parent ∷ []) fs by r.resting r.puts r.single same (stay u (marked_in old.entries) m.parent m.role m.filler first m.count st.grounded known) legal) n
+
+-- at least one node is made
+some_by : (w : SearchContext) (m : NewNodes) → IsTable w.table → (sh : Shape) → shape_of w.table m.concept ≡ sh → Asks sh m → 0 < m.count
+some_by w m good (some_of s e) is a = omega (arith, a.2)
+some_by w m good (at_least n s e) is a =
+    let lt = listed w.table m.concept (λ top. cc) in
+    let h : is_normal w.table (at_least n s e) ≡ true = subst (λ (sh : Shape). is_normal w.table sh ≡ true) is (good.are_normal m.concept lt) in
+    let two = leb-true 2 n (and_parts (leb 2 n) (leb n 101) h).0 in
+    omega (arith, two, a.2)
+some_by w m good top is a = absurd a
+some_by w m good bottom is a = absurd a
+some_by w m good (name c) is a = absurd a
+some_by w m good (not_name c) is a = absurd a
+some_by w m good (intersection cs) is a = absurd a
+some_by w m good (union cs) is a = absurd a
+some_by w m good (all_of s e) is a = absurd a
+some_by w m good (at_most n s e) is a = absurd a
+
+pub some_are_made : (w : SearchContext) (fs : List (Fact ℕ)) (m : NewNodes) → IsTable w.table → IsMaking w fs m → 0 < m.count
+some_are_made w fs m good making = some_by w m good (shape_of w.table m.concept) refl making.asks

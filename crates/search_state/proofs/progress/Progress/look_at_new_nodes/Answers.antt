@@ -1,0 +1,13 @@
+use Rattle.std.proofs.Common.{◌≡◌, sym, subst, reverse}
+use Rattle.search_state.specs.Progress.{ProgressLists, IsStanding, IsLastNew}
+use Rattle.search_state.proofs.NewFacts.{new_looked}
+use Rattle.search_state.proofs.progress.Progress.look_at_new_nodes.Goals as goal
+
+pub returns-clause-found : goal.returns-clause-found
+returns-clause-found g c =
+    let w = g.R.Rules.context c.args.rules.now in
+    let s = c.self.inside in
+    let old : ProgressLists = record { query = s.query.now; sub = s.sub; not_sup = s.not_sup; entries = s.tree; prints = s.prints; trace = s.trace; marks = reverse s.marks.items; clash = s.clash; steps = s.steps } in
+    let is : old ≡ c.args.self.now = c.self.view_is in
+    new_looked w old (subst (λ (q : ProgressLists). IsStanding w q) (sym is) c.requires.standing) c.args.new.now c.args.first
+    (subst (λ (q : ProgressLists). IsLastNew w q.entries c.args.new.now c.args.first) (sym is) c.requires.last) c.in_ok-self-inside.field-0 c.in_ok-self-inside.ensures

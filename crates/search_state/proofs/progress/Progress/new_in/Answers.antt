@@ -1,0 +1,22 @@
+use Rattle.std.proofs.Common.{◌≡◌, ◌∙◌, ℕ, List, [], ◌∷◌, ◌++◌, None, ap, refl, sym, subst, reverse}
+use Rattle.fact_specs.specs.declared.Fact.TheVariants.{Has}
+use Rattle.blocking.specs.Followed.{IsCurrent}
+use Rattle.completion_tree.specs.declared.tree.Entry.{Entry}
+use Rattle.completion_tree.specs.declared.tree.Entry.TheVariants.{Fact as Grounded}
+use Rattle.completion_tree.specs.Trail.{facts_in}
+use Rattle.search_trace.specs.Trace.{TraceLists}
+use Rattle.search_state.specs.Beginning.{by_start, begun_entries}
+use Rattle.search_state.specs.Progress.{ProgressLists, IsClashOf}
+use Rattle.search_state.specs.Stepping.{HasBegun}
+use Rattle.search_state.proofs.Beginnings.{begins}
+use Rattle.search_state.proofs.progress.Progress.new_in.Goals as goal
+
+pub returns-clause-begun : goal.returns-clause-begun
+returns-clause-begun g c =
+    let w = g.R.Rules.context c.args.rules.now in
+    let sub = c.args.sub in
+    let not_sup = c.args.not_sup in
+    let es = c.put_start-2.new.tree in
+    let are : es ≡ begun_entries sub not_sup =
+    c.in_ok-put_start-2.ensures ∙ ap (λ (xs : List Entry). xs ++ Grounded (Has 0 not_sup) by_start ∷ []) (c.in_ok-put_start.ensures ∙ ap (λ (xs : List Entry). xs ++ Grounded (Has 0 sub) by_start ∷ []) c.in_ok-tree.ensures) in
+    begins w c.args.query.now sub not_sup c.requires es are c.follow.new.self c.in_ok-follow.ensures.followed c.new.result c.new.ensures (reverse c.new-2.result.items) (ap reverse c.new-2.ensures.items) c.in_ok-clash.clash c.in_ok-clash.ensures

@@ -1,0 +1,55 @@
+use Rattle.std.proofs.Common.{◌≡◌, ◌∙◌, ap, refl, sym, subst, reverse}
+use Rattle.std.specs.Prelude.{◌+◌, None}
+use Rattle.lane_sieve.specs.Sets.{NumberSet}
+use Rattle.refutation_tree.specs.RuleLine.{line_of}
+use Rattle.completion_tree.specs.declared.tree.By.{By}
+use Rattle.completion_tree.specs.Trail.{facts_in}
+use Rattle.step_finders.specs.Reasons.{IsAddition}
+use Rattle.search_trace.specs.Trace.{with_line}
+use Rattle.search_state.specs.Resting.{RestsAddition}
+use Rattle.search_state.specs.Progress.{ProgressLists, IsStanding, IsClashOf, HasMoved}
+use Rattle.search_state.proofs.Steps.{addition_moves}
+use Rattle.search_state.proofs.progress.Progress.put_addition.Goals as goal
+
+pub returns-clause-moved : goal.returns-clause-moved
+returns-clause-moved g c =
+    let w = g.R.Rules.context c.args.rules.now in
+    let files = g.R.Rules.files c.args.rules.now in
+    let a = c.args.addition.now in
+    let s = c.self.inside in
+    let old : ProgressLists = record { query = s.query.now; sub = s.sub; not_sup = s.not_sup; entries = s.tree; prints = s.prints; trace = s.trace; marks = reverse s.marks.items; clash = s.clash; steps = s.steps } in
+    let is : old ≡ c.args.self.now = c.self.view_is in
+    let line = line_of c.args.resting.line in
+    let u = c.args.resting.marks in
+    let by : By = record { line = c.in_ok-number.number; marks = u } in
+    let new : ProgressLists = record { query = s.query.now; sub = s.sub; not_sup = s.not_sup; entries = c.add.new.self; prints = c.follow.new.prints; trace = c.put.new.self; marks = reverse s.marks.items; clash = s.clash; steps = s.steps + 1 } in
+    subst (λ (q : ProgressLists). HasMoved w q new) is
+    (addition_moves w old (subst (λ (q : ProgressLists). IsStanding w q) (sym is) c.requires.standing) files a
+    (subst (λ (q : ProgressLists). IsClashOf w (facts_in q.entries) None) (sym is) c.requires.none)
+    (subst (λ (q : ProgressLists). IsAddition w (facts_in q.entries) files a) (sym is) c.requires.addition)
+    c.facts_stay_grounded.ensures line u
+    (subst (λ (q : ProgressLists). RestsAddition w q.entries a.node a.concept line u) (sym is) c.requires.rests)
+    by refl new
+    (record {
+      query = refl;
+      sub = refl;
+      not_sup = refl;
+      entries_are = c.in_ok-add.ensures.added;
+      trace_is = c.in_ok-number.ensures.put ∙ ap (λ (v : NumberSet). with_line s.trace line v) c.in_ok-shared.ensures;
+      marks_are = refl;
+      counted = refl;
+      current = c.in_ok-follow.ensures;
+    }))
+
+pub returns-clause-last : goal.returns-clause-last
+returns-clause-last g c =
+    let w = g.R.Rules.context c.args.rules.now in
+    let s = c.self.inside in
+    let old : ProgressLists = record { query = s.query.now; sub = s.sub; not_sup = s.not_sup; entries = s.tree; prints = s.prints; trace = s.trace; marks = reverse s.marks.items; clash = s.clash; steps = s.steps } in
+    let is : old ≡ c.args.self.now = c.self.view_is in
+    record {
+      front = s.tree;
+      by = record { line = c.in_ok-number.number; marks = c.args.resting.marks };
+      splits = c.in_ok-add.ensures.added;
+      none = subst (λ (q : ProgressLists). IsClashOf w (facts_in q.entries) None) (sym is) c.requires.none;
+    }

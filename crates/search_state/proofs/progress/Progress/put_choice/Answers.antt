@@ -1,0 +1,65 @@
+use Rattle.std.proofs.Common.{◌≡◌, ◌∙◌, ℕ, List, ap, refl, sym, subst, reverse, [], append_assoc}
+use Rattle.std.specs.Prelude.{◌+◌, ◌∷◌, ◌++◌, None}
+use Rattle.std.specs.FinSet as sets
+use Rattle.std.proofs.lemmas.List.{reverse-append}
+use Rattle.lane_sieve.specs.Sets.{NumberSet}
+use Rattle.fact_specs.specs.declared.Fact.{Fact}
+use Rattle.refutation_tree.specs.RuleLine.{line_of}
+use Rattle.tableau_specs.specs.declared.Choice.{Choice}
+use Rattle.tableau_specs.specs.Clash.{IsPlainClash}
+use Rattle.tableau_specs.specs.Steps.{below_of}
+use Rattle.completion_tree.specs.declared.tree.By.{By}
+use Rattle.completion_tree.specs.declared.tree.Entry.TheVariants.{Fact as Grounded, Mark}
+use Rattle.completion_tree.specs.Trail.{facts_in}
+use Rattle.step_finders.specs.Choosing.{branch_of, IsChoosable}
+use Rattle.search_trace.specs.Trace.{with_branching}
+use Rattle.search_state.specs.Resting.{RestsChoice}
+use Rattle.search_state.specs.Progress.{ProgressLists, IsStanding, IsClashOf, HasMoved}
+use Rattle.search_state.proofs.Entries.{facts-marked}
+use Rattle.search_state.proofs.Choices.{choice_moves}
+use Rattle.search_state.proofs.progress.Progress.put_choice.Goals as goal
+
+pub returns-clause-moved : goal.returns-clause-moved
+returns-clause-moved g c =
+    let w = g.R.Rules.context c.args.rules.now in
+    let k = c.args.choosing.now in
+    let s = c.self.inside in
+    let old : ProgressLists = record { query = s.query.now; sub = s.sub; not_sup = s.not_sup; entries = s.tree; prints = s.prints; trace = s.trace; marks = reverse s.marks.items; clash = s.clash; steps = s.steps } in
+    let is : old ≡ c.args.self.now = c.self.view_is in
+    let line = line_of c.args.resting.line in
+    let u = c.args.resting.marks in
+    let by : By = record { line = c.in_ok-mark.mark; marks = c.in_ok-more.more } in
+    let new : ProgressLists = record { query = s.query.now; sub = s.sub; not_sup = s.not_sup; entries = c.put_alternative.new.tree; prints = c.follow.new.prints; trace = c.open.new.self; marks = reverse c.push.new.self.items; clash = s.clash; steps = s.steps + 1 } in
+    subst (λ (q : ProgressLists). HasMoved w q new) is
+    (choice_moves w old (subst (λ (q : ProgressLists). IsStanding w q) (sym is) c.requires.standing) k
+    (subst (λ (q : ProgressLists). IsClashOf w (facts_in q.entries) None) (sym is) c.requires.none)
+    (subst (λ (q : ProgressLists). IsChoosable w (facts_in q.entries) k) (sym is) c.requires.choosable)
+    c.facts_stay_grounded.ensures c.alternatives_speak_of_nodes.ensures line u
+    (subst (λ (q : ProgressLists). RestsChoice w q.entries (branch_of k) line u) (sym is) c.requires.rests)
+    c.args.left c.requires.left c.args.fact c.requires.first
+    by (c.in_ok-more.ensures ∙ ap (λ (n : ℕ). sets.insert u n) c.in_ok-mark.ensures.number) new
+    (record {
+      query = refl;
+      sub = refl;
+      not_sup = refl;
+      entries_are = c.in_ok-put_alternative.ensures ∙ (λ i. s.tree ++ Mark (record { line = c.in_ok-mark.ensures.number i; branch = c.branch-branch.ensures i; alternative = 1 }) ∷ Grounded c.args.fact by ∷ []);
+      trace_is = c.in_ok-mark.ensures.opened ∙ ap (λ (v : NumberSet). with_branching s.trace line v c.args.left) c.in_ok-shared.ensures;
+      marks_are = ap reverse c.in_ok-push.ensures.items ∙ reverse-append s.marks.items (c.len-place.result ∷ []) ∙ ap (λ (n : ℕ). n ∷ reverse s.marks.items) c.len-place.ensures;
+      counted = refl;
+      current = c.in_ok-follow.ensures;
+    }))
+
+pub returns-clause-last : goal.returns-clause-last
+returns-clause-last g c =
+    let w = g.R.Rules.context c.args.rules.now in
+    let s = c.self.inside in
+    let old : ProgressLists = record { query = s.query.now; sub = s.sub; not_sup = s.not_sup; entries = s.tree; prints = s.prints; trace = s.trace; marks = reverse s.marks.items; clash = s.clash; steps = s.steps } in
+    let is : old ≡ c.args.self.now = c.self.view_is in
+    let by : By = record { line = c.in_ok-mark.mark; marks = c.in_ok-more.more } in
+    let choice : Choice = record { line = c.in_ok-mark.mark; branch = c.branch-branch.result; alternative = 1 } in
+    record {
+      front = s.tree ++ Mark choice ∷ [];
+      by = by;
+      splits = c.in_ok-put_alternative.ensures ∙ sym (append_assoc s.tree (Mark choice ∷ []) (Grounded c.args.fact by ∷ []));
+      none = subst (λ (fs : List (Fact ℕ)). ¬ IsPlainClash (below_of w) w.table fs) (sym (facts-marked s.tree choice)) (subst (λ (q : ProgressLists). IsClashOf w (facts_in q.entries) None) (sym is) c.requires.none);
+    }

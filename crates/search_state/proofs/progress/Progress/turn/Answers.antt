@@ -1,0 +1,163 @@
+use Rattle.std.proofs.Common.{◌≡◌, ◌≤◌, ◌+◌, List, take, ap, refl, sym, subst, reverse, length, ◌∙◌, arith}
+use Rattle.std.proofs.lemmas.List.{length-reverse}
+use Rattle.fact_specs.specs.State.{node_count}
+use Rattle.fact_tree.specs.Entries.{IsFit}
+use Rattle.tableau_specs.specs.declared.Choice.{Choice}
+use Rattle.blocking.specs.Followed.{AreBlocksBelow}
+use Rattle.completion_tree.specs.declared.tree.By.{By}
+use Rattle.completion_tree.specs.declared.tree.Entry.{Entry}
+use Rattle.completion_tree.specs.Trail.{facts_in}
+use Rattle.search_state.specs.Progress.{ProgressLists, HasMoved, IsLast}
+use Rattle.search_state.specs.Turning.{IsTurning}
+use Rattle.search_state.proofs.Choices.{with_choice}
+use Rattle.search_state.proofs.Parts.{alternative_no_edge}
+use Rattle.search_state.proofs.Taking.{marks_within, is_marked, at_within, at_still_within, front_at, last_at, more_at, numbered_at, fits_at, moves_at}
+use Rattle.search_state.proofs.progress.Progress.turn.Goals as goal
+
+pub cut_marks-place-requires-clause-within : goal.cut_marks-place-requires-clause-within
+cut_marks-place-requires-clause-within g c =
+    let w = g.R.Rules.context c.args.rules.now in
+    let s = c.self.inside in
+    let old : ProgressLists = record { query = s.query.now; sub = s.sub; not_sup = s.not_sup; entries = s.tree; prints = s.prints; trace = s.trace; marks = reverse s.marks.items; clash = s.clash; steps = s.steps } in
+    let m = c.args.mark in
+    let ms = c.args.marks in
+    let is : old ≡ c.args.self.now = c.self.view_is in
+    let t : IsTurning w old m ms = subst (λ (q : ProgressLists). IsTurning w q m ms) (sym is) c.requires.turning in
+    omega (arith, c.open_count-count.ensures, marks_within w old m ms t, length-reverse s.marks.items)
+
+pub choice_at-choice-requires : goal.choice_at-choice-requires
+choice_at-choice-requires g c =
+    let w = g.R.Rules.context c.args.rules.now in
+    let s = c.self.inside in
+    let old : ProgressLists = record { query = s.query.now; sub = s.sub; not_sup = s.not_sup; entries = s.tree; prints = s.prints; trace = s.trace; marks = reverse s.marks.items; clash = s.clash; steps = s.steps } in
+    let m = c.args.mark in
+    let ms = c.args.marks in
+    let is : old ≡ c.args.self.now = c.self.view_is in
+    let t : IsTurning w old m ms = subst (λ (q : ProgressLists). IsTurning w q m ms) (sym is) c.requires.turning in
+    is_marked w old m ms t s.marks.items refl c.open_count-count.result c.cut_marks-place.result c.open_count-count.ensures c.cut_marks-place.ensures.latest
+
+pub alternative_after-fact-requires-clause-more : goal.alternative_after-fact-requires-clause-more
+alternative_after-fact-requires-clause-more g c =
+    let w = g.R.Rules.context c.args.rules.now in
+    let s = c.self.inside in
+    let old : ProgressLists = record { query = s.query.now; sub = s.sub; not_sup = s.not_sup; entries = s.tree; prints = s.prints; trace = s.trace; marks = reverse s.marks.items; clash = s.clash; steps = s.steps } in
+    let m = c.args.mark in
+    let ms = c.args.marks in
+    let is : old ≡ c.args.self.now = c.self.view_is in
+    let t : IsTurning w old m ms = subst (λ (q : ProgressLists). IsTurning w q m ms) (sym is) c.requires.turning in
+    more_at w old m ms t s.marks.items refl c.open_count-count.result c.cut_marks-place.result c.open_count-count.ensures c.cut_marks-place.ensures.latest c.choice_at-choice.result c.choice_at-choice.ensures
+
+pub alternative_after-fact-requires-clause-numbered : goal.alternative_after-fact-requires-clause-numbered
+alternative_after-fact-requires-clause-numbered g c =
+    let w = g.R.Rules.context c.args.rules.now in
+    let s = c.self.inside in
+    let old : ProgressLists = record { query = s.query.now; sub = s.sub; not_sup = s.not_sup; entries = s.tree; prints = s.prints; trace = s.trace; marks = reverse s.marks.items; clash = s.clash; steps = s.steps } in
+    let m = c.args.mark in
+    let ms = c.args.marks in
+    let is : old ≡ c.args.self.now = c.self.view_is in
+    let t : IsTurning w old m ms = subst (λ (q : ProgressLists). IsTurning w q m ms) (sym is) c.requires.turning in
+    numbered_at w old m ms t s.marks.items refl c.open_count-count.result c.cut_marks-place.result c.open_count-count.ensures c.cut_marks-place.ensures.latest c.choice_at-choice.result c.choice_at-choice.ensures
+
+pub cut-from-requires : goal.cut-from-requires
+cut-from-requires g c =
+    let w = g.R.Rules.context c.args.rules.now in
+    let s = c.self.inside in
+    let old : ProgressLists = record { query = s.query.now; sub = s.sub; not_sup = s.not_sup; entries = s.tree; prints = s.prints; trace = s.trace; marks = reverse s.marks.items; clash = s.clash; steps = s.steps } in
+    let m = c.args.mark in
+    let ms = c.args.marks in
+    let is : old ≡ c.args.self.now = c.self.view_is in
+    let t : IsTurning w old m ms = subst (λ (q : ProgressLists). IsTurning w q m ms) (sym is) c.requires.turning in
+    at_within w old m ms t s.marks.items refl c.open_count-count.result c.cut_marks-place.result c.open_count-count.ensures c.cut_marks-place.ensures.latest
+
+pub put_alternative-requires : goal.put_alternative-requires
+put_alternative-requires g c =
+    let w = g.R.Rules.context c.args.rules.now in
+    let s = c.self.inside in
+    let old : ProgressLists = record { query = s.query.now; sub = s.sub; not_sup = s.not_sup; entries = s.tree; prints = s.prints; trace = s.trace; marks = reverse s.marks.items; clash = s.clash; steps = s.steps } in
+    let m = c.args.mark in
+    let ms = c.args.marks in
+    let is : old ≡ c.args.self.now = c.self.view_is in
+    let t : IsTurning w old m ms = subst (λ (q : ProgressLists). IsTurning w q m ms) (sym is) c.requires.turning in
+    subst (λ (es : List Entry). IsFit (node_count (facts_in es)) c.alternative_after-fact.result) (sym c.cut-from.ensures.cut) (fits_at w old m ms t s.marks.items refl c.open_count-count.result c.cut_marks-place.result c.open_count-count.ensures c.cut_marks-place.ensures.latest c.choice_at-choice.result c.choice_at-choice.ensures c.alternative_after-fact.result c.alternative_after-fact.ensures)
+
+pub follow-requires-clause-place : goal.follow-requires-clause-place
+follow-requires-clause-place g c =
+    let w = g.R.Rules.context c.args.rules.now in
+    let s = c.self.inside in
+    let old : ProgressLists = record { query = s.query.now; sub = s.sub; not_sup = s.not_sup; entries = s.tree; prints = s.prints; trace = s.trace; marks = reverse s.marks.items; clash = s.clash; steps = s.steps } in
+    let m = c.args.mark in
+    let ms = c.args.marks in
+    let is : old ≡ c.args.self.now = c.self.view_is in
+    let t : IsTurning w old m ms = subst (λ (q : ProgressLists). IsTurning w q m ms) (sym is) c.requires.turning in
+    let by : By = record { line = m; marks = ms } in
+    let next : Choice = c.in_ok-next.next in
+    let f = c.alternative_after-fact.result in
+    let at = c.cut_marks-place.result in
+    let put : c.put_alternative.new.tree ≡ with_choice (take at s.tree) next f by = c.in_ok-put_alternative.ensures ∙ ap (λ (es : List Entry). with_choice es next f by) c.cut-from.ensures.cut in
+    subst (λ (es : List Entry). at ≤ length es) (sym put) (at_still_within w old m ms t s.marks.items refl c.open_count-count.result c.cut_marks-place.result c.open_count-count.ensures c.cut_marks-place.ensures.latest next f by)
+
+pub follow-requires-clause-stood : goal.follow-requires-clause-stood
+follow-requires-clause-stood g c =
+    let w = g.R.Rules.context c.args.rules.now in
+    let s = c.self.inside in
+    let old : ProgressLists = record { query = s.query.now; sub = s.sub; not_sup = s.not_sup; entries = s.tree; prints = s.prints; trace = s.trace; marks = reverse s.marks.items; clash = s.clash; steps = s.steps } in
+    let m = c.args.mark in
+    let ms = c.args.marks in
+    let is : old ≡ c.args.self.now = c.self.view_is in
+    let t : IsTurning w old m ms = subst (λ (q : ProgressLists). IsTurning w q m ms) (sym is) c.requires.turning in
+    let by : By = record { line = m; marks = ms } in
+    let next : Choice = c.in_ok-next.next in
+    let f = c.alternative_after-fact.result in
+    let at = c.cut_marks-place.result in
+    let put : c.put_alternative.new.tree ≡ with_choice (take at s.tree) next f by = c.in_ok-put_alternative.ensures ∙ ap (λ (es : List Entry). with_choice es next f by) c.cut-from.ensures.cut in
+    subst (λ (es : List Entry). AreBlocksBelow (facts_in es) c.cut-from.result s.prints) (sym (ap (take at) put ∙ front_at w old m ms t s.marks.items refl c.open_count-count.result c.cut_marks-place.result c.open_count-count.ensures c.cut_marks-place.ensures.latest next f by)) (c.cut-from.ensures.stand s.prints t.current)
+
+pub returns-clause-last : goal.returns-clause-last
+returns-clause-last g c =
+    let w = g.R.Rules.context c.args.rules.now in
+    let s = c.self.inside in
+    let old : ProgressLists = record { query = s.query.now; sub = s.sub; not_sup = s.not_sup; entries = s.tree; prints = s.prints; trace = s.trace; marks = reverse s.marks.items; clash = s.clash; steps = s.steps } in
+    let m = c.args.mark in
+    let ms = c.args.marks in
+    let is : old ≡ c.args.self.now = c.self.view_is in
+    let t : IsTurning w old m ms = subst (λ (q : ProgressLists). IsTurning w q m ms) (sym is) c.requires.turning in
+    let by : By = record { line = m; marks = ms } in
+    let next : Choice = c.in_ok-next.next in
+    let f = c.alternative_after-fact.result in
+    let at = c.cut_marks-place.result in
+    let put : c.put_alternative.new.tree ≡ with_choice (take at s.tree) next f by = c.in_ok-put_alternative.ensures ∙ ap (λ (es : List Entry). with_choice es next f by) c.cut-from.ensures.cut in
+    subst (λ (es : List Entry). IsLast w es f) (sym put) (last_at w old m ms t s.marks.items refl c.open_count-count.result c.cut_marks-place.result c.open_count-count.ensures c.cut_marks-place.ensures.latest next f by)
+
+pub returns-clause-moved : goal.returns-clause-moved
+returns-clause-moved g c =
+    let w = g.R.Rules.context c.args.rules.now in
+    let s = c.self.inside in
+    let old : ProgressLists = record { query = s.query.now; sub = s.sub; not_sup = s.not_sup; entries = s.tree; prints = s.prints; trace = s.trace; marks = reverse s.marks.items; clash = s.clash; steps = s.steps } in
+    let m = c.args.mark in
+    let ms = c.args.marks in
+    let is : old ≡ c.args.self.now = c.self.view_is in
+    let t : IsTurning w old m ms = subst (λ (q : ProgressLists). IsTurning w q m ms) (sym is) c.requires.turning in
+    let by : By = record { line = m; marks = ms } in
+    let next : Choice = c.in_ok-next.next in
+    let f = c.alternative_after-fact.result in
+    let at = c.cut_marks-place.result in
+    let put : c.put_alternative.new.tree ≡ with_choice (take at s.tree) next f by = c.in_ok-put_alternative.ensures ∙ ap (λ (es : List Entry). with_choice es next f by) c.cut-from.ensures.cut in
+    let new : ProgressLists = record { query = s.query.now; sub = s.sub; not_sup = s.not_sup; entries = c.put_alternative.new.tree; prints = c.follow.new.prints; trace = s.trace; marks = reverse c.cut_marks-place.new.marks.items; clash = s.clash; steps = s.steps + 1 } in
+    subst (λ (q : ProgressLists). HasMoved w q new) is
+    (moves_at w old m ms t s.marks.items refl c.open_count-count.result c.cut_marks-place.result c.open_count-count.ensures c.cut_marks-place.ensures.latest c.choice_at-choice.result c.choice_at-choice.ensures c.facts_stay_grounded.ensures c.alternatives_speak_of_nodes.ensures f c.alternative_after-fact.ensures by refl new
+    (record {
+      query = refl;
+      sub = refl;
+      not_sup = refl;
+      entries_are = put ∙ ap (λ (d : Choice). with_choice (take at s.tree) d f by) c.in_ok-next.ensures;
+      trace_is = refl;
+      marks_are = ap reverse c.cut_marks-place.ensures.kept;
+      counted = refl;
+      current = c.in_ok-follow.ensures;
+    }))
+
+pub returns-clause-chosen : goal.returns-clause-chosen
+returns-clause-chosen g c =
+    let w = g.R.Rules.context c.args.rules.now in
+    let choice = c.choice_at-choice.result in
+    alternative_no_edge w.table choice.branch (choice.alternative + 1) c.alternative_after-fact.result c.alternative_after-fact.ensures

@@ -1,0 +1,15 @@
+-- Where a search begins.
+use Rattle.std.specs.Prelude.{ℕ, List, [], ◌∷◌}
+use Rattle.std.specs.FinSet as sets
+use Rattle.fact_specs.specs.declared.Fact.TheVariants.{Has}
+use Rattle.completion_tree.specs.declared.tree.By.{By}
+use Rattle.completion_tree.specs.declared.tree.Entry.{Entry}
+use Rattle.completion_tree.specs.declared.tree.Entry.TheVariants.{Fact as Grounded}
+
+-- what rests on no mark
+abbrev pub by_start : By
+by_start = record { line = 0; marks = sets.empty }
+
+-- node 0 has what the query asks
+abbrev pub begun_entries : ℕ → ℕ → List Entry
+begun_entries sub not_sup = Grounded (Has 0 sub) by_start ∷ Grounded (Has 0 not_sup) by_start ∷ []

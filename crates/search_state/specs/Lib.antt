@@ -1,0 +1,10 @@
+pub mod Marked
+pub mod Branchings
+pub mod Resting
+pub mod Progress
+pub mod Looking
+pub mod Turning
+pub mod Backing
+pub mod Stepping
+pub mod Advancing
+pub mod Beginning

@@ -1,0 +1,121 @@
+-- How far a search is.
+use Rattle.std.specs.Prelude.{◌≡◌, ℕ, ◌+◌, ◌<◌, nat_lt, Bool, true, List, [], ◌∷◌, ◌++◌, length, Option, Some, None, All}
+use Rattle.std.specs.List.{list_all}
+use Rattle.shq_base.specs.Concept.{Concept}
+use Rattle.shq_terms.specs.declared.axioms.Query.{Query}
+use Rattle.shape_specs.specs.Normal.{normal_form, negated_form}
+use Rattle.shape_specs.specs.Shape.{IsTable}
+use Rattle.shape_specs.specs.Tree.{tree_of}
+use Rattle.shape_specs.specs.Rows.{IsChoice}
+use Rattle.fact_specs.specs.declared.Fact.{Fact}
+use Rattle.fact_specs.specs.State.{node_count}
+use Rattle.refutation_tree.specs.RuleLine.{concept_numbers}
+use Rattle.tableau_specs.specs.Clash.{IsPlainClash}
+use Rattle.clash_specs.specs.Near.{speak_of_nodes}
+use Rattle.tableau_specs.specs.KeptKinds.{IsKept}
+use Rattle.tableau_specs.specs.Steps.{SearchContext, below_of, IsLegal}
+use Rattle.tableau_specs.specs.Reached.{start, Follows}
+use Rattle.concept_closure.specs.Laws.{IsClosedFor}
+use Rattle.closing_specs.specs.Noted.{NotedLine, noted_start}
+use Rattle.closing_specs.specs.Grounded.{AreGrounded}
+use Rattle.closing_specs.specs.Places.{Place}
+use Rattle.completion_tree.specs.declared.tree.By.{By}
+use Rattle.completion_tree.specs.declared.tree.Entry.{Entry}
+use Rattle.completion_tree.specs.declared.tree.Entry.TheVariants.{Fact as Grounded}
+use Rattle.completion_tree.specs.Trail.{facts_in, items_of, with_fresh}
+use Rattle.blocking.specs.Followed.{Printed, IsCurrent}
+use Rattle.step_finders.specs.declared.clash.Clash.{Clash}
+use Rattle.step_finders.specs.declared.make.NewNodes.{NewNodes}
+use Rattle.step_finders.specs.Clashing.{IsShown}
+use Rattle.step_lines.specs.Serving.{HasPart}
+use Rattle.search_trace.specs.Trace.{TraceLists}
+use Rattle.search_trace.specs.Laws.{IsTracedAt}
+use Rattle.search_state.specs.Marked.{marked_in}
+use Rattle.search_state.specs.Branchings.{AreMarks}
+
+-- the query, the numbers of what it asks, the entries of the trail, what is known of blocked nodes, the trace, the places of the
+-- trail's marks, latest first, a clash of the trail, if it has a plain one, and how many steps were made
+pub record ProgressLists : Type 0 where
+  pub query : Query
+  pub sub : ℕ
+  pub not_sup : ℕ
+  pub entries : List Entry
+  pub prints : Printed
+  pub trace : TraceLists
+  pub marks : List ℕ
+  pub clash : Option Clash
+  pub steps : ℕ
+
+-- ---- what does not change
+
+-- the context has what a search for the query needs, and the numbers are those of what it asks
+pub record IsAsked (w : SearchContext) (q : Query) (sub not_sup : ℕ) : Type 0 where
+  pub is_table : IsTable w.table
+  pub is_choice : IsChoice w.theory w.table w.rows
+  pub is_closed : IsClosedFor w
+  pub sub_listed : sub < length w.table
+  pub sub_is : tree_of w.table sub ≡ normal_form q.sub
+  pub not_sup_listed : not_sup < length w.table
+  pub not_sup_is : tree_of w.table not_sup ≡ negated_form q.sup
+
+pub record IsSameQuery (old new : ProgressLists) : Type 0 where
+  pub query : new.query ≡ old.query
+  pub sub : new.sub ≡ old.sub
+  pub not_sup : new.not_sup ≡ old.not_sup
+
+-- ---- what is always so
+
+-- The concepts that the line names are in the table, and of each kind that the rules keep. Where it names a part of an axiom,
+-- there is one.
+pub record IsFitLine (w : SearchContext) (sub not_sup : ℕ) (l : NotedLine) : Type 0 where
+  pub over : list_all (λ c. nat_lt c (length w.table)) (concept_numbers l.line) ≡ true
+  pub of_kind : (p : Concept → Bool) (e : ℕ → Bool) → IsKept w.theory (λ c. p c ≡ true) (λ r. e r ≡ true) → p (tree_of w.table sub) ≡ true → p (tree_of w.table not_sup) ≡ true
+      → list_all (λ c. p (tree_of w.table c)) (concept_numbers l.line) ≡ true
+  pub has_part : HasPart w.theory l.line
+
+-- the trail is reached by as many legal steps, blocks are known, and the trace is that of the trail
+pub record IsStanding (w : SearchContext) (s : ProgressLists) : Type 0 where
+  pub asked : IsAsked w s.query s.sub s.not_sup
+  pub follows : Follows w (start s.sub s.not_sup) s.steps (items_of s.entries)
+  pub current : IsCurrent (facts_in s.entries) s.prints
+  pub places : List Place
+  pub traced : IsTracedAt w.theory w.table (noted_start s.query.sub s.query.sup) s.trace places (marked_in s.entries)
+  pub are_marks : AreMarks w s.entries s.marks places
+  pub grounded : AreGrounded (marked_in s.entries)
+  pub fit : All (IsFitLine w s.sub s.not_sup) s.trace.lines
+
+-- a plain clash is known exactly where there is one
+abbrev pub IsClashOf : SearchContext → List (Fact ℕ) → Option Clash → Type 0
+IsClashOf w fs None = ¬ IsPlainClash (below_of w) w.table fs
+IsClashOf w fs (Some clash) = IsShown w fs clash
+
+pub record IsSearching (w : SearchContext) (s : ProgressLists) : Type 0 where
+  pub standing : IsStanding w s
+  pub clash : IsClashOf w (facts_in s.entries) s.clash
+
+-- ---- a step
+
+-- a legal step was made, and may have made a plain clash
+pub record HasMoved (w : SearchContext) (old new : ProgressLists) : Type 0 where
+  pub same : IsSameQuery old new
+  pub standing : IsStanding w new
+  pub is_legal : IsLegal w (items_of old.entries) (items_of new.entries)
+  pub counted : new.steps ≡ old.steps + 1
+
+-- the trail's last entry is the fact, before which there was no plain clash
+pub record IsLast (w : SearchContext) (es : List Entry) (f : Fact ℕ) : Type 0 where
+  pub front : List Entry
+  pub by : By
+  pub splits : es ≡ front ++ Grounded f by ∷ []
+  pub none : ¬ IsPlainClash (below_of w) w.table (facts_in front)
+
+-- the trail's last entries are the facts of new nodes, before which there was no plain clash
+pub record IsLastNew (w : SearchContext) (es : List Entry) (m : NewNodes) (first : ℕ) : Type 0 where
+  pub front : List Entry
+  pub by : By
+  pub splits : es ≡ with_fresh front m.parent m.role m.filler m.count by
+  pub none : ¬ IsPlainClash (below_of w) w.table (facts_in front)
+  pub is_node : m.parent < node_count (facts_in front)
+  pub is_some : 0 < m.count
+  pub first_is : first ≡ node_count (facts_in front)
+  pub speak : speak_of_nodes (facts_in front) ≡ true

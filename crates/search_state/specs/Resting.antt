@@ -1,0 +1,57 @@
+-- Rule lines that follow from facts of a trail which rest on the line's marks alone.
+use Rattle.std.specs.Prelude.{◌≡◌, ℕ, nat_lt, Bool, true, List, [], ◌∷◌, length}
+use Rattle.std.specs.List.{list_all}
+use Rattle.shq_base.specs.Concept.{Concept}
+use Rattle.lane_sieve.specs.Sets.{NumberSet}
+use Rattle.shape_specs.specs.Tree.{tree_of}
+use Rattle.fact_specs.specs.declared.Fact.TheVariants.{Has}
+use Rattle.fact_specs.specs.State.{node_count, fresh_facts}
+use Rattle.refutation_specs.specs.Line.{Line}
+use Rattle.refutation_tree.specs.RuleLine.{concept_numbers}
+use Rattle.tableau_specs.specs.declared.Branch.{Branch}
+use Rattle.tableau_specs.specs.KeptKinds.{IsKept}
+use Rattle.tableau_specs.specs.StepLaws.{AreOfKind}
+use Rattle.tableau_specs.specs.Steps.{SearchContext}
+use Rattle.closing_specs.specs.Premises.{Added, is_single, is_branching}
+use Rattle.closing_specs.specs.Grounded.{is_known_within}
+use Rattle.closing_specs.specs.Trail.{Puts}
+use Rattle.completion_tree.specs.declared.tree.Entry.{Entry}
+use Rattle.completion_tree.specs.Trail.{facts_in}
+use Rattle.step_finders.specs.declared.make.NewNodes.{NewNodes}
+use Rattle.step_lines.specs.Serving.{HoldsAt, HasPart, branch_nodes}
+use Rattle.search_state.specs.Marked.{marked_in}
+use Rattle.search_state.specs.Branchings.{AreAlternatives}
+
+-- what the line asks holds by facts that rest on marks in u alone, its children add that, and these nodes are known by such facts
+pub record IsResting (w : SearchContext) (es : List Entry) (line : Line) (u : NumberSet) (children : List Added) (nodes : List ℕ) : Type 0 where
+  pub holds : (number : ℕ) → HoldsAt w (marked_in es) (record { number = number; line = line; marks = u }) children
+  pub knows : list_all (is_known_within u (marked_in es)) nodes ≡ true
+  pub of_kind : (p : Concept → Bool) (e : ℕ → Bool) → IsKept w.theory (λ c. p c ≡ true) (λ r. e r ≡ true) → AreOfKind w.table (facts_in es) p e
+      → list_all (λ c. p (tree_of w.table c)) (concept_numbers line) ≡ true
+  pub numbered : list_all (λ c. nat_lt c (length w.table)) (concept_numbers line) ≡ true
+  pub has_part : HasPart w.theory line
+
+-- the line gives node x the concept d
+pub record RestsAddition (w : SearchContext) (es : List Entry) (x d : ℕ) (line : Line) (u : NumberSet) : Type 0 where
+  pub child : Added
+  pub resting : IsResting w es line u (child ∷ []) (x ∷ [])
+  pub puts : Puts w.table child (Has x d ∷ [])
+  pub single : is_single line ≡ true
+
+-- the line makes these nodes
+pub record RestsNewNodes (w : SearchContext) (es : List Entry) (m : NewNodes) (line : Line) (u : NumberSet) : Type 0 where
+  pub child : Added
+  pub resting : IsResting w es line u (child ∷ []) (m.parent ∷ [])
+  pub puts : Puts w.table child (fresh_facts m.parent m.role m.filler (node_count (facts_in es)) m.count)
+  pub single : is_single line ≡ true
+
+-- the line branches as the choice does
+pub record RestsChoice (w : SearchContext) (es : List Entry) (b : Branch) (line : Line) (u : NumberSet) : Type 0 where
+  pub children : List Added
+  pub resting : IsResting w es line u children (branch_nodes b)
+  pub alternatives : AreAlternatives w (facts_in es) b children
+  pub branching : is_branching line ≡ true
+
+-- the line closes its branch
+pub record RestsClash (w : SearchContext) (es : List Entry) (line : Line) (u : NumberSet) : Type 0 where
+  pub resting : IsResting w es line u [] []

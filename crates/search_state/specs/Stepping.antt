@@ -1,0 +1,46 @@
+-- What a step of a search comes to.
+use Rattle.std.specs.Prelude.{◌≡◌, List, [], ◌∷◌, Some, All}
+use Rattle.tableau_specs.specs.declared.Item.{Item}
+use Rattle.tableau_specs.specs.Steps.{SearchContext, IsLegal, IsSaturated, HasClash}
+use Rattle.tableau_specs.specs.Reached.{start}
+use Rattle.closing_specs.specs.Leaves.{leaves}
+use Rattle.closing_specs.specs.Noted.{noted_start}
+use Rattle.closing_specs.specs.Back.{step_of}
+use Rattle.completion_tree.specs.Trail.{items_of}
+use Rattle.search_state.specs.declared.stepping.Stepped.{Stepped}
+use Rattle.search_state.specs.declared.stepping.Stepped.TheVariants.{Moved, Saturated, Closed}
+use Rattle.search_state.specs.declared.stepping.Rested.{Rested}
+use Rattle.search_state.specs.declared.stepping.Rested.TheVariants.{CanMove, Saturated as RestSaturated, Closed as RestClosed}
+use Rattle.search_state.specs.Progress.{ProgressLists, IsFitLine, IsSearching, IsSameQuery, HasMoved}
+
+-- what has begun
+pub record HasBegun (w : SearchContext) (s : ProgressLists) : Type 0 where
+  pub is_searching : IsSearching w s
+  pub trail_is : items_of s.entries ≡ start s.sub s.not_sup
+  pub no_steps : s.steps ≡ 0
+
+module _ (w : SearchContext) where
+  -- the lines close everything, and the trail is as it was
+  pub record IsClosed (old new : ProgressLists) : Type 0 where
+    pub same : IsSameQuery old new
+    pub entries : new.entries ≡ old.entries
+    pub prints : new.prints ≡ old.prints
+    pub steps : new.steps ≡ old.steps
+    pub has_clash : HasClash w (items_of new.entries)
+    pub closes : leaves (step_of w.theory w.table) (noted_start new.query.sub new.query.sup ∷ []) new.trace.lines ≡ Some []
+    pub fit : All (IsFitLine w new.sub new.not_sup) new.trace.lines
+
+  abbrev pub IsStepped : ProgressLists → ProgressLists → Stepped → Type 0
+  IsStepped old new Moved = HasMoved w old new × IsSearching w new
+  IsStepped old new Saturated = (new ≡ old) × IsSaturated w (items_of new.entries)
+  IsStepped old new Closed = IsClosed old new
+
+  -- there is a legal step
+  pub record HasNext (s : ProgressLists) : Type 0 where
+    pub next : List Item
+    pub is_legal : IsLegal w (items_of s.entries) next
+
+  abbrev pub IsRested : ProgressLists → ProgressLists → Rested → Type 0
+  IsRested old new CanMove = (new ≡ old) × HasNext new
+  IsRested old new RestSaturated = (new ≡ old) × IsSaturated w (items_of new.entries)
+  IsRested old new RestClosed = IsClosed old new

@@ -1,0 +1,53 @@
+-- Where a search is that has gone back in its trace.
+use Rattle.std.specs.Prelude.{◌≡◌, ℕ, List, [], ◌∷◌, ◌++◌, Some, All, length, map}
+use Rattle.std.specs.FinSet as sets
+use Rattle.lane_sieve.specs.Sets.{NumberSet}
+use Rattle.fact_specs.specs.declared.Fact.{Fact}
+use Rattle.tableau_specs.specs.Steps.{SearchContext, HasClash}
+use Rattle.tableau_specs.specs.Reached.{start, Follows}
+use Rattle.closing_specs.specs.Premises.{Added}
+use Rattle.closing_specs.specs.Leaves.{leaves}
+use Rattle.closing_specs.specs.Noted.{marked, noted_start}
+use Rattle.closing_specs.specs.Trail.{Puts}
+use Rattle.closing_specs.specs.Back.{step_of}
+use Rattle.closing_specs.specs.Places.{Place, turned_place}
+use Rattle.completion_tree.specs.Trail.{facts_in, items_of}
+use Rattle.blocking.specs.Followed.{IsCurrent}
+use Rattle.search_trace.specs.declared.opens.Back.{Back}
+use Rattle.search_trace.specs.declared.opens.Back.TheVariants.{Turned, Closed}
+use Rattle.search_trace.specs.Laws.{IsTracedAt}
+use Rattle.search_state.specs.Branchings.{AreMarks}
+use Rattle.search_state.specs.Progress.{ProgressLists, IsAsked, IsFitLine}
+
+-- The trail is as it was, and has a clash. The trace has gone back to a branching that is to take its next alternative, whose
+-- fact rests on these marks.
+pub record IsTurning (w : SearchContext) (s : ProgressLists) (mark : ℕ) (marks : NumberSet) : Type 0 where
+  pub asked : IsAsked w s.query s.sub s.not_sup
+  pub follows : Follows w (start s.sub s.not_sup) s.steps (items_of s.entries)
+  pub current : IsCurrent (facts_in s.entries) s.prints
+  pub has_clash : HasClash w (items_of s.entries)
+  pub passed : List Place
+  pub place : Place
+  pub older : List Place
+  pub are_marks : AreMarks w s.entries s.marks (passed ++ place ∷ older)
+  pub same_count : length s.trace.opens ≡ length (place ∷ older)
+  pub mark_is : mark ≡ place.mark
+  pub marks_are : marks ≡ sets.insert place.marks place.mark
+  pub used : NumberSet
+  pub has_next : (a : Added) × (rest : List Added) × (place.rest ≡ a ∷ rest)
+  pub traced : (a : Added) (rest : List Added) (new : List (Fact ℕ)) → place.rest ≡ a ∷ rest → Puts w.table a new
+      → IsTracedAt w.theory w.table (noted_start s.query.sub s.query.sup) s.trace (turned_place place s.trace.lines used rest ∷ older) (place.facts ++ map (marked marks) new)
+  pub fit : All (IsFitLine w s.sub s.not_sup) s.trace.lines
+
+-- the trail has a clash, and the lines of the trace close everything
+pub record IsClosing (w : SearchContext) (s : ProgressLists) : Type 0 where
+  pub asked : IsAsked w s.query s.sub s.not_sup
+  pub follows : Follows w (start s.sub s.not_sup) s.steps (items_of s.entries)
+  pub current : IsCurrent (facts_in s.entries) s.prints
+  pub has_clash : HasClash w (items_of s.entries)
+  pub closes : leaves (step_of w.theory w.table) (noted_start s.query.sub s.query.sup ∷ []) s.trace.lines ≡ Some []
+  pub fit : All (IsFitLine w s.sub s.not_sup) s.trace.lines
+
+abbrev pub HasGoneBack : SearchContext → ProgressLists → Back → Type 0
+HasGoneBack w s (Turned mark marks) = IsTurning w s mark marks
+HasGoneBack w s Closed = IsClosing w s

@@ -1,0 +1,172 @@
+// The next step of a search.
+ghost use Rattle.std.specs.Prelude.{◌≡◌, ◌+◌, ◌<◌, ◌^◌, None, MatchOption, OnOk, IfOk};
+ghost use Rattle.completion_tree.specs.Trail.{facts_in};
+ghost use Rattle.blocking.specs.Followed.{IsCurrent};
+ghost use Rattle.step_finders.specs.Clashing.{IsShown};
+ghost use Rattle.step_finders.specs.Choosing.{IsChoosable};
+ghost use Rattle.step_finders.specs.Making.{IsMaking};
+ghost use Rattle.step_finders.specs.Reasons.{IsAddition};
+ghost use Rattle.step_finders.specs.Stepping.{NoStep, IsStep};
+ghost use Rattle.search_state.specs.Progress.{IsStanding, IsClashOf, IsSearching, HasMoved};
+ghost use Rattle.tableau_specs.specs.Steps.{IsAlternative};
+ghost use Rattle.step_finders.specs.Choosing.{branch_of};
+ghost use Rattle.step_lines.specs.Kinds.{alternative_count};
+ghost use Rattle.search_state.specs.Turning.{IsTurning};
+ghost use Rattle.search_state.specs.Advancing.{HasAdvanced};
+ghost use Rattle.search_state.specs.Stepping.{IsStepped};
+
+use crate::{NoMemory, Stepped};
+use crate::alternatives::{count_alternatives, fact_of};
+use crate::progress::Progress;
+use crate::resting::{rest_addition, rest_choice, rest_new_nodes};
+use completion_tree::Deps;
+use fact_specs::Fact;
+use search_trace::Back;
+use std::alloc::Allocator;
+use step_finders::{Addition, Choosing, Clash, NewNodes, Rules, Step, find_step, no_step_is_saturated};
+use tree_state::TreeState;
+
+impl<'b, A: Allocator + Copy> Progress<'b, A> {
+    // A node gets a concept.
+    fn add<R: Rules>(&mut self, rules: &R, addition: &Addition) -> Result<(), NoMemory>
+        requires standing { IsStanding (R.context rules.now) self.old }
+        requires none { IsClashOf (R.context rules.now) (facts_in self.old.entries) None }
+        requires addition { IsAddition (R.context rules.now) (facts_in self.old.entries) (R.files rules.now) addition.now }
+        requires countable { self.old.steps + 1 < 2 ^ 64 }
+        ensures { OnOk result (HasAdvanced (R.context rules.now) self.old self.new) }
+    {
+        let resting = rest_addition(self.heap, &self.tree, &self.prints, rules, addition)?;
+        self.put_addition(rules, addition, resting)?;
+        self.look(rules, Fact::Has(addition.node, addition.concept))?;
+        Ok(())
+    }
+
+    // Nodes are made.
+    fn generate<R: Rules>(&mut self, rules: &R, new: &NewNodes) -> Result<(), NoMemory>
+        requires standing { IsStanding (R.context rules.now) self.old }
+        requires none { IsClashOf (R.context rules.now) (facts_in self.old.entries) None }
+        requires making { IsMaking (R.context rules.now) (facts_in self.old.entries) new.now }
+        requires countable { self.old.steps + 1 < 2 ^ 64 }
+        ensures { OnOk result (HasAdvanced (R.context rules.now) self.old self.new) }
+    {
+        let resting = rest_new_nodes(self.heap, &self.tree, &self.prints, rules, new)?;
+        let first = self.put_new_nodes(rules, new, resting)?;
+        self.look_at_new_nodes(rules, new, first)?;
+        Ok(())
+    }
+
+    // The first alternative of a choice is taken.
+    fn choose<R: Rules>(&mut self, rules: &R, choosing: &Choosing) -> Result<(), NoMemory>
+        requires standing { IsStanding (R.context rules.now) self.old }
+        requires none { IsClashOf (R.context rules.now) (facts_in self.old.entries) None }
+        requires choosable { IsChoosable (R.context rules.now) (facts_in self.old.entries) choosing.now }
+        requires countable { self.old.steps + 1 < 2 ^ 64 }
+        ensures { OnOk result (HasAdvanced (R.context rules.now) self.old self.new) }
+    {
+        let (left, fact) = first_of(rules, choosing)?;
+        let resting = rest_choice(self.heap, &self.tree, &self.prints, rules, choosing)?;
+        self.put_choice(rules, choosing, resting, left, fact)?;
+        self.look(rules, fact)?;
+        Ok(())
+    }
+
+    // The next alternative of a branching is taken.
+    fn retry<R: Rules>(&mut self, rules: &R, mark: u32, marks: Deps) -> Result<(), NoMemory>
+        requires turning { IsTurning (R.context rules.now) self.old mark marks }
+        requires countable { self.old.steps + 1 < 2 ^ 64 }
+        ensures { OnOk result (HasAdvanced (R.context rules.now) self.old self.new) }
+    {
+        let fact = self.turn(rules, mark, marks)?;
+        self.look(rules, fact)?;
+        Ok(())
+    }
+
+    // What there is to do where there is a clash.
+    fn go_back<R: Rules>(&mut self, rules: &R, clash: &Clash) -> Result<Stepped, NoMemory>
+        requires standing { IsStanding (R.context rules.now) self.old }
+        requires shown { IsShown (R.context rules.now) (facts_in self.old.entries) clash.now }
+        requires countable { self.old.steps + 1 < 2 ^ 64 }
+        ensures { IfOk result (IsStepped (R.context rules.now) self.old self.new) }
+    {
+        match self.close(rules, clash)? {
+            Back::Turned { mark, marks } => {
+                self.retry(rules, mark, marks)?;
+                Ok(Stepped::Moved)
+            }
+            Back::Closed => Ok(Stepped::Closed),
+        }
+    }
+
+    // The next step where there is no plain clash; none exactly where there is none.
+    pub(crate) fn next_step<R: Rules>(&self, rules: &R) -> Result<Option<Step>, NoMemory>
+        requires { IsCurrent (facts_in self.now.entries) self.now.prints }
+        ensures { let w = R.context rules.now in let fs = facts_in self.now.entries in
+            IfOk result (λ found. MatchOption found (NoStep w fs) (IsStep w fs (R.files rules.now))) }
+    {
+        let state = TreeState::new(&self.tree, &self.prints);
+        let found = find_step(self.heap, &state, rules)?;
+        Ok(found)
+    }
+
+    fn make<R: Rules>(&mut self, rules: &R, step: &Step) -> Result<(), NoMemory>
+        requires standing { IsStanding (R.context rules.now) self.old }
+        requires none { IsClashOf (R.context rules.now) (facts_in self.old.entries) None }
+        requires step { IsStep (R.context rules.now) (facts_in self.old.entries) (R.files rules.now) step.now }
+        requires countable { self.old.steps + 1 < 2 ^ 64 }
+        ensures { OnOk result (HasAdvanced (R.context rules.now) self.old self.new) }
+    {
+        match step {
+            Step::Add(addition) => self.add(rules, addition),
+            Step::Generate(new) => self.generate(rules, new),
+            Step::Choose(choosing) => self.choose(rules, choosing),
+        }
+    }
+
+    // What there is to do where there is no plain clash.
+    fn go_on<R: Rules>(&mut self, rules: &R) -> Result<Stepped, NoMemory>
+        requires standing { IsStanding (R.context rules.now) self.old }
+        requires none { IsClashOf (R.context rules.now) (facts_in self.old.entries) None }
+        requires countable { self.old.steps + 1 < 2 ^ 64 }
+        ensures { IfOk result (IsStepped (R.context rules.now) self.old self.new) }
+    {
+        match self.next_step(rules)? {
+            Some(step) => {
+                self.make(rules, &step)?;
+                Ok(Stepped::Moved)
+            }
+            None => {
+                no_step_is_saturated();
+                Ok(Stepped::Saturated)
+            }
+        }
+    }
+
+    /// Makes the next step, if there is one.
+    pub(crate) fn advance<R: Rules>(&mut self, rules: &R) -> Result<Stepped, NoMemory>
+        requires searching { IsSearching (R.context rules.now) self.old }
+        requires countable { self.old.steps + 1 < 2 ^ 64 }
+        ensures { IfOk result (IsStepped (R.context rules.now) self.old self.new) }
+    {
+        match self.clash {
+            Some(clash) => self.go_back(rules, &clash),
+            None => self.go_on(rules),
+        }
+    }
+}
+
+// How many alternatives are left after the first, and the fact of the first.
+fn first_of<R: Rules>(rules: &R, choosing: &Choosing) -> Result<(u32, Fact<u32>), NoMemory>
+    ensures left { IfOk result (λ p. p.0 + 1 ≡ alternative_count (R.context rules.now).table (branch_of choosing.now)) }
+    ensures first { IfOk result (λ p. IsAlternative (R.context rules.now).table (branch_of choosing.now) 1 p.1) }
+{
+    let branch = choosing.branch();
+    let count = count_alternatives(rules, branch);
+    if count == 0 || count > u32::MAX as usize {
+        return Err(NoMemory);
+    }
+    let left = (count - 1) as u32;
+    match fact_of(rules, branch, 1) {
+        Some(fact) => Ok((left, fact)),
+        None => Err(NoMemory),
+    }
+}

@@ -1,0 +1,91 @@
+// Where a search begins.
+ghost use Rattle.std.specs.Prelude.{◌≡◌, [], ◌∷◌, ◌++◌, OnOk, IfOk};
+ghost use Rattle.fact_specs.specs.declared.Fact.TheVariants.{Has};
+ghost use Rattle.completion_tree.specs.declared.tree.Entry.TheVariants.{Fact as Grounded};
+ghost use Rattle.completion_tree.specs.Trail.{facts_in};
+ghost use Rattle.blocking.specs.Followed.{IsCurrent};
+ghost use Rattle.search_state.specs.Beginning.{by_start, begun_entries};
+ghost use Rattle.search_state.specs.Progress.{IsAsked, IsClashOf};
+ghost use Rattle.search_state.specs.Stepping.{HasBegun};
+
+use crate::looking::find_clash_by;
+use crate::{NoMemory, Progress};
+use blocking::{Prints, blocks_stay};
+use completion_tree::{By, Deps, Tree};
+use fact_specs::Fact;
+use search_trace::Trace;
+use shq_terms::Query;
+use std::alloc::{Allocator, Global};
+use step_finders::{Clash, Rules};
+
+impl<'b, A: Allocator + Copy> Progress<'b, A> {
+    /// A search that begins, whose tree is in `alloc`. The numbers are those of what the query asks.
+    ///
+    /// # Errors
+    ///
+    /// Out of memory.
+    pub fn new_in<R: Rules>(
+        alloc: A,
+        heap: Global,
+        rules: &R,
+        query: &'b Query,
+        sub: u32,
+        not_sup: u32,
+    ) -> Result<Progress<'b, A>, NoMemory>
+        requires { IsAsked (R.context rules.now) query.now sub not_sup }
+        ensures begun { IfOk result (HasBegun (R.context rules.now)) }
+        ensures query { IfOk result (λ p. p.query ≡ query.entry.now) }
+        ensures numbers { IfOk result (λ p. (p.sub ≡ sub) × (p.not_sup ≡ not_sup)) }
+    {
+        let mut tree = Tree::new_in(alloc)?;
+        put_start(&mut tree, sub)?;
+        put_start(&mut tree, not_sup)?;
+        let mut prints = Prints::new(heap);
+        blocks_stay();
+        prints.follow(&tree, 0)?;
+        let clash = find_clash_at_start(heap, &tree, &prints, rules, sub, not_sup)?;
+        Ok(Progress {
+            heap,
+            query,
+            sub,
+            not_sup,
+            tree,
+            prints,
+            trace: Trace::new(heap),
+            marks: Vec::new(heap),
+            clash,
+            steps: 0,
+        })
+    }
+}
+
+// Gives node 0 a concept, which rests on nothing.
+fn put_start<A: Allocator + Copy>(tree: &mut Tree<A>, concept: u32) -> Result<(), NoMemory>
+    ensures { OnOk result (tree.new ≡ tree.old ++ Grounded (Has 0 concept) by_start ∷ []) }
+{
+    let by = By {
+        line: 0,
+        marks: Deps::none(),
+    };
+    tree.add(Fact::Has(0, concept), by)
+}
+
+// The plain clash that there is at the beginning, if there is one.
+fn find_clash_at_start<A: Allocator + Copy, R: Rules>(
+    heap: Global,
+    tree: &Tree<A>,
+    prints: &Prints,
+    rules: &R,
+    sub: u32,
+    not_sup: u32,
+) -> Result<Option<Clash>, NoMemory>
+    requires current { IsCurrent (facts_in tree.now) prints.now }
+    requires begun { tree.now ≡ begun_entries sub not_sup }
+    ensures { IfOk result (IsClashOf (R.context rules.now) (facts_in tree.now)) }
+{
+    rules.is_ready();
+    match find_clash_by(heap, tree, prints, rules, Fact::Has(0, sub))? {
+        Some(clash) => Ok(Some(clash)),
+        None => find_clash_by(heap, tree, prints, rules, Fact::Has(0, not_sup)),
+    }
+}

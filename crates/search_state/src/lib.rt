@@ -1,0 +1,16 @@
+//! How far a tableau search is: its tree with the blocks, its trace with the open branchings, and the next step.
+#![tactic(auto)]
+
+mod advance;
+mod alternatives;
+mod backing;
+mod beginning;
+mod looking;
+mod next_alternative;
+mod progress;
+mod resting;
+mod stepping;
+
+pub use progress::Progress;
+pub use shq_base::NoMemory;
+pub use stepping::{Rested, Stepped};

@@ -1,0 +1,57 @@
+// Whether the last facts have made a plain clash.
+ghost use Rattle.std.specs.Prelude.{◌≡◌, ℕ, MatchOption, IfOk};
+ghost use Rattle.completion_tree.specs.Trail.{facts_in};
+ghost use Rattle.blocking.specs.Followed.{IsCurrent};
+ghost use Rattle.step_finders.specs.Clashing.{IsShown, NoClashByNew};
+ghost use Rattle.search_state.specs.Looking.{IsLookable, IsNewLookable, NoClashByFact};
+
+use crate::NoMemory;
+use blocking::Prints;
+use completion_tree::Tree;
+use fact_specs::Fact;
+use std::alloc::{Allocator, Global};
+use step_finders::{
+    Clash, NewNodes, Rules, find_clash, find_clash_of_apart, find_clash_of_join, find_clash_of_new_nodes,
+};
+use tree_state::TreeState;
+
+/// A plain clash that is there by the fact; none exactly where there is none.
+pub(crate) fn find_clash_by<A: Allocator + Copy, R: Rules>(
+    alloc: Global,
+    tree: &Tree<A>,
+    prints: &Prints,
+    rules: &R,
+    fact: Fact<u32>,
+) -> Result<Option<Clash>, NoMemory>
+    requires current { IsCurrent (facts_in tree.now) prints.now }
+    requires lookable { IsLookable (facts_in tree.now) fact }
+    ensures { let w = R.context rules.now in let fs = facts_in tree.now in
+        IfOk result (λ found. MatchOption found (NoClashByFact w fs fact) (IsShown w fs)) }
+{
+    let state = TreeState::new(tree, prints);
+    match fact {
+        Fact::Has(node, concept) => find_clash(alloc, &state, rules, node, concept),
+        Fact::Edge(_, _, _) => Ok(None),
+        Fact::Apart(first, second) => find_clash_of_apart(alloc, &state, rules, first, second),
+        Fact::Same(first, _) => find_clash_of_join(alloc, &state, rules, first),
+    }
+}
+
+/// A plain clash that is there by new nodes, of which this is the first; none exactly where there is none.
+pub(crate) fn find_clash_by_new<A: Allocator + Copy, R: Rules>(
+    alloc: Global,
+    tree: &Tree<A>,
+    prints: &Prints,
+    rules: &R,
+    new: &NewNodes,
+    first: u32,
+) -> Result<Option<Clash>, NoMemory>
+    requires current { IsCurrent (facts_in tree.now) prints.now }
+    requires lookable { IsNewLookable (facts_in tree.now) new.now first }
+    ensures { let w = R.context rules.now in let fs = facts_in tree.now in
+        IfOk result (λ found. MatchOption found ((s : ℕ) → NoClashByNew w fs new.now.parent s new.now.filler) (IsShown w fs)) }
+{
+    let state = TreeState::new(tree, prints);
+    let found = find_clash_of_new_nodes(alloc, &state, rules, new.parent, new.filler, first)?;
+    Ok(found)
+}

@@ -1,0 +1,242 @@
+// How far a search is.
+ghost use Rattle.std.specs.Prelude.{◌≡◌, ◌+◌, ◌<◌, ◌≤◌, ◌^◌, [], ◌∷◌, ◌++◌, None, OnOk, IfOk, length, take};
+ghost use Rattle.fact_specs.specs.declared.Fact.TheVariants.{Has};
+ghost use Rattle.fact_specs.specs.State.{node_count};
+ghost use Rattle.refutation_tree.specs.RuleLine.{line_of};
+ghost use Rattle.completion_tree.specs.Trail.{facts_in};
+ghost use Rattle.blocking.specs.Followed.{IsCurrent, AreBlocksBelow};
+ghost use Rattle.step_finders.specs.Reasons.{IsAddition};
+ghost use Rattle.fact_tree.specs.Entries.{IsFit};
+ghost use Rattle.completion_tree.specs.declared.tree.Entry.TheVariants.{Fact as Grounded, Mark};
+ghost use Rattle.tableau_specs.specs.Steps.{IsAlternative};
+ghost use Rattle.step_finders.specs.Choosing.{branch_of, IsChoosable};
+ghost use Rattle.step_finders.specs.Making.{IsMaking};
+ghost use Rattle.step_lines.specs.Kinds.{alternative_count};
+ghost use Rattle.search_state.specs.Looking.{IsLookable, IsNewLookable};
+ghost use Rattle.search_state.specs.Resting.{RestsAddition, RestsNewNodes, RestsChoice};
+ghost use Rattle.search_state.specs.Progress.{IsStanding, IsClashOf, IsSearching, HasMoved, IsLast, IsLastNew};
+
+use crate::NoMemory;
+use crate::alternatives::with_mark;
+use crate::looking::{find_clash_by, find_clash_by_new};
+use crate::resting::RestingLine;
+use blocking::{Prints, blocks_stay, still_current};
+use completion_tree::{By, Choice, Tree};
+use fact_specs::Fact;
+use search_trace::Trace;
+use shq_terms::Query;
+use std::alloc::{Allocator, Global};
+use std::marker::Model;
+use step_finders::{Addition, Choosing, Clash, NewNodes, Rules};
+use step_lines::{alternatives_speak_of_nodes, facts_stay_grounded, new_nodes_stay_grounded};
+
+/// The tree of a search with the blocks of its nodes, its trace, and the places of the marks.
+#[derive(Drop)]
+pub struct Progress<'b, A: Allocator> {
+    pub(crate) heap: Global,
+    pub(crate) query: &'b Query,
+    pub(crate) sub: u32,
+    pub(crate) not_sup: u32,
+    pub(crate) tree: Tree<A>,
+    pub(crate) prints: Prints,
+    pub(crate) trace: Trace,
+    pub(crate) marks: Vec<u32>,
+    pub(crate) clash: Option<Clash>,
+    pub(crate) steps: u64,
+}
+
+impl<'b, A: Allocator> Model for Progress<'b, A> {
+    ghost use Rattle.std.specs.Prelude.{reverse};
+    ghost use Rattle.std.specs.Coded.{codes};
+    ghost use Rattle.shq_base.specs.Code.{concept_code};
+    ghost use Rattle.dependency_sets.specs.contracts.deps.Deps as deps;
+    ghost use Rattle.search_trace.specs.contracts.trace.Trace as traces;
+    ghost use Rattle.search_state.specs.Progress.{ProgressLists};
+
+    ghost Value = { ProgressLists };
+
+    ghost coded = { Prim.hlevel (codes, concept_code, deps.the_row.coded, traces.the_row.coded) };
+
+    ghost view = { λ p. record {
+      query = p.query.now;
+      sub = p.sub;
+      not_sup = p.not_sup;
+      entries = p.tree;
+      prints = p.prints;
+      trace = p.trace;
+      marks = reverse p.marks.items;
+      clash = p.clash;
+      steps = p.steps;
+    } };
+}
+
+// Finds the blocks again, of which those below `from` stood before the entries from `place` on were put.
+pub(crate) fn follow<A: Allocator + Copy>(
+    tree: &Tree<A>,
+    prints: &mut Prints,
+    place: u32,
+    from: u32,
+) -> Result<(), NoMemory>
+    requires place { place ≤ length tree.now }
+    requires stood { AreBlocksBelow (facts_in (take place tree.now)) from prints.old }
+    ensures { OnOk result (IsCurrent (facts_in tree.now) prints.new) }
+{
+    let _count = tree.nodes();
+    let still = still_current(tree, place, from);
+    prints.follow(tree, still)
+}
+
+impl<'b, A: Allocator + Copy> Progress<'b, A> {
+    // Puts the line of an addition, and the concept that is added.
+    pub(crate) fn put_addition<R: Rules>(
+        &mut self,
+        rules: &R,
+        addition: &Addition,
+        resting: RestingLine,
+    ) -> Result<(), NoMemory>
+        requires standing { IsStanding (R.context rules.now) self.old }
+        requires none { IsClashOf (R.context rules.now) (facts_in self.old.entries) None }
+        requires addition { IsAddition (R.context rules.now) (facts_in self.old.entries) (R.files rules.now) addition.now }
+        requires rests { RestsAddition (R.context rules.now) self.old.entries addition.now.node addition.now.concept (line_of resting.line) resting.marks }
+        requires countable { self.old.steps + 1 < 2 ^ 64 }
+        ensures moved { OnOk result (HasMoved (R.context rules.now) self.old self.new) }
+        ensures last { OnOk result (IsLast (R.context rules.now) self.new.entries (Has addition.now.node addition.now.concept)) }
+    {
+        let RestingLine { line, marks } = resting;
+        let place = self.tree.len();
+        let nodes = self.tree.nodes();
+        let shared = marks.try_clone()?;
+        let number = self.trace.put(line, shared)?;
+        let by = By {
+            line: number,
+            marks,
+        };
+        self.tree.add(Fact::Has(addition.node, addition.concept), by)?;
+        blocks_stay();
+        follow(&self.tree, &mut self.prints, place, nodes)?;
+        facts_stay_grounded();
+        self.steps += 1;
+        Ok(())
+    }
+
+    // Finds the plain clash that the last fact has made, if it has made one.
+    pub(crate) fn look<R: Rules>(&mut self, rules: &R, fact: Fact<u32>) -> Result<(), NoMemory>
+        requires standing { IsStanding (R.context rules.now) self.old }
+        requires last { IsLast (R.context rules.now) self.old.entries fact }
+        requires lookable { IsLookable (facts_in self.old.entries) fact }
+        ensures found { OnOk result (IsSearching (R.context rules.now) self.new) }
+        ensures same { OnOk result (self.new ≡ record self.old { clash = self.new.clash }) }
+    {
+        self.clash = find_clash_by(self.heap, &self.tree, &self.prints, rules, fact)?;
+        Ok(())
+    }
+
+    // Puts the line of new nodes, and their facts. Answers the first of them.
+    pub(crate) fn put_new_nodes<R: Rules>(
+        &mut self,
+        rules: &R,
+        new: &NewNodes,
+        resting: RestingLine,
+    ) -> Result<u32, NoMemory>
+        requires standing { IsStanding (R.context rules.now) self.old }
+        requires none { IsClashOf (R.context rules.now) (facts_in self.old.entries) None }
+        requires making { IsMaking (R.context rules.now) (facts_in self.old.entries) new.now }
+        requires rests { RestsNewNodes (R.context rules.now) self.old.entries new.now (line_of resting.line) resting.marks }
+        requires countable { self.old.steps + 1 < 2 ^ 64 }
+        ensures moved { OnOk result (HasMoved (R.context rules.now) self.old self.new) }
+        ensures last { IfOk result (IsLastNew (R.context rules.now) self.new.entries new.now) }
+    {
+        let RestingLine { line, marks } = resting;
+        let place = self.tree.len();
+        let nodes = self.tree.nodes();
+        let shared = marks.try_clone()?;
+        let number = self.trace.put(line, shared)?;
+        let by = By {
+            line: number,
+            marks,
+        };
+        let first = self.tree.fresh(new.parent, new.role, new.filler, new.count, by)?;
+        blocks_stay();
+        follow(&self.tree, &mut self.prints, place, nodes)?;
+        new_nodes_stay_grounded();
+        self.steps += 1;
+        Ok(first)
+    }
+
+    // Finds the plain clash that the last new nodes have made, if they have made one.
+    pub(crate) fn look_at_new_nodes<R: Rules>(
+        &mut self,
+        rules: &R,
+        new: &NewNodes,
+        first: u32,
+    ) -> Result<(), NoMemory>
+        requires standing { IsStanding (R.context rules.now) self.old }
+        requires last { IsLastNew (R.context rules.now) self.old.entries new.now first }
+        requires lookable { IsNewLookable (facts_in self.old.entries) new.now first }
+        ensures found { OnOk result (IsSearching (R.context rules.now) self.new) }
+        ensures same { OnOk result (self.new ≡ record self.old { clash = self.new.clash }) }
+    {
+        self.clash = find_clash_by_new(self.heap, &self.tree, &self.prints, rules, new, first)?;
+        Ok(())
+    }
+
+    // Puts the line of a choice, its mark, and the fact of its first alternative.
+    pub(crate) fn put_choice<R: Rules>(
+        &mut self,
+        rules: &R,
+        choosing: &Choosing,
+        resting: RestingLine,
+        left: u32,
+        fact: Fact<u32>,
+    ) -> Result<(), NoMemory>
+        requires standing { IsStanding (R.context rules.now) self.old }
+        requires none { IsClashOf (R.context rules.now) (facts_in self.old.entries) None }
+        requires choosable { IsChoosable (R.context rules.now) (facts_in self.old.entries) choosing.now }
+        requires rests { RestsChoice (R.context rules.now) self.old.entries (branch_of choosing.now) (line_of resting.line) resting.marks }
+        requires left { left + 1 ≡ alternative_count (R.context rules.now).table (branch_of choosing.now) }
+        requires first { IsAlternative (R.context rules.now).table (branch_of choosing.now) 1 fact }
+        requires fits { IsFit (node_count (facts_in self.old.entries)) fact }
+        requires countable { self.old.steps + 1 < 2 ^ 64 }
+        ensures moved { OnOk result (HasMoved (R.context rules.now) self.old self.new) }
+        ensures last { OnOk result (IsLast (R.context rules.now) self.new.entries fact) }
+    {
+        let RestingLine { line, marks } = resting;
+        let place = self.tree.len();
+        let nodes = self.tree.nodes();
+        let shared = marks.try_clone()?;
+        let mark = self.trace.open(line, shared, left)?;
+        let more = with_mark(self.heap, &marks, mark)?;
+        let branch = choosing.branch();
+        let choice = Choice {
+            line: mark,
+            branch,
+            alternative: 1,
+        };
+        let by = By {
+            line: mark,
+            marks: more,
+        };
+        put_alternative(&mut self.tree, choice, fact, by)?;
+        self.marks.push(place)?;
+        blocks_stay();
+        follow(&self.tree, &mut self.prints, place, nodes)?;
+        facts_stay_grounded();
+        alternatives_speak_of_nodes();
+        self.steps += 1;
+        Ok(())
+    }
+}
+
+// Puts a mark and the fact of its alternative last.
+pub(crate) fn put_alternative<A: Allocator + Copy>(
+    tree: &mut Tree<A>,
+    choice: Choice,
+    fact: Fact<u32>,
+    by: By,
+) -> Result<(), NoMemory>
+    requires { IsFit (node_count (facts_in tree.old)) fact }
+    ensures { OnOk result (tree.new ≡ tree.old ++ Mark choice ∷ Grounded fact by ∷ []) }
+{
+    tree.put_mark(choice)?;
+    tree.add(fact, by)
+}

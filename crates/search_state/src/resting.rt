@@ -1,0 +1,140 @@
+// Rule lines, and the marks that they rest on.
+ghost use Rattle.std.specs.Prelude.{◌≡◌, true, IfOk};
+ghost use Rattle.std.specs.List.{list_all};
+ghost use Rattle.std.specs.FinSet as set;
+ghost use Rattle.fact_specs.specs.State.{is_so};
+ghost use Rattle.refutation_tree.specs.RuleLine.{line_of};
+ghost use Rattle.closing_specs.specs.Grounded.{AreGrounded};
+ghost use Rattle.completion_tree.specs.Trail.{facts_in};
+ghost use Rattle.blocking.specs.Followed.{IsCurrent};
+ghost use Rattle.step_finders.specs.Choosing.{branch_of, IsChoosable};
+ghost use Rattle.step_finders.specs.Clashing.{IsShown};
+ghost use Rattle.step_finders.specs.Making.{IsMaking};
+ghost use Rattle.step_finders.specs.Reasons.{IsAddition};
+ghost use Rattle.concept_closure.specs.Laws.{IsClosedFor};
+ghost use Rattle.step_lines.specs.Serving.{HoldWithin};
+ghost use Rattle.closing_specs.specs.Noted.{within};
+ghost use Rattle.search_state.specs.Marked.{marked_in};
+ghost use Rattle.search_state.specs.Resting.{RestsAddition, RestsNewNodes, RestsChoice, RestsClash};
+
+use crate::NoMemory;
+use blocking::Prints;
+use completion_tree::{Deps, Tree};
+use fact_specs::Fact;
+use refutation_tree::Line;
+use std::alloc::{Allocator, Global};
+use step_finders::{Addition, Choosing, Clash, NewNodes, Rules};
+use step_lines::{line_of_addition, line_of_choice, line_of_clash, line_of_new_nodes};
+use tree_state::TreeState;
+
+/// A rule line, and the marks that it rests on.
+#[derive(Drop)]
+pub(crate) struct RestingLine {
+    pub(crate) line: Line,
+    pub(crate) marks: Deps,
+}
+
+/// Marks such that each of the facts holds by facts alone that rest on no other marks.
+fn marks_of_all<A: Allocator + Copy>(
+    alloc: Global,
+    tree: &Tree<A>,
+    grounds: &[Fact<u32>],
+) -> Result<Deps, NoMemory>
+    requires { list_all (is_so (facts_in tree.now)) grounds.now ≡ true }
+    ensures { IfOk result (λ u. HoldWithin u (marked_in tree.now) grounds.now) }
+{
+    let mut used = Deps::none();
+    for ground in grounds {
+        used = with_marks(alloc, tree, *ground, used)?;
+    }
+    Ok(used)
+}
+
+// The marks, with those of one fact more.
+fn with_marks<A: Allocator + Copy>(
+    alloc: Global,
+    tree: &Tree<A>,
+    ground: Fact<u32>,
+    used: Deps,
+) -> Result<Deps, NoMemory>
+    requires { is_so (facts_in tree.now) ground ≡ true }
+    ensures more { IfOk result (λ u. set.is_subset used u ≡ true) }
+    ensures holds { IfOk result (λ u. is_so (within u (marked_in tree.now)) ground ≡ true) }
+{
+    let marks = tree.marks_of(alloc, ground)?;
+    let all = used.union(alloc, &marks)?;
+    Ok(all)
+}
+
+/// The line of an addition.
+pub(crate) fn rest_addition<A: Allocator + Copy, R: Rules>(
+    alloc: Global,
+    tree: &Tree<A>,
+    prints: &Prints,
+    rules: &R,
+    addition: &Addition,
+) -> Result<RestingLine, NoMemory>
+    requires current { IsCurrent (facts_in tree.now) prints.now }
+    requires grounded { AreGrounded (marked_in tree.now) }
+    requires addition { IsAddition (R.context rules.now) (facts_in tree.now) (R.files rules.now) addition.now }
+    ensures { IfOk result (λ l. RestsAddition (R.context rules.now) tree.now addition.now.node addition.now.concept (line_of l.line) l.marks) }
+{
+    let line = line_of_addition(alloc, &TreeState::new(tree, prints), rules, addition)?;
+    let marks = marks_of_all(alloc, tree, &line.grounds)?;
+    Ok(RestingLine { line: line.line, marks })
+}
+
+/// The line of new nodes.
+pub(crate) fn rest_new_nodes<A: Allocator + Copy, R: Rules>(
+    alloc: Global,
+    tree: &Tree<A>,
+    prints: &Prints,
+    rules: &R,
+    new: &NewNodes,
+) -> Result<RestingLine, NoMemory>
+    requires current { IsCurrent (facts_in tree.now) prints.now }
+    requires grounded { AreGrounded (marked_in tree.now) }
+    requires making { IsMaking (R.context rules.now) (facts_in tree.now) new.now }
+    ensures { IfOk result (λ l. RestsNewNodes (R.context rules.now) tree.now new.now (line_of l.line) l.marks) }
+{
+    let line = line_of_new_nodes(alloc, &TreeState::new(tree, prints), rules, new)?;
+    let marks = marks_of_all(alloc, tree, &line.grounds)?;
+    Ok(RestingLine { line: line.line, marks })
+}
+
+/// The line of a choice.
+pub(crate) fn rest_choice<A: Allocator + Copy, R: Rules>(
+    alloc: Global,
+    tree: &Tree<A>,
+    prints: &Prints,
+    rules: &R,
+    choosing: &Choosing,
+) -> Result<RestingLine, NoMemory>
+    requires current { IsCurrent (facts_in tree.now) prints.now }
+    requires grounded { AreGrounded (marked_in tree.now) }
+    requires choosable { IsChoosable (R.context rules.now) (facts_in tree.now) choosing.now }
+    requires closed { IsClosedFor (R.context rules.now) }
+    ensures { IfOk result (λ l. RestsChoice (R.context rules.now) tree.now (branch_of choosing.now) (line_of l.line) l.marks) }
+{
+    let line = line_of_choice(alloc, &TreeState::new(tree, prints), rules, choosing)?;
+    let marks = marks_of_all(alloc, tree, &line.grounds)?;
+    Ok(RestingLine { line: line.line, marks })
+}
+
+/// The line of a clash.
+pub(crate) fn rest_clash<A: Allocator + Copy, R: Rules>(
+    alloc: Global,
+    tree: &Tree<A>,
+    prints: &Prints,
+    rules: &R,
+    clash: &Clash,
+) -> Result<RestingLine, NoMemory>
+    requires current { IsCurrent (facts_in tree.now) prints.now }
+    requires grounded { AreGrounded (marked_in tree.now) }
+    requires shown { IsShown (R.context rules.now) (facts_in tree.now) clash.now }
+    ensures { IfOk result (λ l. RestsClash (R.context rules.now) tree.now (line_of l.line) l.marks) }
+{
+    let line = line_of_clash(alloc, &TreeState::new(tree, prints), rules, clash)?;
+    let marks = marks_of_all(alloc, tree, &line.grounds)?;
+    Ok(RestingLine { line: line.line, marks })
+}

@@ -1,0 +1,15 @@
+use Rattle.std.proofs.Common.{◌≡◌, false, not, subst, ap, ◌∙◌}
+use Rattle.tableau.specs.SearchState.{SearchState}
+use Rattle.tableau.specs.Steps.{IsEvent}
+use Rattle.tableau.proofs.Kept.{state, event_is}
+use Rattle.tableau.proofs.search.Search.step.Goals as goal
+
+pub returns-clause-event : goal.returns-clause-event
+returns-clause-event g c =
+    let i = c.self.inside in
+    let whole : i.failed ≡ false = ap (λ (s : SearchState). s.failed) c.self.view_is ∙ c.requires.whole in
+    let goes : i.ended ≡ false = ap (λ (s : SearchState). s.ended) c.self.view_is ∙ c.requires.goes_on in
+    let p = c.advance.new.progress in
+    let e = c.in_ok-event.event in
+    subst (λ (s : SearchState). IsEvent s (state i.rules.now i.query.now i.sub i.not_sup p c.steps-self-inside.result (not c.goes_on.result) false) e) c.self.view_is
+    (event_is i.rules.now i.query.now i.sub i.not_sup i.progress p i.steps c.steps-self-inside.result i.ended i.failed c.self.invariant whole goes e c.in_ok-event.ensures c.steps-self-inside.ensures c.goes_on.result c.goes_on.ensures)

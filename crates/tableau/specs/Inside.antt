@@ -1,0 +1,92 @@
+-- What a search keeps, and what one call on its progress comes to.
+use Rattle.std.specs.Prelude.{◌≡◌, ℕ, ◌+◌, Bool, true, false, List, [], ◌∷◌, length, Some, All}
+use Rattle.ontology_limits.specs.Limits.{IsInLimit}
+use Rattle.refutation_tree.specs.RefutationLists.{RefutationLists}
+use Rattle.tableau_specs.specs.declared.Item.{Item}
+use Rattle.tableau_specs.specs.Steps.{IsLegal, IsSaturated, HasClash}
+use Rattle.completion_tree.specs.Trail.{items_of}
+use Rattle.closing_specs.specs.Leaves.{leaves}
+use Rattle.closing_specs.specs.Noted.{noted_start}
+use Rattle.closing_specs.specs.Back.{step_of}
+use Rattle.search_rules.specs.RuleLists.{RuleLists, context_in, theory_in}
+use Rattle.search_state.specs.Progress.{ProgressLists, IsAsked, IsFitLine, IsSearching, HasMoved}
+use Rattle.search_state.specs.Stepping.{HasNext}
+use Rattle.tableau.specs.SearchState.{SearchState, context_of, trail_of, IsReachedBy}
+use Rattle.tableau.specs.Steps.{Refutes, Runs, Stays, IsAtModel, IsAtRefutation}
+use Rattle.tableau.specs.declared.search.Event.{Event}
+use Rattle.tableau.specs.declared.search.Event.TheVariants.{Moved, Saturated, Closed}
+use Rattle.tableau.specs.declared.search.End.{End}
+use Rattle.tableau.specs.declared.search.End.TheVariants.{Saturated as RunSaturated, Closed as RunClosed, Spent}
+
+-- ---- what is kept
+
+-- the progress is that of the search
+pub record IsProgressOf (s : SearchState) (p : ProgressLists) : Type 0 where
+  pub query : p.query ≡ s.query
+  pub sub : p.sub ≡ s.sub
+  pub not_sup : p.not_sup ≡ s.not_sup
+  pub steps : p.steps ≡ s.steps
+
+-- the ontology and the query are within the limits, the set is one of the ontology's axioms, and unless memory was refused
+-- the trail is reached, and can go on until the search has ended
+pub record IsKept (s : SearchState) (p : ProgressLists) : Type 0 where
+  pub in_limit : IsInLimit s.rules.ontology s.query
+  pub set : s.rules.set.limit ≡ length s.rules.ontology.axioms
+  pub reached : s.failed ≡ false → IsReachedBy s
+  pub progress : s.failed ≡ false → s.ended ≡ false → IsProgressOf s p
+  pub searching : s.failed ≡ false → s.ended ≡ false → IsSearching (context_of s) p
+
+-- ---- closing
+
+-- the lines of the trace close everything
+pub record IsClosing (rules : RuleLists) (p : ProgressLists) : Type 0 where
+  pub in_limit : IsInLimit rules.ontology p.query
+  pub set : rules.set.limit ≡ length rules.ontology.axioms
+  pub asked : IsAsked (context_in rules) p.query p.sub p.not_sup
+  pub closes : leaves (step_of (theory_in rules) rules.table) (noted_start p.query.sub p.query.sup ∷ []) p.trace.lines ≡ Some []
+  pub fit : All (IsFitLine (context_in rules) p.sub p.not_sup) p.trace.lines
+
+-- the trail stays, it has a clash, and the refutation is one of the query
+pub record HasClosed (rules : RuleLists) (r : RefutationLists) (old new : ProgressLists) : Type 0 where
+  pub entries : new.entries ≡ old.entries
+  pub prints : new.prints ≡ old.prints
+  pub steps : new.steps ≡ old.steps
+  pub has_clash : HasClash (context_in rules) (items_of new.entries)
+  pub refutes : Refutes rules old.query r
+
+-- ---- one call
+
+abbrev pub IsAdvanced : RuleLists → ProgressLists → ProgressLists → Event → Type 0
+IsAdvanced rules old new Moved = HasMoved (context_in rules) old new × IsSearching (context_in rules) new
+IsAdvanced rules old new Saturated = (new ≡ old) × IsSaturated (context_in rules) (items_of new.entries)
+IsAdvanced rules old new (Closed r) = HasClosed rules r old new
+
+abbrev pub IsSettled : RuleLists → ProgressLists → ProgressLists → End → Type 0
+IsSettled rules old new Spent = (new ≡ old) × HasNext (context_in rules) new
+IsSettled rules old new RunSaturated = (new ≡ old) × IsSaturated (context_in rules) (items_of new.entries)
+IsSettled rules old new (RunClosed r) = HasClosed rules r old new
+
+-- whether the search goes on
+abbrev pub goes_on : Event → Bool
+goes_on Moved = true
+goes_on Saturated = false
+goes_on (Closed r) = false
+
+abbrev pub is_spent : End → Bool
+is_spent Spent = true
+is_spent RunSaturated = false
+is_spent (RunClosed r) = false
+
+-- ---- several steps
+
+-- as many steps are made as were allowed, or the search has ended
+abbrev pub IsWalked : ℕ → SearchState → SearchState → Event → Type 0
+IsWalked fuel old new Moved = Runs old new × (new.steps ≡ old.steps + fuel) × (new.ended ≡ false)
+IsWalked fuel old new Saturated = Runs old new × IsAtModel new
+IsWalked fuel old new (Closed r) = Runs old new × IsAtRefutation r new
+
+-- no step is made, and the search ends where there is none
+abbrev pub IsHalted : SearchState → SearchState → End → Type 0
+IsHalted old new Spent = Stays old new × (new.ended ≡ false) × (next : List Item) × IsLegal (context_of new) (trail_of new) next
+IsHalted old new RunSaturated = Stays old new × IsAtModel new
+IsHalted old new (RunClosed r) = Stays old new × IsAtRefutation r new

@@ -1,0 +1,3 @@
+pub mod SearchState
+pub mod Steps
+pub mod Inside

@@ -1,0 +1,52 @@
+-- What is seen of a search.
+use Rattle.std.specs.Prelude.{◌≡◌, ℕ, Bool, false, List}
+use Rattle.shq_terms.specs.declared.axioms.Query.{Query}
+use Rattle.tableau_specs.specs.declared.Item.{Item}
+use Rattle.tableau_specs.specs.Steps.{SearchContext}
+use Rattle.tableau_specs.specs.Reached.{start, IsReached}
+use Rattle.completion_tree.specs.declared.tree.Entry.{Entry}
+use Rattle.completion_tree.specs.Trail.{items_of}
+use Rattle.blocking.specs.Followed.{Printed}
+use Rattle.search_rules.specs.RuleLists.{RuleLists, context_in}
+
+-- the rules and the query, the numbers of what the query asks, the entries of the trail, what is known of blocked nodes, how many
+-- steps were made, whether the search has ended, and whether memory was refused: then nothing more is known of it
+pub record SearchState : Type 0 where
+  pub rules : RuleLists
+  pub query : Query
+  pub sub : ℕ
+  pub not_sup : ℕ
+  pub entries : List Entry
+  pub prints : Printed
+  pub steps : ℕ
+  pub ended : Bool
+  pub failed : Bool
+
+-- what its steps read
+abbrev pub context_of : SearchState → SearchContext
+context_of s = context_in s.rules
+
+abbrev pub trail_of : SearchState → List Item
+trail_of s = items_of s.entries
+
+-- its trail is reached by as many legal steps
+abbrev pub IsReachedBy : SearchState → Type 0
+IsReachedBy s = IsReached (context_of s).theory s.query.sub s.query.sup s.rules.table (context_of s).rows s.steps (trail_of s)
+
+-- a search that begins
+pub record HasBegun (rules : RuleLists) (query : Query) (sub not_sup : ℕ) (s : SearchState) : Type 0 where
+  pub rules_are : s.rules ≡ rules
+  pub query_is : s.query ≡ query
+  pub sub_is : s.sub ≡ sub
+  pub not_sup_is : s.not_sup ≡ not_sup
+  pub trail_is : trail_of s ≡ start sub not_sup
+  pub no_steps : s.steps ≡ 0
+  pub goes_on : s.ended ≡ false
+  pub whole : s.failed ≡ false
+
+-- the same rules, query and numbers
+pub record IsSameSearch (old new : SearchState) : Type 0 where
+  pub rules : new.rules ≡ old.rules
+  pub query : new.query ≡ old.query
+  pub sub : new.sub ≡ old.sub
+  pub not_sup : new.not_sup ≡ old.not_sup

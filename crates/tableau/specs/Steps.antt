@@ -1,0 +1,81 @@
+-- What a search does.
+use Rattle.std.specs.Prelude.{◌≡◌, ℕ, ◌+◌, true, false, List, length}
+use Rattle.shq_terms.specs.declared.axioms.Query.{Query}
+use Rattle.lane_sieve.specs.Sets.{IsPart}
+use Rattle.axiom_sets.specs.Sets.{member_list}
+use Rattle.refutation_specs.specs.Valid.{IsRefutation}
+use Rattle.refutation_tree.specs.RefutationLists.{RefutationLists}
+use Rattle.refutation_tree.specs.ReadBack.{IsWritable}
+use Rattle.refutation_truth.specs.Theory.{theory_of}
+use Rattle.tableau_specs.specs.declared.Item.{Item}
+use Rattle.tableau_specs.specs.Steps.{IsLegal, IsSaturated, HasClash}
+use Rattle.tableau_specs.specs.Reached.{Follows}
+use Rattle.completion_tree.specs.Trail.{facts_in}
+use Rattle.blocking.specs.Followed.{IsCurrent}
+use Rattle.search_rules.specs.RuleLists.{RuleLists}
+use Rattle.tableau.specs.declared.search.Event.{Event}
+use Rattle.tableau.specs.declared.search.Event.TheVariants.{Moved, Saturated, Closed}
+use Rattle.tableau.specs.declared.search.End.{End}
+use Rattle.tableau.specs.declared.search.End.TheVariants.{Saturated as RunSaturated, Closed as RunClosed, Spent}
+use Rattle.tableau.specs.SearchState.{SearchState, context_of, trail_of}
+
+-- ---- refutations
+
+-- it is a valid refutation of the query over axioms of the set, which can be written
+pub record Refutes (rules : RuleLists) (query : Query) (r : RefutationLists) : Type 0 where
+  pub limit : r.axioms.limit ≡ length rules.ontology.axioms
+  pub named : IsPart r.axioms.members rules.set.members
+  pub refutes : IsRefutation (theory_of rules.ontology.axioms (member_list r.axioms)) query.sub query.sup r.shapes r.lines
+  pub writable : IsWritable rules.ontology r
+
+-- ---- where a search ends
+
+-- its trail is saturated, and the blocks are those of the trail
+pub record IsAtModel (s : SearchState) : Type 0 where
+  pub is_saturated : IsSaturated (context_of s) (trail_of s)
+  pub is_current : IsCurrent (facts_in s.entries) s.prints
+  pub ended : s.ended ≡ true
+
+-- its trail has a clash, and the refutation is one of its query
+pub record IsAtRefutation (r : RefutationLists) (s : SearchState) : Type 0 where
+  pub has_clash : HasClash (context_of s) (trail_of s)
+  pub refutes : Refutes s.rules s.query r
+  pub ended : s.ended ≡ true
+
+-- ---- one step
+
+-- the search makes one legal step, and goes on
+pub record Moves (old new : SearchState) : Type 0 where
+  pub is_legal : IsLegal (context_of old) (trail_of old) (trail_of new)
+  pub counted : new.steps ≡ old.steps + 1
+  pub goes_on : new.ended ≡ false
+
+-- it makes none
+pub record Stays (old new : SearchState) : Type 0 where
+  pub entries : new.entries ≡ old.entries
+  pub steps : new.steps ≡ old.steps
+
+abbrev pub IsEvent : SearchState → SearchState → Event → Type 0
+IsEvent old new Moved = Moves old new
+IsEvent old new Saturated = Stays old new × IsAtModel new
+IsEvent old new (Closed r) = Stays old new × IsAtRefutation r new
+
+-- ---- a run
+
+-- the search makes legal steps, and their number is counted
+pub record Runs (old new : SearchState) : Type 0 where
+  pub count : ℕ
+  pub follows : Follows (context_of old) (trail_of old) count (trail_of new)
+  pub counted : new.steps ≡ old.steps + count
+
+-- as many steps as were allowed are made, and one more is legal
+pub record IsSpent (fuel : ℕ) (old new : SearchState) : Type 0 where
+  pub counted : new.steps ≡ old.steps + fuel
+  pub goes_on : new.ended ≡ false
+  pub next : List Item
+  pub is_legal : IsLegal (context_of new) (trail_of new) next
+
+abbrev pub IsEnd : ℕ → SearchState → SearchState → End → Type 0
+IsEnd fuel old new RunSaturated = Runs old new × IsAtModel new
+IsEnd fuel old new (RunClosed r) = Runs old new × IsAtRefutation r new
+IsEnd fuel old new Spent = Runs old new × IsSpent fuel old new

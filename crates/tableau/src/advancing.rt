@@ -1,0 +1,50 @@
+// One call on the progress of a search.
+ghost use Rattle.std.specs.Prelude.{◌≡◌, ◌+◌, ◌<◌, ◌^◌, IfOk, length};
+ghost use Rattle.ontology_limits.specs.Limits.{IsInLimit};
+ghost use Rattle.search_rules.specs.RuleLists.{context_in};
+ghost use Rattle.search_state.specs.Progress.{IsSearching};
+ghost use Rattle.tableau.specs.Inside.{IsAdvanced, IsSettled};
+
+use crate::NoMemory;
+use crate::closing::refutation;
+use crate::search::{End, Event};
+use search_rules::SearchRules;
+use search_state::{Progress, Rested, Stepped};
+use std::alloc::{Allocator, Global};
+
+/// Makes the next step, if there is one.
+pub(crate) fn advance<A: Allocator + Copy>(
+    heap: Global,
+    progress: &mut Progress<'_, A>,
+    rules: &SearchRules<'_>,
+) -> Result<Event, NoMemory>
+    requires in_limit { IsInLimit rules.now.ontology progress.old.query }
+    requires set { rules.now.set.limit ≡ length rules.now.ontology.axioms }
+    requires searching { IsSearching (context_in rules.now) progress.old }
+    requires countable { progress.old.steps + 1 < 2 ^ 64 }
+    ensures { IfOk result (IsAdvanced rules.now progress.old progress.new) }
+{
+    match progress.step(rules)? {
+        Stepped::Moved => Ok(Event::Moved),
+        Stepped::Saturated => Ok(Event::Saturated),
+        Stepped::Closed => Ok(Event::Closed(refutation(heap, progress, rules)?)),
+    }
+}
+
+/// Looks whether there is a step, and makes none.
+pub(crate) fn settle<A: Allocator + Copy>(
+    heap: Global,
+    progress: &mut Progress<'_, A>,
+    rules: &SearchRules<'_>,
+) -> Result<End, NoMemory>
+    requires in_limit { IsInLimit rules.now.ontology progress.old.query }
+    requires set { rules.now.set.limit ≡ length rules.now.ontology.axioms }
+    requires searching { IsSearching (context_in rules.now) progress.old }
+    ensures { IfOk result (IsSettled rules.now progress.old progress.new) }
+{
+    match progress.rest(rules)? {
+        Rested::CanMove => Ok(End::Spent),
+        Rested::Saturated => Ok(End::Saturated),
+        Rested::Closed => Ok(End::Closed(refutation(heap, progress, rules)?)),
+    }
+}

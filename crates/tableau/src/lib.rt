@@ -1,0 +1,10 @@
+//! A search whether a query follows from a set of axioms.
+#![tactic(auto)]
+
+mod advancing;
+mod closing;
+mod search;
+
+pub use refutation_tree::Refutation;
+pub use search::{End, Event, Search};
+pub use shq_base::NoMemory;

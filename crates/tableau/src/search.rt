@@ -1,0 +1,264 @@
+// The search.
+ghost use Rattle.std.specs.Prelude.{◌≡◌, ◌+◌, ◌<◌, ◌≤◌, ◌^◌, true, false, IfOk, OnOk, OnErr, length};
+ghost use Rattle.ontology_limits.specs.Limits.{IsInLimit};
+ghost use Rattle.search_rules.specs.RuleLists.{AreNumbersOf};
+ghost use Rattle.tableau.specs.SearchState.{IsReachedBy, HasBegun, IsSameSearch};
+ghost use Rattle.tableau.specs.Steps.{IsEvent, IsEnd};
+ghost use Rattle.tableau.specs.Inside.{goes_on as event_goes_on, is_spent, IsHalted, IsWalked};
+
+use crate::advancing::{advance, settle};
+use crate::{NoMemory, Refutation};
+use blocking::Prints;
+use completion_tree::Tree;
+use search_rules::SearchRules;
+use search_state::Progress;
+use shq_terms::Query;
+use std::alloc::{Allocator, Global};
+use std::marker::Model;
+use step_finders::Rules;
+
+/// What one call of [`Search::step`] did.
+#[derive(Drop)]
+pub enum Event {
+    /// One step.
+    Moved,
+    /// None: the trail is saturated, and describes a counter-model.
+    Saturated,
+    /// None: each way is closed, and this refutation shows it.
+    Closed(Refutation),
+}
+
+/// How a call of [`Search::run`] ended.
+#[derive(Drop)]
+pub enum End {
+    /// The trail is saturated, and describes a counter-model.
+    Saturated,
+    /// Each way is closed, and this refutation shows it.
+    Closed(Refutation),
+    /// As many steps as were allowed were made, and one more could be.
+    Spent,
+}
+
+/// A search whether a query follows from the axioms of a set.
+#[derive(Drop)]
+pub struct Search<'b, A: Allocator> {
+    heap: Global,
+    rules: &'b SearchRules<'b>,
+    query: &'b Query,
+    sub: u32,
+    not_sup: u32,
+    progress: Progress<'b, A>,
+    steps: u64,
+    ended: bool,
+    failed: bool,
+}
+
+impl<'b, A: Allocator> Model for Search<'b, A> {
+    ghost use Rattle.std.specs.Coded.{codes};
+    ghost use Rattle.shq_base.specs.Code.{concept_code};
+    ghost use Rattle.axiom_sets.specs.Sets.{limited_code};
+    ghost use Rattle.dependency_sets.specs.contracts.deps.Deps as deps;
+    ghost use Rattle.search_trace.specs.contracts.trace.Trace as traces;
+    ghost use Rattle.tableau.specs.SearchState.{SearchState};
+
+    ghost Value = { SearchState };
+
+    ghost coded = { Prim.hlevel (codes, concept_code, limited_code, deps.the_row.coded, traces.the_row.coded) };
+
+    ghost view = { λ s. record {
+      rules = s.rules.now;
+      query = s.query.now;
+      sub = s.sub;
+      not_sup = s.not_sup;
+      entries = s.progress.entries;
+      prints = s.progress.prints;
+      steps = s.steps;
+      ended = s.ended;
+      failed = s.failed;
+    } };
+
+    ghost use Rattle.tableau.specs.Inside.{IsKept};
+
+    ghost invariant = { λ s. IsKept (record {
+      rules = s.rules.now;
+      query = s.query.now;
+      sub = s.sub;
+      not_sup = s.not_sup;
+      entries = s.progress.entries;
+      prints = s.progress.prints;
+      steps = s.steps;
+      ended = s.ended;
+      failed = s.failed;
+    }) s.progress };
+}
+
+impl<'b, A: Allocator + Copy> Search<'b, A> {
+    /// A search that begins, whose tree is in `alloc`, and all else in `heap`. The numbers are those that
+    /// [`SearchRules::numbers_of`] gives for the query, and the limit of the rules' set is the count of the ontology's axioms.
+    ///
+    /// # Errors
+    ///
+    /// Out of memory.
+    pub fn new_in(
+        alloc: A,
+        heap: Global,
+        rules: &'b SearchRules<'b>,
+        query: &'b Query,
+        sub: u32,
+        not_sup: u32,
+    ) -> Result<Search<'b, A>, NoMemory>
+        requires numbers { AreNumbersOf rules.now query.now sub not_sup }
+        requires set { rules.now.set.limit ≡ length rules.now.ontology.axioms }
+        requires in_limit { IsInLimit rules.now.ontology query.now }
+        ensures { IfOk result (HasBegun rules.entry.now query.entry.now sub not_sup) }
+    {
+        rules.is_ready();
+        let _ = rules.concepts();
+        let progress = Progress::new_in(alloc, heap, rules, query, sub, not_sup)?;
+        Ok(Search {
+            heap,
+            rules,
+            query,
+            sub,
+            not_sup,
+            progress,
+            steps: 0,
+            ended: false,
+            failed: false,
+        })
+    }
+
+    /// Makes the next step, if there is one.
+    ///
+    /// # Errors
+    ///
+    /// Out of memory. The search has failed, and serves no more.
+    pub fn step(&mut self) -> Result<Event, NoMemory>
+        requires goes_on { self.old.ended ≡ false }
+        requires whole { self.old.failed ≡ false }
+        requires countable { self.old.steps + 1 < 2 ^ 64 }
+        ensures same { IsSameSearch self.old self.new }
+        ensures event { IfOk result (IsEvent self.old self.new) }
+        ensures whole { OnOk result (self.new.failed ≡ false) }
+        ensures failed { OnErr result (self.new.failed ≡ true) }
+        ensures kept { OnErr result (self.new.steps ≡ self.old.steps) }
+    {
+        self.failed = true;
+        let event = advance(self.heap, &mut self.progress, self.rules)?;
+        self.steps = self.progress.steps();
+        self.ended = !goes_on(&event);
+        self.failed = false;
+        Ok(event)
+    }
+
+    /// Makes steps until the search ends or so many are made.
+    ///
+    /// # Errors
+    ///
+    /// Out of memory. The search has failed, and serves no more.
+    pub fn run(&mut self, fuel: u64) -> Result<End, NoMemory>
+        requires goes_on { self.old.ended ≡ false }
+        requires whole { self.old.failed ≡ false }
+        requires countable { self.old.steps + fuel < 2 ^ 64 }
+        ensures same { IsSameSearch self.old self.new }
+        ensures rises { self.old.steps ≤ self.new.steps }
+        ensures within { self.new.steps ≤ self.old.steps + fuel }
+        ensures end { IfOk result (IsEnd fuel self.old self.new) }
+        ensures whole { OnOk result (self.new.failed ≡ false) }
+        ensures failed { OnErr result (self.new.failed ≡ true) }
+    {
+        match self.walk(fuel)? {
+            Event::Moved => self.settle(),
+            Event::Saturated => Ok(End::Saturated),
+            Event::Closed(refutation) => Ok(End::Closed(refutation)),
+        }
+    }
+
+    // Makes steps until one is not made, or so many are.
+    fn walk(&mut self, fuel: u64) -> Result<Event, NoMemory>
+        requires goes_on { self.old.ended ≡ false }
+        requires whole { self.old.failed ≡ false }
+        requires countable { self.old.steps + fuel < 2 ^ 64 }
+        ensures same { IsSameSearch self.old self.new }
+        ensures rises { self.old.steps ≤ self.new.steps }
+        ensures within { self.new.steps ≤ self.old.steps + fuel }
+        ensures walked { IfOk result (IsWalked fuel self.old self.new) }
+        ensures whole { OnOk result (self.new.failed ≡ false) }
+        ensures failed { OnErr result (self.new.failed ≡ true) }
+    {
+        for _made in 0..fuel {
+            match self.step()? {
+                Event::Moved => {}
+                Event::Saturated => return Ok(Event::Saturated),
+                Event::Closed(refutation) => return Ok(Event::Closed(refutation)),
+            }
+        }
+        Ok(Event::Moved)
+    }
+
+    // Ends where no step is left, once the fuel is spent.
+    fn settle(&mut self) -> Result<End, NoMemory>
+        requires goes_on { self.old.ended ≡ false }
+        requires whole { self.old.failed ≡ false }
+        ensures same { IsSameSearch self.old self.new }
+        ensures steps { self.new.steps ≡ self.old.steps }
+        ensures halted { IfOk result (IsHalted self.old self.new) }
+        ensures whole { OnOk result (self.new.failed ≡ false) }
+        ensures failed { OnErr result (self.new.failed ≡ true) }
+    {
+        self.failed = true;
+        let end = settle(self.heap, &mut self.progress, self.rules)?;
+        self.ended = !is_spent(&end);
+        self.failed = false;
+        Ok(end)
+    }
+
+    /// How many steps were made.
+    pub fn steps(&self) -> u64
+        ensures count { result ≡ self.now.steps }
+        ensures reached { self.now.failed ≡ false → IsReachedBy self.now }
+    {
+        self.steps
+    }
+
+    /// Whether the search has ended.
+    pub fn ended(&self) -> bool
+        ensures { result ≡ self.now.ended }
+    {
+        self.ended
+    }
+
+    /// The tree, whose trail is reached by as many legal steps as were made, unless memory was refused.
+    pub fn tree(&self) -> &Tree<A>
+        ensures { result.now ≡ self.now.entries }
+    {
+        self.progress.tree()
+    }
+
+    /// The blocks of the tree, as far as they were found.
+    pub fn prints(&self) -> &Prints
+        ensures { result.now ≡ self.now.prints }
+    {
+        self.progress.prints()
+    }
+
+    /// The rules of the search.
+    pub fn rules(&self) -> &SearchRules<'b>
+        ensures { result.now ≡ self.now.rules }
+    {
+        self.rules
+    }
+}
+
+// Whether the search goes on.
+fn goes_on(event: &Event) -> bool
+    ensures { result ≡ event_goes_on event.now }
+{
+    matches!(event, Event::Moved)
+}
+
+fn is_spent(end: &End) -> bool
+    ensures { result ≡ is_spent end.now }
+{
+    matches!(end, End::Spent)
+}
