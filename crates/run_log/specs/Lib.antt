@@ -1,0 +1,9 @@
+pub mod Trails
+pub mod Entries
+pub mod HonestLog
+pub mod Shown
+pub mod Laws
+pub mod LogExamples
+pub mod PinpointingExamples
+pub mod TestExamples
+pub mod ShownExamples

@@ -1,0 +1,84 @@
+// The log of a run.
+ghost use Rattle.std.specs.Prelude.{◌≡◌, ◌+◌, ◌^◌, ◌<◌, [], ◌∷◌, ◌++◌, OnOk, OnErr};
+ghost use Rattle.run_log.specs.Entries.{cost_of, spent_of};
+
+use crate::{Entry, NoMemory};
+use std::alloc::Global;
+use std::marker::Model;
+
+/// The tests and nodes of a run, in their order, which contracts see as the list of them.
+#[derive(Drop)]
+pub struct RunLog {
+    entries: Vec<Entry>,
+    spent: u64,
+}
+
+impl Model for RunLog {
+    ghost use Rattle.std.specs.Prelude.{List, ◌≡◌};
+    ghost use Rattle.std.specs.Coded.{codes};
+    ghost use Rattle.shq_base.specs.Code.{concept_code};
+    ghost use Rattle.axiom_sets.specs.Sets.{limited_code};
+    ghost use Rattle.run_log.specs.declared.entry.Entry.{Entry as PlainEntry};
+    ghost use Rattle.run_log.specs.Entries.{spent_of};
+
+    ghost Value = { List PlainEntry };
+
+    ghost coded = { Prim.hlevel (codes, concept_code, limited_code) };
+
+    ghost view = { λ l. l.entries.items };
+
+    ghost invariant = { λ l. l.spent ≡ spent_of l.entries.items };
+}
+
+impl RunLog {
+    /// No entries.
+    pub fn new(alloc: Global) -> RunLog
+        ensures { result ≡ [] }
+    {
+        RunLog {
+            entries: Vec::new(alloc),
+            spent: 0,
+        }
+    }
+
+    /// All entries, in order.
+    pub fn entries(&self) -> &[Entry]
+        ensures { result.now ≡ self.now }
+    {
+        &self.entries
+    }
+
+    /// What was spent: the sum of all steps, and one for each node.
+    pub fn spent(&self) -> u64
+        ensures { result ≡ spent_of self.now }
+    {
+        self.spent
+    }
+
+    /// Puts an entry last. What is spent with it fits 64 bits.
+    ///
+    /// # Errors
+    /// Memory may be refused; nothing has changed then.
+    pub fn push(&mut self, entry: Entry) -> Result<(), NoMemory>
+        requires { spent_of self.old + cost_of entry < 2 ^ 64 }
+        ensures pushed { OnOk result (self.new ≡ self.old ++ entry ∷ []) }
+        ensures unchanged { OnErr result (self.new ≡ self.old) }
+    {
+        let cost = entry.cost();
+        self.entries.push(entry)?;
+        self.spent += cost;
+        Ok(())
+    }
+}
+
+impl Entry {
+    /// What the entry takes of the budget: its steps, or one for a node.
+    pub fn cost(&self) -> u64
+        ensures { result ≡ cost_of self.now }
+    {
+        match self {
+            Entry::Test(_, _, steps, _) => *steps,
+            Entry::Node(_) => 1,
+        }
+    }
+}

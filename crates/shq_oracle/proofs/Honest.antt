@@ -1,0 +1,108 @@
+-- What a search that ends says is honest.
+use Rattle.std.proofs.Common.{◌≡◌, ℕ, zero, suc, ◌+◌, ◌≤◌, List, [], ◌∷◌, ◌++◌, take, Some, ap, sym, subst, ◌∙◌, arith, inl, inr}
+use Rattle.std.specs.Prelude.{slice_get, Result, Ok, Err, IfOk}
+use Rattle.shq_base.specs.declared.memory.NoMemory.{NoMemory}
+use Rattle.axiom_sets.specs.Sets.{Limited, member_list}
+use Rattle.shq_terms.specs.declared.axioms.Query.{Query}
+use Rattle.ontology_limits.specs.Limits.{IsInLimit}
+use Rattle.refutation_truth.proofs.Entailed.{entailed}
+use Rattle.refutation_tree.specs.RefutationLists.{RefutationLists}
+use Rattle.counter_models.proofs.Laws.{saturated_does_not_entail}
+use Rattle.tableau.specs.SearchState.{SearchState, context_of, trail_of, IsReachedBy}
+use Rattle.tableau.specs.declared.search.End.{End}
+use Rattle.tableau.specs.declared.search.End.TheVariants.{Saturated, Closed, Spent as OutOfFuel}
+use Rattle.tableau.specs.Steps.{IsAtModel, IsAtRefutation, IsEnd}
+use Rattle.run_log.specs.Trails.{TrailLists}
+use Rattle.run_log.specs.HonestLog.{IsAxiomSet, FollowsIn, IsHonestYes, IsHonestNo, GoesOn}
+use Rattle.run_log.proofs.Named.{more}
+use Rattle.run_log.specs.declared.entry.TestEnd.TheVariants as E
+use Rattle.search_rules.specs.RuleLists.{RuleLists}
+use Rattle.shq_oracle.specs.declared.answer.Answer.TheVariants.{Refuted, Spent}
+use Rattle.shq_oracle.specs.declared.found.Found.{Found}
+use Rattle.shq_oracle.specs.Decided.{IsProof, IsFound, IsFoundBy, MayGoOn, HasEnded}
+
+-- one item more
+pub taken_one : {X : Type 0} (xs : List X) (n : ℕ) (x : X) → slice_get xs n ≡ Some x → take (n + 1) xs ≡ take n xs ++ x ∷ []
+taken_one [] n x e = cc
+taken_one (y ∷ ys) zero x e = let k : y ≡ x = cc in ap (λ z. z ∷ []) k
+taken_one (y ∷ ys) (suc n) x e = let k : suc n + 1 ≡ suc (n + 1) = omega arith in ap (λ m. take m (y ∷ ys)) k ∙ ap (λ zs. y ∷ zs) (taken_one ys n x e)
+
+module _ (s : SearchState) (reached : IsReachedBy s) where
+  -- a saturated search found that the query does not follow
+  pub honest_no : IsInLimit s.rules.ontology s.query → IsAtModel s → IsHonestNo s.rules.ontology s.rules.set s.query s.steps
+  honest_no limit m = record {
+    follows_not = saturated_does_not_entail s.rules.ontology (member_list s.rules.set) s.query s.rules.table (context_of s).rows s.steps (trail_of s) limit reached m.is_saturated;
+    cost = record { table = s.rules.table; rows = (context_of s).rows; trail = trail_of s; reached = reached; ends = inl m.is_saturated };
+  }
+
+  -- a closed search found that it does, by the axioms that the refutation names
+  pub honest_yes : (r : RefutationLists) → IsAxiomSet s.rules.ontology s.rules.set → IsAtRefutation r s → IsHonestYes s.rules.ontology s.rules.set s.query s.steps r.axioms
+  honest_yes r is_set c =
+      let named : IsAxiomSet s.rules.ontology r.axioms = record { limit_is = c.refutes.limit; within = c.refutes.writable.within } in
+      let follows : FollowsIn s.rules.ontology r.axioms s.query = entailed s.rules.ontology.axioms (member_list r.axioms) s.query.sub s.query.sup r.shapes r.lines c.refutes.refutes in
+      record {
+        of_axioms = named;
+        part = c.refutes.named;
+        follows = follows;
+        cost = record {
+          table = s.rules.table;
+          rows = (context_of s).rows;
+          trail = trail_of s;
+          reached = reached;
+          ends = inr (c.has_clash, more s.rules.ontology r.axioms s.rules.set s.query named is_set c.refutes.named follows);
+        };
+      }
+
+  pub is_proof : (r : RefutationLists) → IsAtRefutation r s → IsProof s.rules.ontology s.rules.set s.query r
+  is_proof r c = record { named = c.refutes.named; refutes = c.refutes.refutes; writable = c.refutes.writable }
+
+  -- a search that went on until its fuel was spent has one more step
+  pub honest_spent : MayGoOn s → GoesOn s.rules.ontology s.rules.set s.query s.steps (record { items = trail_of s; table = s.rules.table })
+  honest_spent h = record { rows = (context_of s).rows; reached = reached; next = h.0; is_legal = h.1 }
+
+  pub found_yes : (r : RefutationLists) → IsAxiomSet s.rules.ontology s.rules.set → IsAtRefutation r s → (u : Limited) → u ≡ r.axioms → (k : ℕ) → k ≡ s.steps
+      → (fuel : ℕ) → s.steps ≤ fuel → IsFoundBy s fuel (record { answer = Refuted r; steps = k; ended = E.Yes u })
+  found_yes r is_set c u e k f fuel le =
+      let honest : IsHonestYes s.rules.ontology s.rules.set s.query k r.axioms = subst (λ (n : ℕ). IsHonestYes s.rules.ontology s.rules.set s.query n r.axioms) (sym f) (honest_yes r is_set c) in
+      record {
+        answer = is_proof r c;
+        matches = e;
+        honest = subst (λ (v : Limited). IsHonestYes s.rules.ontology s.rules.set s.query k v) (sym e) honest;
+        fueled = omega (arith, f, le);
+      }
+
+  pub found_spent : MayGoOn s → (t : TrailLists) → t ≡ record { items = trail_of s; table = s.rules.table } → (k : ℕ) → k ≡ s.steps
+      → (fuel : ℕ) → s.steps ≡ fuel → IsFoundBy s fuel (record { answer = Spent; steps = k; ended = E.Spent t })
+  found_spent h t e k f fuel whole =
+      let honest : GoesOn s.rules.ontology s.rules.set s.query k (record { items = trail_of s; table = s.rules.table }) =
+      subst (λ (n : ℕ). GoesOn s.rules.ontology s.rules.set s.query n (record { items = trail_of s; table = s.rules.table })) (sym f) (honest_spent h) in
+      record {
+        answer = tt;
+        matches = tt;
+        honest = subst (λ (v : TrailLists). GoesOn s.rules.ontology s.rules.set s.query k v) (sym e) honest;
+        fueled = f ∙ whole;
+      }
+
+-- what is found by a search is found for its rules and its query
+pub moved : (s : SearchState) (r : RuleLists) (q : Query) (fuel : ℕ) → s.rules ≡ r → s.query ≡ q
+    → (found : Result Found NoMemory) → IfOk found (IsFoundBy s fuel) → IfOk found (IsFound r.ontology r.set q fuel)
+moved s r q fuel er eq (Ok f) h =
+    let m : IsFound r.ontology r.set s.query fuel f = subst (λ (v : RuleLists). IsFound v.ontology v.set s.query fuel f) er h in
+    subst (λ (v : Query). IsFound r.ontology r.set v fuel f) eq m
+moved s r q fuel er eq (Err e) h = tt
+
+-- how a search ended that began with no steps
+pub has_ended : (fuel : ℕ) (old new : SearchState) (e : End) → old.steps ≡ 0 → IsEnd fuel old new e → HasEnded fuel new e
+has_ended fuel old new Saturated zero_steps (runs, at) = at
+has_ended fuel old new (Closed r) zero_steps (runs, at) = at
+has_ended fuel old new OutOfFuel zero_steps (runs, spent) = (omega (arith, zero_steps, spent.counted), (spent.next, spent.is_legal))
+
+-- with so much fuel at least, or just so much
+pub within_fuel : (s : SearchState) (fuel : ℕ) → s.steps ≤ fuel → (found : Result Found NoMemory) → IfOk found (λ f. (n : ℕ) → s.steps ≤ n → IsFoundBy s n f) → IfOk found (IsFoundBy s fuel)
+within_fuel s fuel le (Ok f) h = h fuel le
+within_fuel s fuel le (Err e) h = tt
+
+pub whole_fuel : (s : SearchState) (fuel : ℕ) (e : End) → e ≡ OutOfFuel → HasEnded fuel s e → (found : Result Found NoMemory) → IfOk found (λ f. (n : ℕ) → s.steps ≡ n → IsFoundBy s n f)
+    → IfOk found (IsFoundBy s fuel)
+whole_fuel s fuel e is ended (Ok f) h = let k : HasEnded fuel s OutOfFuel = subst (HasEnded fuel s) is ended in h fuel k.0
+whole_fuel s fuel e is ended (Err n) h = tt

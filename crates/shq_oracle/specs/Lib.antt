@@ -1,0 +1,2 @@
+pub mod OracleLists
+pub mod Decided

@@ -1,0 +1,15 @@
+// What a question is answered.
+
+use finite_model::Interp;
+use refutation_tree::Refutation;
+
+/// Whether a query follows from a set of axioms, and why.
+#[derive(Drop)]
+pub enum Answer {
+    /// It follows: this refutes that something is in the query's subclass and not in its superclass.
+    Refuted(Refutation),
+    /// It does not follow: this interpretation meets the axioms, and has such an element.
+    Model(Interp),
+    /// The budget was spent.
+    Spent,
+}

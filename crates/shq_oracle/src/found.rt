@@ -1,0 +1,157 @@
+// What one search finds.
+ghost use Rattle.std.specs.Prelude.{◌≡◌, ◌≤◌, ℕ, false, IfOk};
+ghost use Rattle.ontology_limits.specs.Limits.{IsInLimit};
+ghost use Rattle.completion_tree.specs.Trail.{items_of};
+ghost use Rattle.search_rules.specs.RuleLists.{AreNumbersOf};
+ghost use Rattle.tableau.specs.Steps.{IsAtModel, IsAtRefutation};
+ghost use Rattle.run_log.specs.HonestLog.{IsAxiomSet};
+ghost use Rattle.shq_oracle.specs.Decided.{IsFound, IsFoundBy, MayGoOn, HasEnded};
+
+use crate::{Answer, KeptTrail, NoMemory, TestEnd};
+use bumpalo::Bump;
+use completion_tree::Tree;
+use model_builder::build;
+use refutation_tree::Refutation;
+use search_rules::SearchRules;
+use shq_terms::Query;
+use std::alloc::{Allocator, Global};
+use tableau::{End, Search};
+use tableau_specs::Item;
+
+/// What a search answers, in how many steps, and how its test ended.
+#[derive(Drop)]
+pub(crate) struct Found {
+    pub(crate) answer: Answer,
+    pub(crate) steps: u64,
+    pub(crate) ended: TestEnd,
+}
+
+/// Searches with these rules whether the query follows, by at most so many steps. The numbers are those of what the query
+/// asks. The tree of the search lies in an arena of its own, which is let go at the end.
+pub(crate) fn search(
+    alloc: Global,
+    rules: &SearchRules<'_>,
+    query: &Query,
+    numbers: (u32, u32),
+    fuel: u64,
+) -> Result<Found, NoMemory>
+    requires numbers { AreNumbersOf rules.now query.now numbers.0 numbers.1 }
+    requires set { IsAxiomSet rules.now.ontology rules.now.set }
+    requires in_limit { IsInLimit rules.now.ontology query.now }
+    ensures { IfOk result (IsFound rules.now.ontology rules.now.set query.now fuel) }
+{
+    let arena = Bump::new(alloc);
+    search_in(&arena, alloc, rules, query, numbers, fuel)
+}
+
+#[tactic(auto, using(crate::proofs::Honest::moved, crate::proofs::Honest::has_ended))]
+fn search_in<A: Allocator + Copy>(
+    arena: A,
+    alloc: Global,
+    rules: &SearchRules<'_>,
+    query: &Query,
+    numbers: (u32, u32),
+    fuel: u64,
+) -> Result<Found, NoMemory>
+    requires numbers { AreNumbersOf rules.now query.now numbers.0 numbers.1 }
+    requires set { IsAxiomSet rules.now.ontology rules.now.set }
+    requires in_limit { IsInLimit rules.now.ontology query.now }
+    ensures { IfOk result (IsFound rules.now.ontology rules.now.set query.now fuel) }
+{
+    let mut search = Search::new_in(arena, alloc, rules, query, numbers.0, numbers.1)?;
+    let end = search.run(fuel)?;
+    found_by(alloc, &search, query, fuel, end)
+}
+
+// What is found by a search that ended so, with this fuel.
+fn found_by<A: Allocator + Copy>(
+    alloc: Global,
+    search: &Search<'_, A>,
+    query: &Query,
+    fuel: u64,
+    end: End,
+) -> Result<Found, NoMemory>
+    requires whole { search.now.failed ≡ false }
+    requires asked { search.now.query ≡ query.now }
+    requires set { IsAxiomSet search.now.rules.ontology search.now.rules.set }
+    requires in_limit { IsInLimit search.now.rules.ontology search.now.query }
+    requires within { search.now.steps ≤ fuel }
+    requires ended { HasEnded fuel search.now end }
+    ensures { IfOk result (IsFoundBy search.now fuel) }
+{
+    let steps = search.steps();
+    prove!(steps <= fuel);
+    match end {
+        End::Saturated => with_model(alloc, search, query),
+        End::Closed(refutation) => with_refutation(search, refutation),
+        End::Spent => with_trail(alloc, search),
+    }
+}
+
+// What is found by a search that ended at a model.
+fn with_model<A: Allocator + Copy>(
+    alloc: Global,
+    search: &Search<'_, A>,
+    query: &Query,
+) -> Result<Found, NoMemory>
+    requires whole { search.now.failed ≡ false }
+    requires asked { search.now.query ≡ query.now }
+    requires in_limit { IsInLimit search.now.rules.ontology search.now.query }
+    requires ended { IsAtModel search.now }
+    ensures { IfOk result (λ f. (fuel : ℕ) → search.now.steps ≤ fuel → IsFoundBy search.now fuel f) }
+{
+    let steps = search.steps();
+    let model = build(alloc, search.tree(), search.prints(), search.rules(), query)?;
+    Ok(Found {
+        answer: Answer::Model(model),
+        steps,
+        ended: TestEnd::No,
+    })
+}
+
+// What is found by a search that ended at a refutation.
+fn with_refutation<A: Allocator + Copy>(
+    search: &Search<'_, A>,
+    refutation: Refutation,
+) -> Result<Found, NoMemory>
+    requires whole { search.now.failed ≡ false }
+    requires set { IsAxiomSet search.now.rules.ontology search.now.rules.set }
+    requires ended { IsAtRefutation refutation search.now }
+    ensures { IfOk result (λ f. (fuel : ℕ) → search.now.steps ≤ fuel → IsFoundBy search.now fuel f) }
+{
+    let steps = search.steps();
+    let used = refutation.axioms_used().try_clone()?;
+    Ok(Found {
+        answer: Answer::Refuted(refutation),
+        steps,
+        ended: TestEnd::Yes(used),
+    })
+}
+
+// What is found by a search that has spent its fuel.
+fn with_trail<A: Allocator + Copy>(alloc: Global, search: &Search<'_, A>) -> Result<Found, NoMemory>
+    requires whole { search.now.failed ≡ false }
+    requires goes_on { MayGoOn search.now }
+    ensures { IfOk result (λ f. (fuel : ℕ) → search.now.steps ≡ fuel → IsFoundBy search.now fuel f) }
+{
+    let steps = search.steps();
+    let items = items(alloc, search.tree())?;
+    let trail = KeptTrail::new(alloc, items, search.rules().concepts())?;
+    Ok(Found {
+        answer: Answer::Spent,
+        steps,
+        ended: TestEnd::Spent(trail),
+    })
+}
+
+// The facts and marks of a tree's trail.
+#[tactic(auto, using(crate::proofs::Honest::taken_one))]
+fn items<A: Allocator + Copy>(alloc: Global, tree: &Tree<A>) -> Result<Vec<Item>, NoMemory>
+    ensures { IfOk result (λ items. items.items ≡ items_of tree.now) }
+{
+    let mut items = Vec::new(alloc);
+    for place in 0..tree.len() {
+        items.push(tree.item(place))?;
+    }
+    Ok(items)
+}

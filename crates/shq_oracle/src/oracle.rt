@@ -1,0 +1,223 @@
+// Questions whether queries follow, answered within a budget.
+ghost use Rattle.std.specs.Prelude.{◌≡◌, ◌+◌, ◌≤◌, [], ◌∷◌, ◌++◌, false, length, IfOk, IfSome, OnErr};
+ghost use Rattle.run_log.specs.declared.entry.Entry.TheVariants.{Test};
+ghost use Rattle.std.specs.List.{list_any};
+ghost use Rattle.axiom_sets.specs.Sets.{IsWithin};
+ghost use Rattle.ontology_limits.specs.Limits.{IsOntologyInLimit, IsInLimit};
+ghost use Rattle.run_log.specs.Entries.{spent_of, is_spent, IsAnswered};
+ghost use Rattle.run_log.specs.HonestLog.{IsAxiomSet};
+ghost use Rattle.shq_oracle.specs.Decided.{IsAnswer, AppendsTest, LeavesNothing, IsFound};
+
+use crate::found::{Found, search};
+use crate::{Answer, Entry, NoMemory, RunLog};
+use axiom_sets::AxiomSet;
+use search_rules::SearchRules;
+use shq_terms::{Ontology, Query};
+use std::alloc::Global;
+use std::marker::Model;
+
+/// Answers whether queries follow from sets of an ontology's axioms, within a budget of steps, and keeps the log of it.
+///
+/// Contracts see the ontology, the budget and the log. What was spent is at most the budget.
+#[derive(Drop)]
+pub struct Oracle<'a> {
+    alloc: Global,
+    ontology: &'a Ontology,
+    budget: u32,
+    log: RunLog,
+    rules: Option<SearchRules<'a>>,
+}
+
+impl<'a> Model for Oracle<'a> {
+    ghost use Rattle.std.specs.Prelude.{◌≡◌, ◌≤◌, IfSome};
+    ghost use Rattle.std.specs.Coded.{codes};
+    ghost use Rattle.shq_base.specs.Code.{concept_code};
+    ghost use Rattle.axiom_sets.specs.Sets.{limited_code};
+    ghost use Rattle.run_log.specs.Entries.{spent_of};
+    ghost use Rattle.shq_oracle.specs.OracleLists.{OracleLists};
+
+    ghost Value = { OracleLists };
+
+    ghost coded = { Prim.hlevel (codes, concept_code, limited_code) };
+
+    ghost view = { λ o. record { ontology = o.ontology.now; budget = o.budget; log = o.log } };
+
+    ghost invariant = { λ o. (spent_of o.log ≤ o.budget) × IfSome o.rules (λ r. r.ontology ≡ o.ontology.now) };
+}
+
+impl<'a> Oracle<'a> {
+    ghost use Rattle.shq_oracle.specs.OracleLists.{OracleLists};
+
+    /// An oracle over the axioms of the ontology that goes on with a log, with a budget of steps and nodes. The memory that it
+    /// takes is `alloc`'s.
+    pub fn new(alloc: Global, ontology: &'a Ontology, budget: u32, log: RunLog) -> Oracle<'a>
+        requires { spent_of log ≤ budget }
+        ensures { result ≡ record { ontology = ontology.now; budget = budget; log = log } }
+    {
+        Oracle {
+            alloc,
+            ontology,
+            budget,
+            log,
+            rules: None,
+        }
+    }
+
+    /// Hands the log back.
+    pub fn into_log(self) -> RunLog
+        ensures { result ≡ self.entry.log }
+    {
+        let Oracle { log, .. } = self;
+        log
+    }
+
+    /// What is left of the budget.
+    pub fn left(&self) -> u64
+        ensures left { result + spent_of self.now.log ≡ self.now.budget }
+        ensures small { self.now.budget ≤ u32.MAX }
+    {
+        u64::from(self.budget) - self.log.spent()
+    }
+
+    /// Whether the query follows from the axioms of the set, which the log does not answer. The answer comes with its evidence,
+    /// and one entry more in the log says how the test went; or the whole budget is spent.
+    ///
+    /// # Errors
+    /// Memory may be refused; the log is as before then.
+    pub fn decide(&mut self, set: &AxiomSet, query: &Query) -> Result<Answer, NoMemory>
+        requires limit { set.now.limit ≡ length self.old.ontology.axioms }
+        requires in_limit { IsInLimit self.old.ontology query.now }
+        requires goes_on { list_any is_spent self.old.log ≡ false }
+        requires is_new { ¬ IsAnswered self.old.log set.now query.now }
+
+        ensures answer { IfOk result (IsAnswer self.old.ontology set.now query.now) }
+        ensures entry { IfOk result (AppendsTest self.old.ontology set.now query.now self.old.log self.new.log) }
+        ensures spent { IfOk result (LeavesNothing self.new) }
+        ensures within { spent_of self.new.log ≤ self.new.budget }
+
+        ensures same_ontology { self.new.ontology ≡ self.old.ontology }
+        ensures same_budget { self.new.budget ≡ self.old.budget }
+        ensures unchanged { OnErr result (self.new.log ≡ self.old.log) }
+    {
+        let fuel = self.left();
+        let found = self.find(set, query, fuel)?;
+        self.note(set, query, found)
+    }
+
+    // Searches by the rules of the set, which are kept. Nothing that contracts see changes.
+    fn find(&mut self, set: &AxiomSet, query: &Query, fuel: u64) -> Result<Found, NoMemory>
+        requires limit { set.now.limit ≡ length self.old.ontology.axioms }
+        requires in_limit { IsInLimit self.old.ontology query.now }
+        ensures found { IfOk result (IsFound self.old.ontology set.now query.now fuel) }
+        ensures set { IsAxiomSet self.old.ontology set.now }
+        ensures same { self.new ≡ self.old }
+    {
+        let _limit = set.limit();
+        find_by(self.alloc, &mut self.rules, self.ontology, set, query, fuel)
+    }
+
+    // Puts the entry of a test, and hands the answer on.
+    fn note(&mut self, set: &AxiomSet, query: &Query, found: Found) -> Result<Answer, NoMemory>
+        requires within { found.steps + spent_of self.old.log ≤ self.old.budget }
+        requires small { self.old.budget ≤ u32.MAX }
+        ensures answer { IfOk result (λ a. a ≡ found.answer) }
+        ensures entry { IfOk result (λ a. self.new.log ≡ self.old.log ++ Test set.now query.now found.steps found.ended ∷ []) }
+        ensures same_ontology { self.new.ontology ≡ self.old.ontology }
+        ensures same_budget { self.new.budget ≡ self.old.budget }
+        ensures unchanged { OnErr result (self.new.log ≡ self.old.log) }
+    {
+        let Found {
+            answer,
+            steps,
+            ended,
+        } = found;
+        let asked = set.try_clone()?;
+        let query = copy_of(self.alloc, query)?;
+        self.log.push(Entry::Test(asked, query, steps, ended))?;
+        Ok(answer)
+    }
+}
+
+// Searches by the rules of the set: those that were kept, or new ones, which are kept then.
+fn find_by<'a>(
+    alloc: Global,
+    kept: &mut Option<SearchRules<'a>>,
+    ontology: &'a Ontology,
+    set: &AxiomSet,
+    query: &Query,
+    fuel: u64,
+) -> Result<Found, NoMemory>
+    requires kept { IfSome kept.old (λ r. r.ontology ≡ ontology.now) }
+    requires set { IsAxiomSet ontology.now set.now }
+    requires in_limit { IsInLimit ontology.now query.now }
+    ensures found { IfOk result (IsFound ontology.entry.now set.now query.now fuel) }
+    ensures kept { IfSome kept.new (λ r. r.ontology ≡ ontology.entry.now) }
+{
+    let mut rules = rules_of(alloc, kept.take(), ontology, set)?;
+    let found = ask(alloc, &mut rules, query, fuel)?;
+    *kept = Some(rules);
+    Ok(found)
+}
+
+// The rules of the axioms of the set: those that were kept, where they are of this set.
+fn rules_of<'a>(
+    alloc: Global,
+    kept: Option<SearchRules<'a>>,
+    ontology: &'a Ontology,
+    set: &AxiomSet,
+) -> Result<SearchRules<'a>, NoMemory>
+    requires kept { IfSome kept (λ r. r.ontology ≡ ontology.now) }
+    requires within { IsWithin (length ontology.now.axioms) set.now.members }
+    requires in_limit { IsOntologyInLimit ontology.now }
+    ensures ontology { IfOk result (λ r. r.ontology ≡ ontology.entry.now) }
+    ensures set { IfOk result (λ r. r.set ≡ set.now) }
+{
+    match kept {
+        Some(rules) => rules_again(alloc, rules, ontology, set),
+        None => SearchRules::build(alloc, ontology, set),
+    }
+}
+
+fn rules_again<'a>(
+    alloc: Global,
+    rules: SearchRules<'a>,
+    ontology: &'a Ontology,
+    set: &AxiomSet,
+) -> Result<SearchRules<'a>, NoMemory>
+    requires kept { rules.ontology ≡ ontology.now }
+    requires within { IsWithin (length ontology.now.axioms) set.now.members }
+    requires in_limit { IsOntologyInLimit ontology.now }
+    ensures ontology { IfOk result (λ r. r.ontology ≡ ontology.entry.now) }
+    ensures set { IfOk result (λ r. r.set ≡ set.now) }
+{
+    if *rules.set() == *set {
+        return Ok(rules);
+    }
+    SearchRules::build(alloc, ontology, set)
+}
+
+// Searches by these rules.
+fn ask(
+    alloc: Global,
+    rules: &mut SearchRules<'_>,
+    query: &Query,
+    fuel: u64,
+) -> Result<Found, NoMemory>
+    requires set { IsAxiomSet rules.old.ontology rules.old.set }
+    requires in_limit { IsInLimit rules.old.ontology query.now }
+    ensures found { IfOk result (IsFound rules.old.ontology rules.old.set query.now fuel) }
+    ensures same { rules.new.ontology ≡ rules.old.ontology }
+{
+    let numbers = rules.numbers_of(alloc, query)?;
+    search(alloc, rules, query, numbers, fuel)
+}
+
+// An equal query.
+fn copy_of(alloc: Global, query: &Query) -> Result<Query, NoMemory>
+    ensures { IfOk result (λ copy. copy ≡ query.now) }
+{
+    Ok(Query {
+        sub: query.sub.try_clone(alloc)?,
+        sup: query.sup.try_clone(alloc)?,
+    })
+}
