@@ -13,6 +13,7 @@ pub(crate) fn exit_number(status: Status) -> u8
     ensures limit { status ≡ Status.Limit → result ≡ 5 }
     ensures read_fault { status ≡ Status.ReadFault → result ≡ 6 }
     ensures write_fault { status ≡ Status.WriteFault → result ≡ 7 }
+    ensures undecided { status ≡ Status.Undecided → result ≡ 8 }
     ensures no_memory { status ≡ Status.NoMemory → result ≡ 9 }
 {
     match status {
@@ -24,6 +25,7 @@ pub(crate) fn exit_number(status: Status) -> u8
         Status::Limit => 5,
         Status::ReadFault => 6,
         Status::WriteFault => 7,
+        Status::Undecided => 8,
         Status::NoMemory => 9,
     }
 }

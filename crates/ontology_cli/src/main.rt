@@ -18,7 +18,7 @@ fn main(rt: HostRuntime) -> ExitCode {
     };
     let mut source = StdSource::new(rt.stdin());
     let mut sink = StdSink::new(rt.stdout());
-    let mut log = RunLog::new();
+    let mut log = RunLog::new(alloc);
     let status = run(alloc, &words, &mut source, &mut sink, &mut log);
     ExitCode::from(exit_number(status))
 }

@@ -1,57 +1,30 @@
 -- What is accepted is true.
 use Rattle.std.proofs.Common.{◌≡◌, ℕ, ◌+◌, ◌⊎◌, inl, inr, List, [], ◌∷◌, length, drop, map, Bool, true, false, Option, Some, None, Result, Ok, Err, refl, ap, sym, ◌∙◌, subst, arith}
 use Rattle.std.specs.Prelude.{codes}
-use Rattle.axiom_sets.specs.Sets.{member_list}
 use Rattle.shq_terms.specs.Listed.{Listed}
 use Rattle.shq_terms.specs.declared.axioms.Axiom.{Axiom as SomeAxiom}
-use Rattle.shq_terms.specs.declared.axioms.Numbered.{Numbered}
 use Rattle.shq_terms.specs.declared.axioms.Query.{Query as Asked}
-use Rattle.shq_meaning.specs.Truth.{Interpretation, meets, meets_all, refutes_at, Entails}
-use Rattle.finite_model.specs.ModelLists.{meaning}
-use Rattle.refutation_truth.proofs.Entailed.{entailed_by_all}
+use Rattle.shq_meaning.specs.Truth.{Entails}
+use Rattle.certificate_check.proofs.Truth.{followed, not_followed}
+use Rattle.run_log.specs.declared.entry.Entry.{Entry}
 use Rattle.ontology_jobs.specs.Words.{check}
-use Rattle.ontology_jobs.specs.Certificates.{certificate}
+use Rattle.certificate_check.specs.Certificates.{certificate}
 use Rattle.read_limits.specs.Laws.{with_names}
-use Rattle.ontology_jobs.specs.Checking.{IsVerdictOn, first_unmet, Reply, judged, refused_document, refused_query, malformed_line, Shows, IsReply, no_document, no_query, shown}
-use Rattle.ontology_jobs.specs.Complaints.{Complaint, sort_status, complaint}
-use Rattle.ontology_jobs.specs.Answers.{line, Answer, complaint_answer, reply_answer, AnswersJob}
+use Rattle.certificate_check.specs.Checking.{IsVerdictOn, first_unmet, Reply, judged, refused_document, refused_query, malformed_line, Shows, IsReply, no_document, no_query, shown}
+use Rattle.job_texts.specs.Complaints.{Complaint, sort_status, complaint}
+use Rattle.job_texts.specs.Answer.{line, Answer, complaint_answer}
+use Rattle.certificate_check.specs.Replies.{reply_answer}
+use Rattle.ontology_jobs.specs.Answers.{AnswersJob}
 use Rattle.ontology_jobs.specs.Laws.{HaveRead}
-use Rattle.ontology_jobs.specs.declared.certificate.Certificate.{Certificate}
-use Rattle.ontology_jobs.specs.declared.certificate.Certificate.TheVariants as C
-use Rattle.ontology_jobs.specs.declared.complaint.Place.{Place}
-use Rattle.ontology_jobs.specs.declared.complaint.Place.TheVariants as P
-use Rattle.ontology_jobs.specs.declared.complaint.Sort.{Sort}
-use Rattle.ontology_jobs.specs.declared.complaint.Sort.TheVariants as S
-use Rattle.ontology_jobs.specs.declared.judging.Verdict.{Verdict}
-use Rattle.ontology_jobs.specs.declared.judging.Verdict.TheVariants.{NotEntailed, Entailed, Axiom, Query, Line}
-use Rattle.ontology_jobs.specs.declared.status.Status.TheVariants.{Done, NoMemory}
-
--- ---- what verdicts say of axioms and query
-
--- where no axiom is the first that is not met, all are met
-all_met : (i : Interpretation) (k : ℕ) (as_ : List Numbered) → first_unmet i k as_ ≡ None → meets_all i (map (λ n. n.axiom) as_) ≡ true
-all_met i k [] none = refl
-all_met i k (a ∷ as_) none = by (all_met i (k + 1) as_) (meets i a.axiom) refl
-  where
-    by : (first_unmet i (k + 1) as_ ≡ None → meets_all i (map (λ n. n.axiom) as_) ≡ true) → (b : Bool) → meets i a.axiom ≡ b → meets_all i (map (λ n. n.axiom) (a ∷ as_)) ≡ true
-    by rest true is = let others : first_unmet i (k + 1) as_ ≡ None = rw is at none in rw (is, rest others)
-    by rest false is = let clash : Some k ≡ None = rw is at none in absurd (cc clash)
-
--- a model that is accepted meets all axioms and refutes the query
-not_followed : (o : Listed) (q : Asked) (c : Certificate) → IsVerdictOn o q c NotEntailed → Entails (map (λ n. n.axiom) o.axioms) q → ⊥
-not_followed o q (C.Model m) accepted follows =
-    let y = accepted.1.0 in
-    let least = accepted.1.1 in
-    let below = least.below in
-    let none : refutes_at (meaning m) q y ≡ false = follows (meaning m) (omega arith) (all_met (meaning m) 1 o.axioms accepted.0) y below in
-    let clash : true ≡ false = sym least.passes ∙ none in
-    absurd (cc clash)
-not_followed o q (C.Refutation r) accepted follows = absurd accepted
-
--- what is refuted over the named axioms follows from all
-followed : (o : Listed) (q : Asked) (c : Certificate) → IsVerdictOn o q c Entailed → Entails (map (λ n. n.axiom) o.axioms) q
-followed o q (C.Model m) accepted = absurd accepted
-followed o q (C.Refutation r) accepted = entailed_by_all o.axioms (member_list r.axioms) q.sub q.sup r.shapes r.lines accepted
+use Rattle.certificate_check.specs.declared.certificate.Certificate.{Certificate}
+use Rattle.certificate_check.specs.declared.certificate.Certificate.TheVariants as C
+use Rattle.job_texts.specs.declared.complaint.Place.{Place}
+use Rattle.job_texts.specs.declared.complaint.Place.TheVariants as P
+use Rattle.job_texts.specs.declared.complaint.Sort.{Sort}
+use Rattle.job_texts.specs.declared.complaint.Sort.TheVariants as S
+use Rattle.certificate_check.specs.declared.judging.Verdict.{Verdict}
+use Rattle.certificate_check.specs.declared.judging.Verdict.TheVariants.{NotEntailed, Entailed, Axiom, Query, Line}
+use Rattle.job_texts.specs.declared.status.Status.TheVariants.{Done, NoMemory}
 
 -- ---- which replies are accepting
 
@@ -90,12 +63,12 @@ module _ (query bytes : List ℕ) where
       by (Err n) none = absurd none
 
   -- the reply of an answer that was done
-  reply_of : (out : List ℕ) → AnswersJob (check query) bytes out Done → (r : Reply) × IsReply query bytes r × (◌≡◌ {A = Answer} (Done, out) (reply_answer r))
-  reply_of out (inl (long, is)) = let clash = ap (λ (a : Answer). a.0) is in absurd (cc clash)
-  reply_of out (inr (short, reply)) = reply
+  reply_of : (out : List ℕ) (log : List Entry) → AnswersJob (check query) bytes out Done log → (r : Reply) × IsReply query bytes r × (◌≡◌ {A = Answer} (Done, out) (reply_answer r))
+  reply_of out log (inl long) = let clash = ap (λ (a : Answer). a.0) long.answer in absurd (cc clash)
+  reply_of out log (inr (short, (reply, none))) = reply
 
-  pub follows : AnswersJob (check query) bytes (line (codes "accepted entailed")) Done → HaveRead Entails query bytes
-  follows answer = by (reply_of (line (codes "accepted entailed")) answer)
+  pub follows : (log : List Entry) → AnswersJob (check query) bytes (line (codes "accepted entailed")) Done log → HaveRead Entails query bytes
+  follows log answer = by (reply_of (line (codes "accepted entailed")) log answer)
     where
       by : ((r : Reply) × IsReply query bytes r × (◌≡◌ {A = Answer} (Done, line (codes "accepted entailed")) (reply_answer r))) → HaveRead Entails query bytes
       by (r, says, is) = elim (done_by r (line (codes "accepted entailed")) is) [
@@ -103,8 +76,8 @@ module _ (query bytes : List ℕ) where
         | inr (not_entailed, long) ↦ absurd (omega (arith, long))
       ]
 
-  pub does_not_follow : AnswersJob (check query) bytes (line (codes "accepted not entailed")) Done → HaveRead (λ axioms q. Entails axioms q → ⊥) query bytes
-  does_not_follow answer = by (reply_of (line (codes "accepted not entailed")) answer)
+  pub does_not_follow : (log : List Entry) → AnswersJob (check query) bytes (line (codes "accepted not entailed")) Done log → HaveRead (λ axioms q. Entails axioms q → ⊥) query bytes
+  does_not_follow log answer = by (reply_of (line (codes "accepted not entailed")) log answer)
     where
       by : ((r : Reply) × IsReply query bytes r × (◌≡◌ {A = Answer} (Done, line (codes "accepted not entailed")) (reply_answer r))) → HaveRead (λ axioms q. Entails axioms q → ⊥) query bytes
       by (r, says, is) = elim (done_by r (line (codes "accepted not entailed")) is) [

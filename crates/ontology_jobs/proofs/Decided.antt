@@ -1,5 +1,5 @@
 -- The words and the input decide the answer.
-use Rattle.std.proofs.Common.{◌≡◌, ℕ, ◌<◌, ◌≤◌, ◌^◌, List, ◌⊎◌, inl, inr, length, drop, true, false, Bool, Option, Some, None, Result, Ok, Err, refl, ap, sym, ◌∙◌, subst, arith}
+use Rattle.std.proofs.Common.{◌≡◌, ℕ, ◌<◌, ◌≤◌, ◌^◌, List, [], ◌⊎◌, inl, inr, length, drop, true, false, Bool, Option, Some, None, Result, Ok, Err, refl, ap, sym, ◌∙◌, subst, arith}
 use Rattle.std.specs.Prelude.{MatchOption, codes, not}
 use Rattle.shq_terms.specs.Listed.{Listed}
 use Rattle.shq_terms.specs.declared.axioms.Query.{Query as Asked}
@@ -17,18 +17,21 @@ use Rattle.ofn_reader.specs.Documents.{IsDocument}
 use Rattle.ofn_reader.specs.Queries.{query_start}
 use Rattle.ofn_reader.proofs.OneReason.{document_refusals, query_refusals}
 use Rattle.ofn_reader.proofs.Unique.{documents, documents_not_refused, queries, queries_not_refused}
-use Rattle.ontology_jobs.specs.Words.{Job, check, job_of}
-use Rattle.ontology_jobs.specs.Certificates.{certificate}
+use Rattle.run_log.specs.declared.entry.Entry.{Entry}
+use Rattle.ontology_jobs.specs.Words.{Job, check, decide, job_of}
+use Rattle.certificate_check.specs.Certificates.{certificate}
 use Rattle.read_limits.specs.Laws.{with_names}
-use Rattle.ontology_jobs.specs.Checking.{IsAsked, IsNotAsked, IsOfModel, IsOfRefutation, IsVerdictOn, line_of_place, Reply, judged, refused_document, refused_query, malformed_line, Shows, IsReply, no_document, no_query, shown}
-use Rattle.ontology_jobs.specs.Answers.{line, Answer, verdict_answer, reply_answer, AnswersJob, Answers}
-use Rattle.ontology_jobs.specs.Laws.{IsDecided}
-use Rattle.ontology_jobs.specs.declared.certificate.Certificate.{Certificate}
-use Rattle.ontology_jobs.specs.declared.certificate.Certificate.TheVariants as C
-use Rattle.ontology_jobs.specs.declared.judging.Verdict.{Verdict}
-use Rattle.ontology_jobs.specs.declared.judging.Verdict.TheVariants.{NotEntailed, Entailed, Axiom, Query, Line}
-use Rattle.ontology_jobs.specs.declared.status.Status.{Status}
-use Rattle.ontology_jobs.specs.declared.status.Status.TheVariants.{Done, Rejected, BadWords, BadText, Outside, Limit, ReadFault, WriteFault, NoMemory}
+use Rattle.certificate_check.specs.Checking.{IsAsked, IsNotAsked, IsOfModel, IsOfRefutation, IsVerdictOn, line_of_place, Reply, judged, refused_document, refused_query, malformed_line, Shows, IsReply, no_document, no_query, shown}
+use Rattle.job_texts.specs.Answer.{line, Answer}
+use Rattle.certificate_check.specs.Replies.{verdict_answer, reply_answer}
+use Rattle.ontology_jobs.specs.Answers.{IsTooLong, IsBadWords, AnswersJob}
+use Rattle.ontology_jobs.specs.Laws.{IsDecided, AsksForNoSearch, AnswersAreUnique}
+use Rattle.certificate_check.specs.declared.certificate.Certificate.{Certificate}
+use Rattle.certificate_check.specs.declared.certificate.Certificate.TheVariants as C
+use Rattle.certificate_check.specs.declared.judging.Verdict.{Verdict}
+use Rattle.certificate_check.specs.declared.judging.Verdict.TheVariants.{NotEntailed, Entailed, Axiom, Query, Line}
+use Rattle.job_texts.specs.declared.status.Status.{Status}
+use Rattle.job_texts.specs.declared.status.Status.TheVariants.{Done, Rejected, BadWords, BadText, Outside, Limit, ReadFault, WriteFault, Undecided, NoMemory}
 
 some_same : {A : Type 0} (a b : A) → Some a ≡ Some b → a ≡ b
 some_same a b same = cc same
@@ -143,26 +146,28 @@ same_outcome query bytes a b (replied short r is p) (too_long long q) = absurd (
 same_outcome query bytes a b (replied short r is p) (replied less s are q) = p ∙ same_said query bytes r s is are ∙ sym q
 
 -- which of the two an answer is
-by_length : (query bytes : List ℕ) (a : Answer) → ((2 ^ 24 < length bytes) × (◌≡◌ {A = Answer} a (Limit, line (codes "limit text")))) ⊎ ((length bytes ≤ 2 ^ 24) × ((r : Reply) × IsReply query bytes r × (◌≡◌ {A = Answer} a (reply_answer r)))) → Outcome query bytes a
-by_length query bytes a (inl (long, is)) = too_long long is
-by_length query bytes a (inr (short, (r, says, is))) = replied short r says is
+by_length : (query bytes out : List ℕ) (s : Status) (log : List Entry) → (IsTooLong bytes out s log ⊎ ((length bytes ≤ 2 ^ 24) × (((r : Reply) × IsReply query bytes r × (◌≡◌ {A = Answer} (s, out) (reply_answer r))) × (log ≡ [])))) → Outcome query bytes (s, out)
+by_length query bytes out s log (inl long) = too_long long.long long.answer
+by_length query bytes out s log (inr (short, ((r, says, is), none))) = replied short r says is
 
-outcome : (query bytes out : List ℕ) (s : Status) → IsDecided s → AnswersJob (check query) bytes out s → Outcome query bytes (s, out)
-outcome query bytes out Done known answer = by_length query bytes (Done, out) answer
-outcome query bytes out Rejected known answer = by_length query bytes (Rejected, out) answer
-outcome query bytes out BadWords known answer = by_length query bytes (BadWords, out) answer
-outcome query bytes out BadText known answer = by_length query bytes (BadText, out) answer
-outcome query bytes out Outside known answer = by_length query bytes (Outside, out) answer
-outcome query bytes out Limit known answer = by_length query bytes (Limit, out) answer
-outcome query bytes out ReadFault known answer = absurd known
-outcome query bytes out WriteFault known answer = absurd known
-outcome query bytes out NoMemory known answer = absurd known
+outcome : (query bytes out : List ℕ) (s : Status) (log : List Entry) → IsDecided s → AnswersJob (check query) bytes out s log → Outcome query bytes (s, out)
+outcome query bytes out Done log known answer = by_length query bytes out Done log answer
+outcome query bytes out Rejected log known answer = by_length query bytes out Rejected log answer
+outcome query bytes out BadWords log known answer = by_length query bytes out BadWords log answer
+outcome query bytes out BadText log known answer = by_length query bytes out BadText log answer
+outcome query bytes out Outside log known answer = by_length query bytes out Outside log answer
+outcome query bytes out Limit log known answer = by_length query bytes out Limit log answer
+outcome query bytes out ReadFault log known answer = absurd known
+outcome query bytes out WriteFault log known answer = absurd known
+outcome query bytes out Undecided log known answer = absurd known
+outcome query bytes out NoMemory log known answer = absurd known
 
-pub answers : (words : List (List ℕ)) (bytes out text : List ℕ) (s t : Status) → IsDecided s → IsDecided t → Answers words bytes out s → Answers words bytes text t → (s ≡ t) × (out ≡ text)
-answers words bytes out text s t known sure = by (job_of words)
+pub answers : AnswersAreUnique
+answers words bytes out text s t log more plain known sure = by (job_of words) plain
   where
-    by : (j : Option Job) → MatchOption j ((s ≡ BadWords) × (out ≡ line (codes "bad words"))) (λ job. AnswersJob job bytes out s) → MatchOption j ((t ≡ BadWords) × (text ≡ line (codes "bad words"))) (λ job. AnswersJob job bytes text t) → (s ≡ t) × (out ≡ text)
-    by None p q = (p.0 ∙ sym q.0, p.1 ∙ sym q.1)
-    by (Some (check query)) p q =
-        let same = same_outcome query bytes (s, out) (t, text) (outcome query bytes out s known p) (outcome query bytes text t sure q) in
+    by : (j : Option Job) → AsksForNoSearch j → MatchOption j (IsBadWords out s log) (λ job. AnswersJob job bytes out s log) → MatchOption j (IsBadWords text t more) (λ job. AnswersJob job bytes text t more) → (s ≡ t) × (out ≡ text)
+    by None plain p q = (p.status ∙ sym q.status, p.text ∙ sym q.text)
+    by (Some (check query)) plain p q =
+        let same = same_outcome query bytes (s, out) (t, text) (outcome query bytes out s log known p) (outcome query bytes text t more sure q) in
         ((λ i. (same i).0), (λ i. (same i).1))
+    by (Some (decide question budget)) plain p q = absurd plain

@@ -1,10 +1,3 @@
-pub mod Unmet
-pub mod Blanks
-pub mod FirstMalformed
-pub mod Stops
-pub mod Messages
 pub mod Replies
-pub mod Reasons
-pub mod InLimit
 pub mod Decided
 pub mod Accepted

@@ -24,7 +24,7 @@ pub(crate) fn run_on(
     bytes.push_str(input[1])?;
     let mut source = MemSource::new(alloc, bytes.as_bytes(), 8, &[failing[0]])?;
     let mut sink = MemSink::new(alloc, 100, 4, &[failing[1]])?;
-    let mut log = RunLog::new();
+    let mut log = RunLog::new(alloc);
     let status = run(alloc, &own, &mut source, &mut sink, &mut log);
     Ok((status, sink))
 }
@@ -333,7 +333,7 @@ fn refuses_a_long_input(rt: HostRuntime) -> Result<(), Fail> {
     let mut words = Vec::new(alloc);
     words.push(String::from_str(alloc, "check")?)?;
     words.push(String::from_str(alloc, QUERY)?)?;
-    let mut log = RunLog::new();
+    let mut log = RunLog::new(alloc);
     assert_eq!(rt;
         run(alloc, &words, &mut source, &mut sink, &mut log),
         Status::Limit

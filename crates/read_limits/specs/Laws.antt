@@ -4,6 +4,7 @@ use Rattle.shq_base.specs.Concept.{Concept, bottom}
 use Rattle.shq_terms.specs.Listed.{Listed}
 use Rattle.shq_terms.specs.declared.axioms.Query.{Query}
 use Rattle.ontology_limits.specs.Limits.{IsOntologyInLimit, IsInLimit}
+use Rattle.certificate_lines.specs.Names.{AreNames}
 use Rattle.ofn_expressions.specs.Counts.{Counts}
 use Rattle.ofn_reader.specs.DocumentContext.{DocumentContext}
 use Rattle.ofn_reader.specs.Documents.{IsDocument}
@@ -29,3 +30,18 @@ ClassesAreInLimit =
     (text : List ℕ) (o : Listed) (kept : DocumentContext) (end : ℕ) → IsDocument text o kept end
     → (class : List ℕ) (after : Counts) (c : Concept) → IsClass kept.prefixes o.axioms (query_start o kept.nodes) class after c
     → IsInLimit (with_names o after) (record { sub = c; sup = bottom })
+
+-- the names of both can be written into a certificate and read back
+pub record AreWritable (o : Listed) : Type 0 where
+  pub classes : AreNames o.classes
+  pub roles : AreNames o.roles
+
+abbrev pub QueriesListNames : Type 0
+QueriesListNames =
+    (text : List ℕ) (o : Listed) (kept : DocumentContext) (end : ℕ) → IsDocument text o kept end
+    → (query : List ℕ) (after : Counts) (q : Query) → IsQuery kept.prefixes o.axioms (query_start o kept.nodes) query after q → AreWritable (with_names o after)
+
+abbrev pub ClassesListNames : Type 0
+ClassesListNames =
+    (text : List ℕ) (o : Listed) (kept : DocumentContext) (end : ℕ) → IsDocument text o kept end
+    → (class : List ℕ) (after : Counts) (c : Concept) → IsClass kept.prefixes o.axioms (query_start o kept.nodes) class after c → AreWritable (with_names o after)

@@ -4,7 +4,7 @@
 //! counts as they grow, and simple roles at the end. Here is what these tests say of the values that were read.
 #![tactic(auto)]
 
-ghost use Rattle.read_limits.specs.Laws.{DocumentsAreInLimit, QueriesAreInLimit, ClassesAreInLimit};
+ghost use Rattle.read_limits.specs.Laws.{DocumentsAreInLimit, QueriesAreInLimit, ClassesAreInLimit, QueriesListNames, ClassesListNames};
 
 /// The ontology of a document (OWL 2 Structural Specification, section 3.7) is within the limits.
 pub fn documents_are_in_limit()
@@ -19,4 +19,14 @@ pub fn queries_are_in_limit()
 /// So is it with a class expression, as the query whether the class is in `owl:Nothing`.
 pub fn classes_are_in_limit()
     ensures { ClassesAreInLimit }
+{}
+
+/// The names of a document and a query on it can be written into a certificate, and are read back as they are.
+pub fn queries_list_names()
+    ensures { QueriesListNames }
+{}
+
+/// So can those of a document and a class expression.
+pub fn classes_list_names()
+    ensures { ClassesListNames }
 {}

@@ -1,0 +1,25 @@
+-- What is read can be judged.
+use Rattle.std.proofs.Common.{◌≡◌, ℕ, List, Result, Ok, Err, sym, subst}
+use Rattle.std.specs.Prelude.{IfOk}
+use Rattle.std.specs.Result.{result_map_both}
+use Rattle.shq_terms.specs.Listed.{Listed}
+use Rattle.ontology_limits.specs.Limits.{IsInLimit}
+use Rattle.ofn_reader.specs.DocumentContext.{DocumentContext}
+use Rattle.ofn_reader.specs.Documents.{IsDocument}
+use Rattle.read_limits.proofs.InLimit.{queries_in_limit}
+use Rattle.certificate_check.specs.Certificates.{Fits}
+use Rattle.certificate_check.specs.Checking.{input_with, IsClaim, CanBeJudged}
+use Rattle.certificate_check.specs.declared.checking.Claim.{Claim}
+use Rattle.certificate_check.specs.declared.checking.Input.{Input}
+use Rattle.certificate_check.specs.declared.unread.Unread.{Unread}
+
+module _ (query bytes rest : List ℕ) (o : Listed) (kept : DocumentContext) (end : ℕ) (document : IsDocument bytes o kept end) (both : Listed) where
+  claim_in_limit : (c : Claim) → IsClaim o kept query rest both c → Fits both c.certificate → CanBeJudged (input_with both c)
+  claim_in_limit c claim fits = record {
+    within = subst (λ (l : Listed). IsInLimit l c.asked) (sym claim.listed) (queries_in_limit bytes o kept end document query claim.counts c.asked claim.is_query);
+    fits = fits;
+  }
+
+  pub input_in_limit : (r : Result Claim Unread) (out : Result Input Unread) → out ≡ result_map_both (input_with both) (λ u. u) r → IfOk r (IsClaim o kept query rest both) → IfOk r (λ c. Fits both c.certificate) → IfOk out CanBeJudged
+  input_in_limit (Ok c) out is claim fits = subst (λ (i : Result Input Unread). IfOk i CanBeJudged) (sym is) (claim_in_limit c claim fits)
+  input_in_limit (Err u) out is claim fits = subst (λ (i : Result Input Unread). IfOk i CanBeJudged) (sym is) tt

@@ -1,0 +1,9 @@
+pub mod Unmet
+pub mod Blanks
+pub mod FirstMalformed
+pub mod Stops
+pub mod Messages
+pub mod Reasons
+pub mod InLimit
+pub mod Truth
+pub mod Replied

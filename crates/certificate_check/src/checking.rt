@@ -1,0 +1,125 @@
+// What is verified: a document, a query on it and a certificate.
+ghost use Rattle.std.specs.Prelude.{◌≡◌, ◌≤◌, IfOk, IfErr, OnErr, length};
+ghost use Rattle.std.specs.Result.{result_map_both};
+ghost use Rattle.ofn_reader.specs.Documents.{IsDocument};
+ghost use Rattle.certificate_check.specs.Certificates.{Fits};
+ghost use Rattle.certificate_check.specs.Checking.{IsInput, CanBeJudged, IsUnread, IsClaim, IsUnclaimed, IsUnasked, IsUndocumented, IsReadQuery, input_with};
+
+use crate::certificate::{Certificate, read_certificate};
+use crate::unread::Unread;
+use ofn_reader::{Context, read_ontology, read_query};
+use shq_terms::{Ontology, Query};
+use std::alloc::Global;
+
+/// What is verified: the axioms, the query and the certificate.
+#[derive(Drop)]
+pub(crate) struct Input {
+    pub ontology: Ontology,
+    pub asked: Query,
+    pub certificate: Certificate,
+}
+
+/// Reads the document, the query on it and the certificate that follows it.
+pub(crate) fn read_input(alloc: Global, query: &str, bytes: &[u8]) -> Result<Input, Unread>
+    requires { length bytes.now ≤ 4294967293 }
+    ensures input { IfOk result (IsInput query.now bytes.now) }
+    ensures within { IfOk result CanBeJudged }
+    ensures unread { IfErr result (IsUnread query.now bytes.now) }
+{
+    let (mut ontology, context, end) = document(alloc, bytes)?;
+    let claim = read_claim(alloc, query, bytes.split_at(end).1, &mut ontology, &context);
+    input_of(ontology, claim)
+}
+
+// The query and the certificate.
+#[derive(Drop)]
+pub(crate) struct Claim {
+    pub asked: Query,
+    pub certificate: Certificate,
+}
+
+fn input_of(ontology: Ontology, claim: Result<Claim, Unread>) -> Result<Input, Unread>
+    ensures { result ≡ result_map_both (input_with ontology) (λ u. u) claim }
+{
+    match claim {
+        Ok(Claim { asked, certificate }) => Ok(Input {
+            ontology,
+            asked,
+            certificate,
+        }),
+        Err(unread) => {
+            drop(ontology);
+            Err(unread)
+        }
+    }
+}
+
+// Reads the query, and the certificate that the rest of the input is.
+fn read_claim(
+    alloc: Global,
+    query: &str,
+    rest: &[u8],
+    ontology: &mut Ontology,
+    context: &Context,
+) -> Result<Claim, Unread>
+    requires { length rest.now ≤ 4294967293 }
+    ensures claim { IfOk result (IsClaim ontology.old context.now query.now rest.now ontology.new) }
+    ensures fits { IfOk result (λ c. Fits ontology.new c.certificate) }
+    ensures unclaimed { IfErr result (IsUnclaimed ontology.old context.now query.now rest.now) }
+{
+    let asked = query_on(alloc, query, ontology, context)?;
+    let certificate = read_certificate(alloc, rest, ontology);
+    claim_of(asked, certificate)
+}
+
+fn claim_of(asked: Query, certificate: Result<Certificate, Unread>) -> Result<Claim, Unread>
+    ensures { result ≡ result_map_both (λ c. record { asked = asked; certificate = c }) (λ u. u) certificate }
+{
+    match certificate {
+        Ok(certificate) => Ok(Claim { asked, certificate }),
+        Err(unread) => {
+            drop(asked);
+            Err(unread)
+        }
+    }
+}
+
+/// Reads the document that the bytes begin with, and answers the place after it.
+///
+/// # Errors
+///
+/// `Document` with what is wrong first, and `NoMemory`.
+#[tactic(auto, using(crate::proofs::Stops::document_refused))]
+pub fn document(alloc: Global, bytes: &[u8]) -> Result<(Ontology, Context, usize), Unread>
+    requires { length bytes.now ≤ 4294967293 }
+    ensures document { IfOk result (λ r. IsDocument bytes.now r.0 r.1 r.2) }
+    ensures within { IfOk result (λ r. r.2 ≤ length bytes.now) }
+    ensures refused { IfErr result (IsUndocumented bytes.now) }
+{
+    match read_ontology(alloc, bytes) {
+        Ok(read) => Ok(read),
+        Err(refusal) => Err(Unread::of_document(refusal)),
+    }
+}
+
+/// Reads a query on a document, whose names are listed after those of the document.
+///
+/// # Errors
+///
+/// `Query` with what is wrong first, and `NoMemory`. The ontology is then as before.
+#[tactic(auto, using(crate::proofs::Stops::query_refused))]
+pub fn query_on(
+    alloc: Global,
+    query: &str,
+    ontology: &mut Ontology,
+    context: &Context,
+) -> Result<Query, Unread>
+    ensures query { IfOk result (IsReadQuery ontology.old context.now query.now ontology.new) }
+    ensures refused { IfErr result (IsUnasked ontology.old context.now query.now) }
+    ensures unchanged { OnErr result (ontology.new ≡ ontology.old) }
+{
+    match read_query(alloc, query, ontology, context) {
+        Ok(asked) => Ok(asked),
+        Err(refusal) => Err(Unread::of_query(refusal)),
+    }
+}

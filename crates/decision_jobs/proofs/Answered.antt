@@ -1,0 +1,148 @@
+-- From what was decided to the answer.
+use Rattle.std.proofs.Common.{◌≡◌, ℕ, Bool, [], List, inl, inr, false, true, Result, Ok, Err, refl, ap, sym, ◌∙◌, subst}
+use Rattle.std.specs.Prelude.{IfOk, IfErr}
+use Rattle.shq_base.specs.Concept.{bottom}
+use Rattle.shq_terms.specs.Listed.{Listed}
+use Rattle.shq_terms.specs.declared.axioms.Query.{Query as Asked}
+use Rattle.ofn_reader.specs.DocumentContext.{DocumentContext}
+use Rattle.ontology_limits.specs.Limits.{IsInLimit}
+use Rattle.read_limits.specs.Laws.{AreWritable, with_names}
+use Rattle.read_limits.proofs.InLimit.{queries_in_limit, classes_in_limit, queries_list_names, classes_list_names}
+use Rattle.run_log.specs.declared.entry.Entry.{Entry}
+use Rattle.certificate_check.specs.Checking.{refused_document, refused_query}
+use Rattle.certificate_check.specs.Replies.{reply_answer, unread_answer}
+use Rattle.certificate_check.specs.declared.unread.Unread.{Unread}
+use Rattle.certificate_check.specs.declared.unread.Unread.TheVariants as U
+use Rattle.job_texts.specs.Answer.{Answer, no_memory, Gives}
+use Rattle.job_texts.specs.declared.status.Status.{Status}
+use Rattle.job_texts.specs.declared.status.Status.TheVariants.{Done, Rejected, BadWords, BadText, Outside, Limit, ReadFault, WriteFault, Undecided, NoMemory}
+use Rattle.job_inputs.specs.Questions.{Text, has_element, follows, document, query, IsDocumentAlone, IsReadQuestion, IsQuestion, IsUnreadDocument, IsUnreadQuestion, IsRefusedQuestion}
+use Rattle.shq_oracle.specs.declared.answer.Answer.{Answer as Decision}
+use Rattle.shq_oracle.specs.declared.answer.Answer.TheVariants.{Refuted, Model, Spent}
+use Rattle.decision_jobs.specs.Decisions.{decision_status, AnswersQuestion, IsDecided, IsRefused}
+use Rattle.decision_jobs.specs.Answering.{IsDecidedBy, IsAnswered, IsUnansweredOn, IsUnanswered}
+use Rattle.decision_jobs.proofs.Accepted.{accepted}
+
+-- a question that is read is in limit, and its names can be written
+pub question_in_limit : (bytes : List ℕ) (o : Listed) (kept : DocumentContext) (question : Text) (both : Listed) (q : Asked) → IsDocumentAlone bytes o kept → IsReadQuestion o kept question both q → IsInLimit both q
+question_in_limit bytes o kept (follows inclusion) both q d x = subst (λ l. IsInLimit l q) (sym x.both_are) (queries_in_limit bytes o kept d.end d.is_document inclusion x.counts q x.is_asked)
+question_in_limit bytes o kept (has_element class) both q d x =
+    let nothing : Asked = record { sub = q.sub; sup = bottom } in
+    let same : nothing ≡ q = λ i. record { sub = q.sub; sup = sym x.is_asked.1 i } in
+    subst (IsInLimit both) same (subst (λ l. IsInLimit l nothing) (sym x.both_are) (classes_in_limit bytes o kept d.end d.is_document class x.counts q.sub x.is_asked.0))
+
+pub question_writable : (bytes : List ℕ) (o : Listed) (kept : DocumentContext) (question : Text) (both : Listed) (q : Asked) → IsDocumentAlone bytes o kept → IsReadQuestion o kept question both q → AreWritable both
+question_writable bytes o kept (follows inclusion) both q d x = subst AreWritable (sym x.both_are) (queries_list_names bytes o kept d.end d.is_document inclusion x.counts q x.is_asked)
+question_writable bytes o kept (has_element class) both q d x = subst AreWritable (sym x.both_are) (classes_list_names bytes o kept d.end d.is_document class x.counts q.sub x.is_asked.0)
+
+-- what was decided of the query of a question answers it
+pub decided_answers : (bytes : List ℕ) (o : Listed) (kept : DocumentContext) (question : Text) (budget : ℕ) (both : Listed) (q : Asked) (log : List Entry) (s : Status) (out : List ℕ) → IsDocumentAlone bytes o kept
+    → IsReadQuestion o kept question both q → IsDecidedBy question budget both q log s out → IsDecided question budget bytes out s log
+decided_answers bytes o kept question budget both q log s out d x found = record {
+  ontology = both;
+  query = q;
+  decision = found.decision;
+  is_question = record { document = o; kept = kept; counts = x.counts; is_document = d; is_asked = x.is_asked; both_are = x.both_are };
+  text = found.text;
+  status = found.status;
+  accepted = accepted both question q found.decision out (question_writable bytes o kept question both q d x) found.is_decision found.kept found.text;
+  logged = found.logged;
+}
+
+-- ---- refusals
+
+pub undocumented : (question : Text) (bytes : List ℕ) (log : List Entry) (u : Unread) → log ≡ [] → IsUnreadDocument bytes u → IsUnanswered question bytes log u
+undocumented question bytes log (U.Document e) none why = (document e why, none)
+undocumented question bytes log (U.Query e) none why = absurd why
+undocumented question bytes log (U.Line n) none why = absurd why
+undocumented question bytes log U.NoMemory none why = tt
+
+pub unasked : (o : Listed) (kept : DocumentContext) (question : Text) (log : List Entry) (u : Unread) → log ≡ [] → IsUnreadQuestion o kept question u → IsUnansweredOn o kept question log u
+unasked o kept question log (U.Query e) none why = (why, none)
+unasked o kept question log (U.Document e) none why = absurd why
+unasked o kept question log (U.Line n) none why = absurd why
+unasked o kept question log U.NoMemory none why = tt
+
+pub unanswered : (question : Text) (bytes : List ℕ) (o : Listed) (kept : DocumentContext) (log : List Entry) (u : Unread) → IsDocumentAlone bytes o kept → IsUnansweredOn o kept question log u → IsUnanswered question bytes log u
+unanswered question bytes o kept log (U.Query e) d why = (query o kept e d why.0, why.1)
+unanswered question bytes o kept log (U.Document e) d why = absurd why
+unanswered question bytes o kept log (U.Line n) d why = absurd why
+unanswered question bytes o kept log U.NoMemory d why = tt
+
+-- ---- answers
+
+abbrev is_no_memory : Status → Bool
+is_no_memory NoMemory = true
+is_no_memory _ = false
+
+no_decision : (d : Decision) → NoMemory ≡ decision_status d → ⊥
+no_decision (Refuted r) is = let clash : true ≡ false = ap is_no_memory is in absurd (cc clash)
+no_decision (Model m) is = let clash : true ≡ false = ap is_no_memory is in absurd (cc clash)
+no_decision Spent is = let clash : true ≡ false = ap is_no_memory is in absurd (cc clash)
+
+decided_status : (question : Text) (budget : ℕ) (bytes out : List ℕ) (s : Status) (log : List Entry) → IsDecided question budget bytes out s log → AnswersQuestion question budget bytes out s log
+decided_status question budget bytes out Done log d = inr d
+decided_status question budget bytes out Rejected log d = inr d
+decided_status question budget bytes out BadWords log d = inr d
+decided_status question budget bytes out BadText log d = inr d
+decided_status question budget bytes out Outside log d = inr d
+decided_status question budget bytes out Limit log d = inr d
+decided_status question budget bytes out ReadFault log d = inr d
+decided_status question budget bytes out WriteFault log d = inr d
+decided_status question budget bytes out Undecided log d = inr d
+decided_status question budget bytes out NoMemory log d = absurd (no_decision d.decision d.status)
+
+refused_status : (question : Text) (budget : ℕ) (bytes out : List ℕ) (s : Status) (log : List Entry) (a : Answer) → Gives a out s → (◌≡◌ {A = Answer} (s, out) a → IsRefused question bytes out s log) → AnswersQuestion question budget bytes out s log
+refused_status question budget bytes out Done log a gives so = inl (so gives)
+refused_status question budget bytes out Rejected log a gives so = inl (so gives)
+refused_status question budget bytes out BadWords log a gives so = inl (so gives)
+refused_status question budget bytes out BadText log a gives so = inl (so gives)
+refused_status question budget bytes out Outside log a gives so = inl (so gives)
+refused_status question budget bytes out Limit log a gives so = inl (so gives)
+refused_status question budget bytes out ReadFault log a gives so = inl (so gives)
+refused_status question budget bytes out WriteFault log a gives so = inl (so gives)
+refused_status question budget bytes out Undecided log a gives so = inl (so gives)
+refused_status question budget bytes out NoMemory log a gives so = gives
+
+-- out of memory is an answer of its own
+memory_status : (question : Text) (budget : ℕ) (bytes out : List ℕ) (s : Status) (log : List Entry) → Gives (NoMemory, no_memory) out s → AnswersQuestion question budget bytes out s log
+memory_status question budget bytes out s log gives = by s gives
+  where
+    other : (s : Status) → is_no_memory s ≡ false → ◌≡◌ {A = Answer} (s, out) (NoMemory, no_memory) → ⊥
+    other s no' is = let clash : false ≡ true = sym no' ∙ ap (λ (a : Answer). is_no_memory a.0) is in absurd (cc clash)
+
+    by : (s : Status) → Gives (NoMemory, no_memory) out s → AnswersQuestion question budget bytes out s log
+    by NoMemory gives = gives
+    by Done gives = absurd (other Done refl gives)
+    by Rejected gives = absurd (other Rejected refl gives)
+    by BadWords gives = absurd (other BadWords refl gives)
+    by BadText gives = absurd (other BadText refl gives)
+    by Outside gives = absurd (other Outside refl gives)
+    by Limit gives = absurd (other Limit refl gives)
+    by ReadFault gives = absurd (other ReadFault refl gives)
+    by WriteFault gives = absurd (other WriteFault refl gives)
+    by Undecided gives = absurd (other Undecided refl gives)
+
+-- the reply to a question that is not answered
+pub unread_answers : (question : Text) (budget : ℕ) (bytes out : List ℕ) (s : Status) (log : List Entry) (u : Unread) → IsUnanswered question bytes log u → Gives (unread_answer u) out s → AnswersQuestion question budget bytes out s log
+unread_answers question budget bytes out s log (U.Document e) why gives =
+    refused_status question budget bytes out s log (unread_answer (U.Document e)) gives (λ is. record { reply = refused_document e; refused = why.0; answer = is; unlogged = why.1 })
+unread_answers question budget bytes out s log (U.Query e) why gives =
+    refused_status question budget bytes out s log (unread_answer (U.Query e)) gives (λ is. record { reply = refused_query e; refused = why.0; answer = is; unlogged = why.1 })
+unread_answers question budget bytes out s log (U.Line n) why gives = absurd why
+unread_answers question budget bytes out s log U.NoMemory why gives = memory_status question budget bytes out s log gives
+
+pub decided_given : (question : Text) (budget : ℕ) (bytes out : List ℕ) (s : Status) (log : List Entry) → IsAnswered question budget bytes log s out → AnswersQuestion question budget bytes out s log
+decided_given question budget bytes out s log d = decided_status question budget bytes out s log d
+
+-- ---- of what a call answers
+
+pub all_answer : {T : Type 0} (bytes : List ℕ) (o : Listed) (kept : DocumentContext) (question : Text) (budget : ℕ) (both : Listed) (q : Asked) (log : List Entry) (r : Result (Status × T) Unread) (text : T → List ℕ)
+    → IsDocumentAlone bytes o kept → IsReadQuestion o kept question both q → IfOk r (λ a. IsDecidedBy question budget both q log a.0 (text a.1)) → IfOk r (λ a. IsAnswered question budget bytes log a.0 (text a.1))
+all_answer bytes o kept question budget both q log (Ok a) text d x found = decided_answers bytes o kept question budget both q log a.0 (text a.1) d x found
+all_answer bytes o kept question budget both q log (Err e) text d x found = tt
+
+pub all_unanswered : {T : Type 0} (question : Text) (bytes : List ℕ) (o : Listed) (kept : DocumentContext) (log : List Entry) (r : Result T Unread) → IsDocumentAlone bytes o kept → IfErr r (IsUnansweredOn o kept question log)
+    → IfErr r (IsUnanswered question bytes log)
+all_unanswered question bytes o kept log (Ok a) d why = tt
+all_unanswered question bytes o kept log (Err e) d why = unanswered question bytes o kept log e d why

@@ -1,0 +1,4 @@
+pub mod Logged
+pub mod Accepted
+pub mod Answered
+pub mod Exclusive

@@ -1,0 +1,14 @@
+use Rattle.std.proofs.lemmas.Result.{err_from_is_err_and}
+use Rattle.job_inputs.specs.Questions.{question_text}
+use Rattle.job_texts.specs.Answer.{text_bytes}
+use Rattle.decision_jobs.proofs.Answered.{question_in_limit, all_answer, unasked}
+use Rattle.decision_jobs.proofs.answering.answered_on.Goals as goal
+
+pub decided-outcome-requires-clause-in_limit : goal.decided-outcome-requires-clause-in_limit
+decided-outcome-requires-clause-in_limit c =
+    question_in_limit c.args.bytes.now c.args.ontology.now c.args.context.now (question_text c.args.question) c.read_question.new.ontology c.in_ok-query.query c.requires.document c.in_ok-query.ensures.read
+
+pub returns-clause-answer : goal.returns-clause-answer
+returns-clause-answer c =
+    all_answer c.args.bytes.now c.args.ontology.now c.args.context.now (question_text c.args.question) c.args.budget c.read_question.new.ontology c.in_ok-query.query c.decided-outcome.new.log c.decided-outcome.result text_bytes
+    c.requires.document c.in_ok-query.ensures.read c.decided-outcome.ensures.decided

@@ -1,0 +1,39 @@
+-- What is known while a question is answered.
+use Rattle.std.specs.Prelude.{◌≡◌, ℕ, [], List}
+use Rattle.shq_terms.specs.Listed.{Listed}
+use Rattle.shq_terms.specs.declared.axioms.Query.{Query as Asked}
+use Rattle.ofn_reader.specs.DocumentContext.{DocumentContext}
+use Rattle.run_log.specs.declared.entry.Entry.{Entry}
+use Rattle.shq_oracle.specs.declared.answer.Answer.{Answer as Decision}
+use Rattle.certificate_check.specs.Checking.{refused_document, refused_query}
+use Rattle.certificate_check.specs.declared.unread.Unread.{Unread}
+use Rattle.certificate_check.specs.declared.unread.Unread.TheVariants as U
+use Rattle.job_texts.specs.declared.status.Status.{Status}
+use Rattle.job_inputs.specs.Questions.{Text, IsNotAskedBy, IsRefusedQuestion}
+use Rattle.decision_jobs.specs.Deciding.{IsDecision, IsKeptModel}
+use Rattle.decision_jobs.specs.Decisions.{decision_text, decision_status, IsLogged, IsDecided}
+
+-- the query was decided, or the budget spent, and this is the text of it
+pub record IsDecidedBy (question : Text) (budget : ℕ) (o : Listed) (q : Asked) (log : List Entry) (s : Status) (out : List ℕ) : Type 0 where
+  pub decision : Decision
+  pub text : out ≡ decision_text o question decision
+  pub status : s ≡ decision_status decision
+  pub is_decision : IsDecision o q decision
+  pub kept : IsKeptModel o decision
+  pub logged : IsLogged o q budget decision log
+
+abbrev pub IsAnswered : Text → ℕ → List ℕ → List Entry → Status → List ℕ → Type 0
+IsAnswered question budget bytes log s out = IsDecided question budget bytes out s log
+
+-- why a question on a document is not answered, and then nothing was asked; or memory was refused
+abbrev pub IsUnansweredOn : Listed → DocumentContext → Text → List Entry → Unread → Type 0
+IsUnansweredOn o kept question log (U.Query e) = IsNotAskedBy o kept question e × (log ≡ [])
+IsUnansweredOn o kept question log (U.Document e) = ⊥
+IsUnansweredOn o kept question log (U.Line n) = ⊥
+IsUnansweredOn o kept question log U.NoMemory = Unit {0}
+
+abbrev pub IsUnanswered : Text → List ℕ → List Entry → Unread → Type 0
+IsUnanswered question bytes log (U.Document e) = IsRefusedQuestion question bytes (refused_document e) × (log ≡ [])
+IsUnanswered question bytes log (U.Query e) = IsRefusedQuestion question bytes (refused_query e) × (log ≡ [])
+IsUnanswered question bytes log (U.Line n) = ⊥
+IsUnanswered question bytes log U.NoMemory = Unit {0}

@@ -1,0 +1,30 @@
+-- Decisions on all axioms of an ontology.
+use Rattle.std.specs.Prelude.{◌≡◌, IsTrue}
+use Rattle.axiom_sets.specs.Sets.{Limited}
+use Rattle.shq_terms.specs.Listed.{Listed}
+use Rattle.shq_terms.specs.declared.axioms.Query.{Query as Asked}
+use Rattle.finite_model.specs.ReadBack.{IsKept}
+use Rattle.finite_model.specs.Written.{uses_listed_names}
+use Rattle.refutation_tree.specs.Written.{names_are_listed}
+use Rattle.run_log.specs.HonestLog.{IsWhole}
+use Rattle.shq_oracle.specs.Decided.{IsAnswer}
+use Rattle.shq_oracle.specs.declared.answer.Answer.{Answer as Decision}
+use Rattle.shq_oracle.specs.declared.answer.Answer.TheVariants.{Refuted, Model, Spent}
+
+-- the evidence shows whether the query follows from all axioms
+pub record IsDecision (o : Listed) (q : Asked) (d : Decision) : Type 0 where
+  pub asked : Limited
+  pub is_whole : IsWhole o asked
+  pub is_answer : IsAnswer o asked q d
+
+-- its names are listed, so that it can be written
+abbrev pub CanBeWritten : Listed → Decision → Type 0
+CanBeWritten o (Refuted r) = IsTrue (names_are_listed o r)
+CanBeWritten o (Model m) = IsTrue (uses_listed_names o m)
+CanBeWritten o Spent = Unit {0}
+
+-- a model is one that its text is read back to
+abbrev pub IsKeptModel : Listed → Decision → Type 0
+IsKeptModel o (Refuted r) = Unit {0}
+IsKeptModel o (Model m) = IsKept o m
+IsKeptModel o Spent = Unit {0}

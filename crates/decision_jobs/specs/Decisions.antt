@@ -1,0 +1,88 @@
+-- What is answered to a question on an ontology.
+use Rattle.std.specs.Prelude.{◌≡◌, ◌⊎◌, ℕ, [], ◌∷◌, ◌++◌, List, codes, Result, Ok}
+use Rattle.axiom_sets.specs.Sets.{Limited}
+use Rattle.shq_terms.specs.Listed.{Listed}
+use Rattle.shq_terms.specs.declared.axioms.Query.{Query as Asked}
+use Rattle.finite_model.specs.Written.{model_text}
+use Rattle.refutation_tree.specs.Written.{refutation_text}
+use Rattle.run_log.specs.declared.entry.Entry.{Entry}
+use Rattle.run_log.specs.declared.entry.Entry.TheVariants.{Test}
+use Rattle.run_log.specs.declared.entry.TestEnd.{TestEnd}
+use Rattle.run_log.specs.HonestLog.{IsWhole, IsDecisionLog}
+use Rattle.shq_oracle.specs.declared.answer.Answer.{Answer as Decision}
+use Rattle.shq_oracle.specs.declared.answer.Answer.TheVariants.{Refuted, Model, Spent}
+use Rattle.shq_oracle.specs.Decided.{Matches}
+use Rattle.certificate_check.specs.Certificates.{certificate}
+use Rattle.certificate_check.specs.Checking.{Reply, IsVerdictOn}
+use Rattle.certificate_check.specs.Replies.{reply_answer}
+use Rattle.certificate_check.specs.declared.certificate.Certificate.TheVariants as C
+use Rattle.certificate_check.specs.declared.judging.Verdict.TheVariants.{Entailed, NotEntailed}
+use Rattle.job_texts.specs.Answer.{line, no_memory, IsAnswer}
+use Rattle.job_texts.specs.declared.status.Status.{Status}
+use Rattle.job_texts.specs.declared.status.Status.TheVariants.{Done, Undecided, NoMemory}
+use Rattle.job_inputs.specs.Questions.{Text, has_element, follows, IsQuestion, IsRefusedQuestion}
+
+-- ---- texts
+
+-- the line that says that the query of a question follows
+abbrev pub yes_line : Text → List ℕ
+yes_line (has_element class) = codes "unsatisfiable"
+yes_line (follows inclusion) = codes "entailed"
+
+-- and the one that says that it does not
+abbrev pub no_line : Text → List ℕ
+no_line (has_element class) = codes "satisfiable"
+no_line (follows inclusion) = codes "not entailed"
+
+-- the verdict, and what shows it
+abbrev pub decision_text : Listed → Text → Decision → List ℕ
+decision_text o question (Refuted r) = line (yes_line question) ++ refutation_text o r
+decision_text o question (Model m) = line (no_line question) ++ model_text o m
+decision_text o question Spent = line (codes "undecided")
+
+abbrev pub decision_status : Decision → Status
+decision_status (Refuted r) = Done
+decision_status (Model m) = Done
+decision_status Spent = Undecided
+
+-- ---- what is true of a decision
+
+-- what is written is a certificate for the query that is accepted: it is read back, and shows the verdict
+abbrev pub IsAccepted : Listed → Asked → List ℕ → Decision → Type 0
+IsAccepted o q out (Refuted r) = (certificate o out ≡ Ok (C.Refutation r)) × IsVerdictOn o q (C.Refutation r) Entailed
+IsAccepted o q out (Model m) = (certificate o out ≡ Ok (C.Model m)) × IsVerdictOn o q (C.Model m) NotEntailed
+IsAccepted o q out Spent = Unit {0}
+
+-- the log of a decision: one honest test of all axioms, which ended as it was decided
+pub record IsLogged (o : Listed) (q : Asked) (budget : ℕ) (d : Decision) (log : List Entry) : Type 0 where
+  pub honest : IsDecisionLog o q budget log
+  pub asked : Limited
+  pub steps : ℕ
+  pub ended : TestEnd
+  pub is_log : log ≡ Test asked q steps ended ∷ []
+  pub matches : Matches d ended
+
+-- ---- the answer to a question
+
+-- the query was decided, or the budget spent
+pub record IsDecided (question : Text) (budget : ℕ) (bytes out : List ℕ) (s : Status) (log : List Entry) : Type 0 where
+  pub ontology : Listed
+  pub query : Asked
+  pub decision : Decision
+  pub is_question : IsQuestion question bytes ontology query
+  pub text : out ≡ decision_text ontology question decision
+  pub status : s ≡ decision_status decision
+  pub accepted : IsAccepted ontology query out decision
+  pub logged : IsLogged ontology query budget decision log
+
+-- the document or the question is refused, and nothing was asked
+pub record IsRefused (question : Text) (bytes out : List ℕ) (s : Status) (log : List Entry) : Type 0 where
+  pub reply : Reply
+  pub refused : IsRefusedQuestion question bytes reply
+  pub answer : IsAnswer (reply_answer reply) out s
+  pub unlogged : log ≡ []
+
+-- the answer, unless memory was refused
+abbrev pub AnswersQuestion : Text → ℕ → List ℕ → List ℕ → Status → List Entry → Type 0
+AnswersQuestion question budget bytes out NoMemory log = out ≡ no_memory
+AnswersQuestion question budget bytes out s log = IsRefused question bytes out s log ⊎ IsDecided question budget bytes out s log

@@ -1,0 +1,4 @@
+pub mod Decisions
+pub mod Deciding
+pub mod Answering
+pub mod Laws

@@ -1,0 +1,125 @@
+// The decision on a query, and its text.
+ghost use Rattle.std.specs.Prelude.{◌≡◌, ◌≤◌, [], ◌++◌, IfOk, OnOk, OnErr, IsTrue};
+ghost use Rattle.ontology_limits.specs.Limits.{IsInLimit};
+ghost use Rattle.finite_model.specs.Written.{model_text, uses_listed_names};
+ghost use Rattle.refutation_tree.specs.Written.{refutation_text, names_are_listed};
+ghost use Rattle.job_texts.specs.Answer.{line, text_bytes};
+ghost use Rattle.job_inputs.specs.Questions.{question_text};
+ghost use Rattle.decision_jobs.specs.Decisions.{yes_line, no_line, decision_text, decision_status, IsLogged};
+ghost use Rattle.decision_jobs.specs.Deciding.{IsDecision, CanBeWritten, IsKeptModel};
+
+use axiom_sets::AxiomSet;
+use job_inputs::Question;
+use job_texts::{Status, Text};
+use shq_base::NoMemory;
+use shq_oracle::{Answer, Oracle, RunLog};
+use shq_terms::{Ontology, Query};
+use std::alloc::Global;
+use std::mem;
+
+/// Whether the query follows from all axioms, within a budget of steps, and why.
+///
+/// # Errors
+///
+/// Out of memory.
+pub(crate) fn decide(
+    alloc: Global,
+    ontology: &Ontology,
+    query: &Query,
+    budget: u32,
+    log: &mut RunLog,
+) -> Result<Answer, NoMemory>
+    requires in_limit { IsInLimit ontology.now query.now }
+    requires unlogged { log.old ≡ [] }
+    ensures decision { IfOk result (IsDecision ontology.now query.now) }
+    ensures logged { IfOk result (λ d. IsLogged ontology.now query.now budget d log.new) }
+{
+    let begun = mem::replace(log, RunLog::new(alloc));
+    let mut oracle = Oracle::new(alloc, ontology, budget, begun);
+    let outcome = ask(alloc, &mut oracle, ontology, query);
+    *log = oracle.into_log();
+    outcome
+}
+
+fn ask(
+    alloc: Global,
+    oracle: &mut Oracle<'_>,
+    ontology: &Ontology,
+    query: &Query,
+) -> Result<Answer, NoMemory>
+    requires same { oracle.old.ontology ≡ ontology.now }
+    requires in_limit { IsInLimit ontology.now query.now }
+    requires unlogged { oracle.old.log ≡ [] }
+    ensures decision { IfOk result (IsDecision ontology.now query.now) }
+    ensures logged { IfOk result (λ d. IsLogged ontology.now query.now oracle.old.budget d oracle.new.log) }
+{
+    let all = AxiomSet::full(alloc, ontology.axiom_count())?;
+    oracle.decide(&all, query)
+}
+
+/// How a run ends that decides so.
+pub(crate) fn status_of(decision: &Answer) -> Status
+    ensures { result ≡ decision_status decision.now }
+{
+    match decision {
+        Answer::Refuted(_) | Answer::Model(_) => Status::Done,
+        Answer::Spent => Status::Undecided,
+    }
+}
+
+/// The text of a decision.
+///
+/// # Errors
+///
+/// Out of memory.
+pub(crate) fn text_of(
+    alloc: Global,
+    question: Question<'_>,
+    ontology: &Ontology,
+    decision: &Answer,
+) -> Result<Text, NoMemory>
+    requires { CanBeWritten ontology.now decision.now }
+    ensures text { IfOk result (λ text. text_bytes text ≡ decision_text ontology.now (question_text question.entry) decision.now) }
+    ensures kept { OnOk result (IsKeptModel ontology.now decision.now) }
+{
+    let mut out = Vec::new(alloc);
+    match decision {
+        Answer::Refuted(refutation) => {
+            push_line(&mut out, yes_line(question))?;
+            refutation.text(alloc, &mut out, ontology)?;
+        }
+        Answer::Model(model) => {
+            push_line(&mut out, no_line(question))?;
+            model.text(alloc, &mut out, ontology)?;
+        }
+        Answer::Spent => push_line(&mut out, "undecided")?,
+    }
+    Ok(Text::Bytes(out))
+}
+
+// Appends a line.
+fn push_line(out: &mut Vec<u8>, text: &str) -> Result<(), NoMemory>
+    ensures { OnOk result (out.new.items ≡ out.old.items ++ line text.now) }
+{
+    out.extend_from_slice(text.as_bytes())?;
+    out.push(b'\n')?;
+    Ok(())
+}
+
+fn yes_line(question: Question<'_>) -> &'static str
+    ensures { result.now ≡ yes_line (question_text question.entry) }
+{
+    match question {
+        Question::HasElement(_) => "unsatisfiable",
+        Question::Follows(_) => "entailed",
+    }
+}
+
+fn no_line(question: Question<'_>) -> &'static str
+    ensures { result.now ≡ no_line (question_text question.entry) }
+{
+    match question {
+        Question::HasElement(_) => "satisfiable",
+        Question::Follows(_) => "not entailed",
+    }
+}
