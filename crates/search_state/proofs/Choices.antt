@@ -104,18 +104,21 @@ module _ (w : SearchContext) (old : ProgressLists) (st : IsStanding w old) where
         places = place ∷ st.places;
         traced = subst (λ (i : ℕ). IsTracedAt w.theory w.table (noted_start old.query.sub old.query.sup) (with_branching old.trace line u i) (place ∷ st.places) (marked_in es)) (sym long)
             (subst (λ (ns : List MarkedFact). IsTracedAt w.theory w.table (noted_start old.query.sub old.query.sup) (with_branching old.trace line u (length rest)) (place ∷ st.places) ns) (sym all_marked) traced);
-        are_marks = (record {
-          choice = c;
-          stands = get-behind old.entries (Mark c) (Grounded f by ∷ []);
-          line = refl;
-          before = ap marked_in front;
-          grounded = st.grounded;
-          known = r.resting.knows;
-          facts = facts_in old.entries;
-          children = r.children;
-          alternatives = r.alternatives;
-          rest = refl;
-        }, subst (λ (us : List Entry). AreMarks w us old.marks st.places) (sym front) st.are_marks);
+        are_marks = (
+          record {
+            choice = c;
+            stands = get-behind old.entries (Mark c) (Grounded f by ∷ []);
+            line = refl;
+            before = ap marked_in front;
+            grounded = st.grounded;
+            known = r.resting.knows;
+            facts = facts_in old.entries;
+            children = r.children;
+            alternatives = r.alternatives;
+            rest = refl;
+          },
+          subst (λ (us : List Entry). AreMarks w us old.marks st.places) (sym front) st.are_marks,
+        );
         grounded = subst AreGrounded (sym all_marked) ground;
         fit = lines_fit w old st m line u r.children (branch_nodes (branch_of k)) r.resting;
       })
@@ -164,18 +167,21 @@ module _ (w : SearchContext) (s : ProgressLists) (mark : ℕ) (marks : NumberSet
         is_legal = subst (λ (xs : List Item). IsLegal w (items_of s.entries) xs) (sym (items-choice front c f by ∙ ap (λ (is : List Item). is ++ Marks c ∷ Says f ∷ []) (take_items l.at s.entries))) legal;
         places = place ∷ t.older;
         traced = subst (λ (ns : List MarkedFact). IsTracedAt w.theory w.table (noted_start s.query.sub s.query.sup) s.trace (place ∷ t.older) ns) (sym all_marked) traced;
-        are_marks = (record {
-          choice = c;
-          stands = stands;
-          line = m.line;
-          before = ap marked_in here ∙ m.before;
-          grounded = m.grounded;
-          known = m.known;
-          facts = m.facts;
-          children = m.children;
-          alternatives = m.alternatives;
-          rest = refl;
-        }, subst (λ (us : List Entry). AreMarks w us l.older t.older) (sym here) l.others);
+        are_marks = (
+          record {
+            choice = c;
+            stands = stands;
+            line = m.line;
+            before = ap marked_in here ∙ m.before;
+            grounded = m.grounded;
+            known = m.known;
+            facts = m.facts;
+            children = m.children;
+            alternatives = m.alternatives;
+            rest = refl;
+          },
+          subst (λ (us : List Entry). AreMarks w us l.older t.older) (sym here) l.others,
+        );
         grounded = subst AreGrounded (sym all_marked) ground;
         fit = t.fit;
       })

@@ -92,7 +92,7 @@ module _ (w : SearchContext) (sub not_sup : ℕ) where
       let here = and_parts (over l.line) (list_all over (map (λ m. m.line) ls)) a in
       let cs = and_parts (part_there w.theory l.line) (list_all (part_there w.theory) (map (λ m. m.line) ls)) c in
       let bs : (p : Concept → Bool) (e : ℕ → Bool) → IsKept w.theory (λ c. p c ≡ true) (λ r. e r ≡ true) → p (tree_of w.table sub) ≡ true → p (tree_of w.table not_sup) ≡ true
-          → (of_kind p l.line ≡ true) × (list_all (of_kind p) (map (λ m. m.line) ls) ≡ true) =
+      → (of_kind p l.line ≡ true) × (list_all (of_kind p) (map (λ m. m.line) ls) ≡ true) =
       (λ p e kept is_sub is_not_sup. and_parts (of_kind p l.line) (list_all (of_kind p) (map (λ m. m.line) ls)) (b p e kept is_sub is_not_sup)) in
       All-cons (IsFitLine w sub not_sup) l ls
       (record { over = here.0; of_kind = λ p e kept is_sub is_not_sup. (bs p e kept is_sub is_not_sup).0; has_part = has_part w.theory l.line cs.0 })

@@ -68,8 +68,10 @@ module _ (w : SearchContext) where
   marks_stay es more [] [] h = tt
   marks_stay es more [] (p ∷ ps) h = absurd h
   marks_stay es more (at ∷ ats) [] h = absurd h
-  marks_stay es more (at ∷ ats) (p ∷ ps) h = (mark_stays es more at p h.0,
-    subst (λ (us : List Entry). AreMarks w us ats ps) (sym (take-front es more at (omega (arith, get-within es at _ h.0.stands)))) h.1)
+  marks_stay es more (at ∷ ats) (p ∷ ps) h = (
+    mark_stays es more at p h.0,
+    subst (λ (us : List Entry). AreMarks w us ats ps) (sym (take-front es more at (omega (arith, get-within es at _ h.0.stands)))) h.1,
+  )
 
   -- ---- a trail that is cut
 

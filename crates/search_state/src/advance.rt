@@ -15,15 +15,17 @@ ghost use Rattle.search_state.specs.Turning.{IsTurning};
 ghost use Rattle.search_state.specs.Advancing.{HasAdvanced};
 ghost use Rattle.search_state.specs.Stepping.{IsStepped};
 
-use crate::{NoMemory, Stepped};
 use crate::alternatives::{count_alternatives, fact_of};
 use crate::progress::Progress;
 use crate::resting::{rest_addition, rest_choice, rest_new_nodes};
+use crate::{NoMemory, Stepped};
 use completion_tree::Deps;
 use fact_specs::Fact;
 use search_trace::Back;
 use std::alloc::Allocator;
-use step_finders::{Addition, Choosing, Clash, NewNodes, Rules, Step, find_step, no_step_is_saturated};
+use step_finders::{
+    Addition, Choosing, Clash, NewNodes, Rules, Step, find_step, no_step_is_saturated,
+};
 use tree_state::TreeState;
 
 impl<'b, A: Allocator + Copy> Progress<'b, A> {

@@ -89,12 +89,7 @@ fn fact_of_filler<R: Rules>(
     }
 }
 
-fn fact_of_pair<R: Rules>(
-    rules: &R,
-    first: u32,
-    second: u32,
-    alternative: u32,
-) -> Option<Fact<u32>>
+fn fact_of_pair<R: Rules>(rules: &R, first: u32, second: u32, alternative: u32) -> Option<Fact<u32>>
     ensures { IfSome result (IsAlternative (R.context rules.now).table (Pair first second) alternative) }
 {
     let _ = rules;

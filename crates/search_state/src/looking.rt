@@ -11,7 +11,8 @@ use completion_tree::Tree;
 use fact_specs::Fact;
 use std::alloc::{Allocator, Global};
 use step_finders::{
-    Clash, NewNodes, Rules, find_clash, find_clash_of_apart, find_clash_of_join, find_clash_of_new_nodes,
+    Clash, NewNodes, Rules, find_clash, find_clash_of_apart, find_clash_of_join,
+    find_clash_of_new_nodes,
 };
 use tree_state::TreeState;
 

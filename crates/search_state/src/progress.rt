@@ -111,7 +111,8 @@ impl<'b, A: Allocator + Copy> Progress<'b, A> {
             line: number,
             marks,
         };
-        self.tree.add(Fact::Has(addition.node, addition.concept), by)?;
+        self.tree
+            .add(Fact::Has(addition.node, addition.concept), by)?;
         blocks_stay();
         follow(&self.tree, &mut self.prints, place, nodes)?;
         facts_stay_grounded();
@@ -155,7 +156,9 @@ impl<'b, A: Allocator + Copy> Progress<'b, A> {
             line: number,
             marks,
         };
-        let first = self.tree.fresh(new.parent, new.role, new.filler, new.count, by)?;
+        let first = self
+            .tree
+            .fresh(new.parent, new.role, new.filler, new.count, by)?;
         blocks_stay();
         follow(&self.tree, &mut self.prints, place, nodes)?;
         new_nodes_stay_grounded();

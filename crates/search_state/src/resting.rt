@@ -81,7 +81,10 @@ pub(crate) fn rest_addition<A: Allocator + Copy, R: Rules>(
 {
     let line = line_of_addition(alloc, &TreeState::new(tree, prints), rules, addition)?;
     let marks = marks_of_all(alloc, tree, &line.grounds)?;
-    Ok(RestingLine { line: line.line, marks })
+    Ok(RestingLine {
+        line: line.line,
+        marks,
+    })
 }
 
 /// The line of new nodes.
@@ -99,7 +102,10 @@ pub(crate) fn rest_new_nodes<A: Allocator + Copy, R: Rules>(
 {
     let line = line_of_new_nodes(alloc, &TreeState::new(tree, prints), rules, new)?;
     let marks = marks_of_all(alloc, tree, &line.grounds)?;
-    Ok(RestingLine { line: line.line, marks })
+    Ok(RestingLine {
+        line: line.line,
+        marks,
+    })
 }
 
 /// The line of a choice.
@@ -118,7 +124,10 @@ pub(crate) fn rest_choice<A: Allocator + Copy, R: Rules>(
 {
     let line = line_of_choice(alloc, &TreeState::new(tree, prints), rules, choosing)?;
     let marks = marks_of_all(alloc, tree, &line.grounds)?;
-    Ok(RestingLine { line: line.line, marks })
+    Ok(RestingLine {
+        line: line.line,
+        marks,
+    })
 }
 
 /// The line of a clash.
@@ -136,5 +145,8 @@ pub(crate) fn rest_clash<A: Allocator + Copy, R: Rules>(
 {
     let line = line_of_clash(alloc, &TreeState::new(tree, prints), rules, clash)?;
     let marks = marks_of_all(alloc, tree, &line.grounds)?;
-    Ok(RestingLine { line: line.line, marks })
+    Ok(RestingLine {
+        line: line.line,
+        marks,
+    })
 }

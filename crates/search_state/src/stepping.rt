@@ -93,11 +93,7 @@ impl<'b, A: Allocator + Copy> Progress<'b, A> {
     }
 
     // Closes everything by the line of a clash that turns to no alternative.
-    fn close_all<R: Rules>(
-        &mut self,
-        rules: &R,
-        resting: RestingLine,
-    ) -> Result<Rested, NoMemory>
+    fn close_all<R: Rules>(&mut self, rules: &R, resting: RestingLine) -> Result<Rested, NoMemory>
         requires standing { IsStanding (R.context rules.now) self.old }
         requires clash { HasClash (R.context rules.now) (items_of self.old.entries) }
         requires rests { RestsClash (R.context rules.now) self.old.entries (line_of resting.line) resting.marks }

@@ -13,5 +13,5 @@ pub returns : goal.returns
 returns g c =
     let w = g.R.Rules.context c.args.rules.now in
     let hold = subst (λ (gs : List (Fact ℕ)). HoldWithin c.in_ok-marks.marks (marked_in c.args.tree.now) gs) c.deref.ensures.value c.in_ok-marks.ensures in
-    clash_rests w c.args.tree.now (line_of c.in_ok-line.line.line) c.in_ok-line.line.grounds.items c.in_ok-marks.marks c.requires.grounded hold 
+    clash_rests w c.args.tree.now (line_of c.in_ok-line.line.line) c.in_ok-line.line.grounds.items c.in_ok-marks.marks c.requires.grounded hold
     (subst (λ (es : List Entry). ServesClash w (facts_in es) (line_of c.in_ok-line.line.line) c.in_ok-line.line.grounds.items) c.new.ensures.tree c.in_ok-line.ensures)
