@@ -50,6 +50,7 @@ pub struct Found {
 pub fn enumerate<E: Entail>(alloc: Global, entail: &mut E) -> Result<Found, NoMemory>
     requires { (E.meaning entail.old).taken ≡ [] }
     ensures keeps { Keeps (E.meaning entail.old) (E.meaning entail.new) }
+    ensures same { E.origin entail.new ≡ E.origin entail.old }
     ensures found { IfOk result (IsFound (E.meaning entail.new)) }
     ensures asked { OnOk result (AsksFew (E.meaning entail.new).size (E.meaning entail.old) (E.meaning entail.new)) }
 {
@@ -92,6 +93,7 @@ fn grow<E: Entail>(
     requires beside { IsBeside (E.meaning entail.old).taken (lists tree.old).frames root }
     requires covered { IsCovered (lists tree.old) (InNode root) }
     ensures keeps { Keeps (E.meaning entail.old) (E.meaning entail.new) }
+    ensures same { E.origin entail.new ≡ E.origin entail.old }
     ensures closed { IfOk result (Closes (E.meaning entail.new).taken (lists tree.new)) }
     ensures grown { IfOk result (IsGrown (E.meaning entail.new) (lists tree.new)) }
     ensures asked { OnOk result (AsksFew (E.meaning entail.old).size (E.meaning entail.old) (E.meaning entail.new)) }
@@ -109,6 +111,7 @@ fn run<E: Entail>(alloc: Global, entail: &mut E, tree: &mut Tree) -> Result<bool
     requires open { HasOpen (E.meaning entail.old).taken (lists tree.old) tree.old.rooted }
     requires covered { IsCovered (lists tree.old) (λ _. ⊥) }
     ensures keeps { Keeps (E.meaning entail.old) (E.meaning entail.new) }
+    ensures same { E.origin entail.new ≡ E.origin entail.old }
     ensures closed { IfOk result (Closes (E.meaning entail.new).taken (lists tree.new)) }
     ensures grown { IfOk result (IsGrown (E.meaning entail.new) (lists tree.new)) }
     ensures asked { OnOk result (AsksFew (E.meaning entail.old).size (E.meaning entail.old) (E.meaning entail.new)) }
@@ -133,6 +136,7 @@ fn look_on<E: Entail>(
     requires listed { IsListed (E.meaning entail.old) (lists tree.old) }
     requires open { HasOpen (E.meaning entail.old).taken (with_frame (lists tree.old) frame) tree.old.rooted }
     ensures keeps { Keeps (E.meaning entail.old) (E.meaning entail.new) }
+    ensures same { E.origin entail.new ≡ E.origin entail.old }
     ensures open { IfOk result (StaysOpen (E.meaning entail.new).taken (lists tree.new) tree.new.rooted) }
     ensures step { IfOk result
         (IsStep (E.meaning entail.new) (lists tree.old) (lists tree.new) (InFrame frame) (frame_weight frame)) }
@@ -164,6 +168,7 @@ fn visit<E: Entail>(
     requires open { HasOpen (E.meaning entail.old).taken (lists tree.old) tree.old.rooted }
     requires beside { IsBeside (E.meaning entail.old).taken (lists tree.old).frames node }
     ensures keeps { Keeps (E.meaning entail.old) (E.meaning entail.new) }
+    ensures same { E.origin entail.new ≡ E.origin entail.old }
     ensures open { IfOk result (StaysOpen (E.meaning entail.new).taken (lists tree.new) tree.new.rooted) }
     ensures step { IfOk result
         (IsStep (E.meaning entail.new) (lists tree.old) (lists tree.new) (InNode node) (node_weight node)) }
@@ -204,6 +209,7 @@ fn take_and_ask<E: Entail>(
     requires open { HasOpen (E.meaning entail.old).taken (lists tree.old) tree.old.rooted }
     requires beside { IsBeside (E.meaning entail.old).taken (lists tree.old).frames node }
     ensures keeps { Keeps (E.meaning entail.old) (E.meaning entail.new) }
+    ensures same { E.origin entail.new ≡ E.origin entail.old }
     ensures open { IfOk result (StaysOpen (E.meaning entail.new).taken (lists tree.new) tree.new.rooted) }
     ensures step { IfOk result
         (IsStep (E.meaning entail.new) (lists tree.old) (lists tree.new) (InNode node) (node_weight node)) }
@@ -223,6 +229,7 @@ fn take_path<E: Entail>(entail: &mut E, tree: &Tree, node: &Node) -> Result<bool
     requires open { HasOpen (E.meaning entail.old).taken (lists tree.now) tree.now.rooted }
     requires beside { IsBeside (E.meaning entail.old).taken (lists tree.now).frames node.now }
     ensures keeps { Keeps (E.meaning entail.old) (E.meaning entail.new) }
+    ensures same { E.origin entail.new ≡ E.origin entail.old }
     ensures taken { IfOk result (TakesPath (E.meaning entail.new) (lists tree.now) node.now) }
     ensures asks { (E.meaning entail.new).asks ≡ (E.meaning entail.old).asks }
     ensures more { IfOk result (λ b. b ≡ true →
@@ -250,6 +257,7 @@ fn ask_node<E: Entail>(
     requires listed { IsListed (E.meaning entail.old) (lists tree.old) }
     requires pending { HasPending (E.meaning entail.old).taken (lists tree.old) node }
     ensures keeps { Keeps (E.meaning entail.old) (E.meaning entail.new) }
+    ensures same { E.origin entail.new ≡ E.origin entail.old }
     ensures taken { (E.meaning entail.new).taken ≡ (E.meaning entail.old).taken }
     ensures open { IfOk result (StaysOpen (E.meaning entail.new).taken (lists tree.new) tree.new.rooted) }
     ensures step { IfOk result
@@ -276,6 +284,7 @@ fn settle<E: Entail>(
     requires pending { HasPending (E.meaning entail.old).taken (lists tree.old) node }
     requires answer { Answers (E.meaning entail.old) (others node) answer }
     ensures keeps { Keeps (E.meaning entail.old) (E.meaning entail.new) }
+    ensures same { E.origin entail.new ≡ E.origin entail.old }
     ensures taken { (E.meaning entail.new).taken ≡ (E.meaning entail.old).taken }
     ensures open { IfOk result (StaysOpen (E.meaning entail.new).taken (lists tree.new) tree.new.rooted) }
     ensures step { IfOk result
@@ -305,6 +314,7 @@ fn label_node<E: Entail>(
     requires pending { HasPending (E.meaning entail.old).taken (lists tree.old) node }
     requires part { Answers (E.meaning entail.old) (others node) (Ask.Yes part.now) }
     ensures keeps { Keeps (E.meaning entail.old) (E.meaning entail.new) }
+    ensures same { E.origin entail.new ≡ E.origin entail.old }
     ensures taken { (E.meaning entail.new).taken ≡ (E.meaning entail.old).taken }
     ensures open { IfOk result (StaysOpen (E.meaning entail.new).taken (lists tree.new) tree.new.rooted) }
     ensures step { IfOk result

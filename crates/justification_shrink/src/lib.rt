@@ -39,6 +39,7 @@ pub fn shrink<E: Entail>(entail: &mut E, start: &AxiomSet) -> Result<Shrunk, NoM
     ensures shrunk { IfOk result (ShrinksTo (E.meaning entail.new) start.now) }
     ensures asked { (E.meaning entail.new).asks ≤ (E.meaning entail.old).asks + length (member_list start.now) }
     ensures keeps { Keeps (E.meaning entail.old) (E.meaning entail.new) }
+    ensures same { E.origin entail.new ≡ E.origin entail.old }
     ensures taken { (E.meaning entail.new).taken ≡ (E.meaning entail.old).taken }
 {
     let mut kept = start.try_clone()?;
@@ -65,6 +66,7 @@ fn try_without<E: Entail>(
     ensures asked { (E.meaning entail.new).asks ≤ (E.meaning entail.old).asks
         + cond (set.contains kept.members number) 1 0 }
     ensures keeps { Keeps (E.meaning entail.old) (E.meaning entail.new) }
+    ensures same { E.origin entail.new ≡ E.origin entail.old }
     ensures taken { (E.meaning entail.new).taken ≡ (E.meaning entail.old).taken }
 {
     if !kept.has(number) {

@@ -4,7 +4,8 @@
 //! of a set that does so does so too: it is a black box, as in "Finding All Justifications of OWL DL Entailments"
 //! (Aditya Kalyanpur, Bijan Parsia, Matthew Horridge and Evren Sirin, ISWC 2007). [`Entail`] is that box, with what its
 //! calls may change said by one member, its meaning: which sets are yes-sets, the budget that is left, how many asks
-//! were answered, which nodes were taken, and what was shown. [`SetOracle`] is the box over a list of sets in memory.
+//! were answered, which nodes were taken, and what was shown. What no call changes is another one, its origin.
+//! [`SetOracle`] is the box over a list of sets in memory.
 //!
 //! Besides there is what the algorithms over any such object share: the first listed set that is part of a set or apart
 //! from it, what a set lacks, and lists in the order of sets.

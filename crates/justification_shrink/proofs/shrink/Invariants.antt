@@ -14,4 +14,5 @@ invariant-loop-place g l =
       asked : m.asks ≤ before.asks + length (members_below l.start.members (l.place + 1));
       keeps : Keeps before m;
       taken : m.taken ≡ before.taken;
+      same : g.E.Entail.origin l.entail ≡ g.E.Entail.origin l.fn.entail;
     }

@@ -60,6 +60,7 @@ loop-frame-preserved g c =
       open' = open';
       covered = step.covered c.if-not-went_on.false (uncovered ls c.in-Some.frame covered);
       asked = few_on m0 m m' m0.size m.size c.loop-frame.invariant.keeps.same_size c.loop-frame.invariant.asked c.in_ok-went_on.ensures.asked;
+      same = c.look_on.ensures.same ∙ c.loop-frame.invariant.same;
     }
 
 pub returns-in_err-went_on-clause-keeps : goal.returns-in_err-went_on-clause-keeps

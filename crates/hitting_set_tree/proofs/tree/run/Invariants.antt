@@ -1,3 +1,4 @@
+use Rattle.std.proofs.Common.{◌≡◌}
 use Rattle.set_questions.specs.Meaning.{Keeps}
 use Rattle.hitting_set_frames.specs.Weight.{weight}
 use Rattle.hitting_set_tree.specs.Tree.{lists, IsListed, IsCovered}
@@ -14,6 +15,7 @@ invariant-loop-frame g l =
       open' : HasOpen m.taken (lists l.tree) l.tree.rooted;
       covered : IsCovered (lists l.tree) (λ _. ⊥);
       asked : AsksFew before.size before m;
+      same : g.E.Entail.origin l.entail ≡ g.E.Entail.origin l.fn.entail;
     }
 
 abbrev pub decreases-loop-frame : goal.decreases-loop-frame

@@ -51,6 +51,7 @@ loop-place-preserved g c =
       beside = path_beside m m' m0.size (lists tree) place frame old.open' c.requires.frames lt takes' c.args.node.now old.beside;
       asks = c.take_node.ensures.asks ∙ old.asks;
       grown = omega (arith, old.grown, one_longer m m' frame.hit takes);
+      same = c.take_node.ensures.same ∙ old.same;
     }
 
 pub take_node-requires-2-clause-fresh : goal.take_node-requires-2-clause-fresh

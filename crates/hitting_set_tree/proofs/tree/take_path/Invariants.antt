@@ -14,4 +14,5 @@ invariant-loop-place g l =
       beside : IsBeside m.taken (lists l.tree).frames l.node;
       asks : m.asks ≡ before.asks;
       grown : length before.taken ≤ length m.taken;
+      same : g.E.Entail.origin l.entail ≡ g.E.Entail.origin l.fn.entail;
     }
