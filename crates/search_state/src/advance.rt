@@ -1,5 +1,5 @@
 // The next step of a search.
-ghost use Rattle.std.specs.Prelude.{◌≡◌, ◌+◌, ◌<◌, ◌^◌, None, MatchOption, OnOk, IfOk};
+ghost use Rattle.std.specs.Prelude.{◌≡◌, ◌+◌, ◌<◌, ◌^◌, None, MatchOption, OnOk, IfOk, IfSome};
 ghost use Rattle.completion_tree.specs.Trail.{facts_in};
 ghost use Rattle.blocking.specs.Followed.{IsCurrent};
 ghost use Rattle.step_finders.specs.Clashing.{IsShown};
@@ -99,6 +99,17 @@ impl<'b, A: Allocator + Copy> Progress<'b, A> {
         }
     }
 
+    // A step at the latest facts, where one is seen there.
+    fn latest_step<R: Rules>(&mut self, rules: &R) -> Result<Option<Step>, NoMemory>
+        requires { IsCurrent (facts_in self.old.entries) self.old.prints }
+        ensures found { let w = R.context rules.now in let fs = facts_in self.old.entries in
+            IfOk result (λ found. IfSome found (IsStep w fs (R.files rules.now))) }
+        ensures same { self.new ≡ self.old }
+    {
+        let state = TreeState::new(&self.tree, &self.prints);
+        self.agenda.next(self.heap, &self.tree, &state, rules)
+    }
+
     // The next step where there is no plain clash; none exactly where there is none.
     pub(crate) fn next_step<R: Rules>(&self, rules: &R) -> Result<Option<Step>, NoMemory>
         requires { IsCurrent (facts_in self.now.entries) self.now.prints }
@@ -124,8 +135,24 @@ impl<'b, A: Allocator + Copy> Progress<'b, A> {
         }
     }
 
-    // What there is to do where there is no plain clash.
+    // What there is to do where there is no plain clash, at the latest facts first.
     fn go_on<R: Rules>(&mut self, rules: &R) -> Result<Stepped, NoMemory>
+        requires standing { IsStanding (R.context rules.now) self.old }
+        requires none { IsClashOf (R.context rules.now) (facts_in self.old.entries) None }
+        requires countable { self.old.steps + 1 < 2 ^ 64 }
+        ensures { IfOk result (IsStepped (R.context rules.now) self.old self.new) }
+    {
+        match self.latest_step(rules)? {
+            Some(step) => {
+                self.make(rules, &step)?;
+                Ok(Stepped::Moved)
+            }
+            None => self.go_on_anywhere(rules),
+        }
+    }
+
+    // What there is to do where there is no plain clash.
+    fn go_on_anywhere<R: Rules>(&mut self, rules: &R) -> Result<Stepped, NoMemory>
         requires standing { IsStanding (R.context rules.now) self.old }
         requires none { IsClashOf (R.context rules.now) (facts_in self.old.entries) None }
         requires countable { self.old.steps + 1 < 2 ^ 64 }

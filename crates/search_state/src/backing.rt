@@ -84,6 +84,7 @@ impl<'b, A: Allocator + Copy> Progress<'b, A> {
         facts_stay_grounded();
         alternatives_speak_of_nodes();
         self.steps += 1;
+        self.agenda = self.agenda.back_to(place);
         Ok(fact)
     }
 }

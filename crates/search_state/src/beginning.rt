@@ -16,6 +16,7 @@ use fact_specs::Fact;
 use search_trace::Trace;
 use shq_terms::Query;
 use std::alloc::{Allocator, Global};
+use step_agenda::Agenda;
 use step_finders::{Clash, Rules};
 
 impl<'b, A: Allocator + Copy> Progress<'b, A> {
@@ -55,6 +56,7 @@ impl<'b, A: Allocator + Copy> Progress<'b, A> {
             marks: Vec::new(heap),
             clash,
             steps: 0,
+            agenda: Agenda::new(),
         })
     }
 }

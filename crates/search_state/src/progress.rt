@@ -27,6 +27,7 @@ use search_trace::Trace;
 use shq_terms::Query;
 use std::alloc::{Allocator, Global};
 use std::marker::Model;
+use step_agenda::Agenda;
 use step_finders::{Addition, Choosing, Clash, NewNodes, Rules};
 use step_lines::{alternatives_speak_of_nodes, facts_stay_grounded, new_nodes_stay_grounded};
 
@@ -43,6 +44,9 @@ pub struct Progress<'b, A: Allocator> {
     pub(crate) marks: Vec<u32>,
     pub(crate) clash: Option<Clash>,
     pub(crate) steps: u64,
+
+    // Where a next step is looked for first. No contract speaks of it.
+    pub(crate) agenda: Agenda,
 }
 
 impl<'b, A: Allocator> Model for Progress<'b, A> {

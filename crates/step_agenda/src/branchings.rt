@@ -1,0 +1,120 @@
+// What a fact makes to be chosen.
+ghost use Rattle.std.specs.Prelude.{◌≡◌, ◌<◌, IfOk, IfSome};
+ghost use Rattle.step_finders.specs.Choosing.{IsChoosable};
+
+use crate::NoMemory;
+use completion_tree::{Item, Tree};
+use fact_specs::Fact;
+use std::alloc::{Allocator, Global};
+use step_finders::{Choosing, Rules, State, find_most_at, find_most_by, find_union_by};
+
+/// The first entry from this one on by which a filler or a pair of successors is to be chosen, and which; or the length of the
+/// trail.
+///
+/// # Errors
+///
+/// Want of memory.
+pub(crate) fn first_most<A: Allocator + Copy, S: State, R: Rules>(
+    heap: Global,
+    tree: &Tree<A>,
+    state: &S,
+    rules: &R,
+    from: u32,
+) -> Result<(u32, Option<Choosing>), NoMemory>
+    ensures { IfOk result (λ p. IfSome p.1 (IsChoosable (R.context rules.now) (S.facts state.now))) }
+{
+    for place in from..tree.len() {
+        match most_by(heap, tree.item(place), state, rules)? {
+            Some(choosing) => return Ok((place, Some(choosing))),
+            None => {}
+        }
+    }
+    Ok((tree.len(), None))
+}
+
+// What is to be chosen by the entry, where it is a concept or an edge.
+fn most_by<S: State, R: Rules>(
+    heap: Global,
+    item: Item,
+    state: &S,
+    rules: &R,
+) -> Result<Option<Choosing>, NoMemory>
+    ensures { IfOk result (λ found. IfSome found (IsChoosable (R.context rules.now) (S.facts state.now))) }
+{
+    match item {
+        Item::Fact(Fact::Has(node, concept)) => {
+            most_of(heap, state, rules, state.representative(node), concept)
+        }
+        Item::Fact(Fact::Edge(_, from, _)) => {
+            most_at(heap, state, rules, state.representative(from))
+        }
+        _ => Ok(None),
+    }
+}
+
+fn most_of<S: State, R: Rules>(
+    heap: Global,
+    state: &S,
+    rules: &R,
+    node: u32,
+    concept: u32,
+) -> Result<Option<Choosing>, NoMemory>
+    ensures { IfOk result (λ found. IfSome found (IsChoosable (R.context rules.now) (S.facts state.now))) }
+{
+    if node >= state.nodes() || !state.has(node, concept) {
+        return Ok(None);
+    }
+    find_most_by(heap, state, rules, node, concept)
+}
+
+fn most_at<S: State, R: Rules>(
+    heap: Global,
+    state: &S,
+    rules: &R,
+    node: u32,
+) -> Result<Option<Choosing>, NoMemory>
+    ensures { IfOk result (λ found. IfSome found (IsChoosable (R.context rules.now) (S.facts state.now))) }
+{
+    if node >= state.nodes() {
+        return Ok(None);
+    }
+    find_most_at(heap, state, rules, node)
+}
+
+/// The first entry from this one on that is a union of which a part is to be chosen; or the length of the trail.
+pub(crate) fn first_union<A: Allocator + Copy, S: State, R: Rules>(
+    tree: &Tree<A>,
+    state: &S,
+    rules: &R,
+    from: u32,
+) -> (u32, Option<Choosing>)
+    ensures { IfSome result.1 (IsChoosable (R.context rules.now) (S.facts state.now)) }
+{
+    for place in from..tree.len() {
+        match union_by(tree.item(place), state, rules) {
+            Some(choosing) => return (place, Some(choosing)),
+            None => {}
+        }
+    }
+    (tree.len(), None)
+}
+
+fn union_by<S: State, R: Rules>(item: Item, state: &S, rules: &R) -> Option<Choosing>
+    ensures { IfSome result (IsChoosable (R.context rules.now) (S.facts state.now)) }
+{
+    match item {
+        Item::Fact(Fact::Has(node, concept)) => {
+            union_of(state, rules, state.representative(node), concept)
+        }
+        _ => None,
+    }
+}
+
+fn union_of<S: State, R: Rules>(state: &S, rules: &R, node: u32, concept: u32) -> Option<Choosing>
+    ensures { IfSome result (IsChoosable (R.context rules.now) (S.facts state.now)) }
+{
+    if node >= state.nodes() || !state.has(node, concept) {
+        return None;
+    }
+    find_union_by(state, rules, node, concept)
+}
