@@ -1,6 +1,6 @@
 // Questions whether queries follow, answered within a budget.
-ghost use Rattle.std.specs.Prelude.{◌≡◌, ◌+◌, ◌≤◌, [], ◌∷◌, ◌++◌, false, length, IfOk, IfSome, OnErr};
-ghost use Rattle.run_log.specs.declared.entry.Entry.TheVariants.{Test};
+ghost use Rattle.std.specs.Prelude.{◌≡◌, ◌+◌, ◌<◌, ◌≤◌, [], ◌∷◌, ◌++◌, false, length, IfOk, IfSome, OnOk, OnErr};
+ghost use Rattle.run_log.specs.declared.entry.Entry.TheVariants.{Test, Node};
 ghost use Rattle.std.specs.List.{list_any};
 ghost use Rattle.axiom_sets.specs.Sets.{IsWithin};
 ghost use Rattle.ontology_limits.specs.Limits.{IsOntologyInLimit, IsInLimit};
@@ -71,6 +71,20 @@ impl<'a> Oracle<'a> {
         log
     }
 
+    /// The ontology.
+    pub fn ontology(&self) -> &'a Ontology
+        ensures { result.now ≡ self.now.ontology }
+    {
+        self.ontology
+    }
+
+    /// The log.
+    pub fn log(&self) -> &RunLog
+        ensures { result.now ≡ self.now.log }
+    {
+        &self.log
+    }
+
     /// What is left of the budget.
     pub fn left(&self) -> u64
         ensures left { result + spent_of self.now.log ≡ self.now.budget }
@@ -102,6 +116,22 @@ impl<'a> Oracle<'a> {
         let fuel = self.left();
         let found = self.find(set, query, fuel)?;
         self.note(set, query, found)
+    }
+
+    /// Takes one unit of the budget, of which some is left, for a node of a hitting-set tree, and puts the node's entry last.
+    ///
+    /// # Errors
+    /// Memory may be refused; the log is as before then.
+    pub fn take_node(&mut self, node: &AxiomSet) -> Result<(), NoMemory>
+        requires { spent_of self.old.log < self.old.budget }
+        ensures entry { OnOk result (self.new.log ≡ self.old.log ++ Node node.now ∷ []) }
+        ensures same_ontology { self.new.ontology ≡ self.old.ontology }
+        ensures same_budget { self.new.budget ≡ self.old.budget }
+        ensures unchanged { OnErr result (self.new.log ≡ self.old.log) }
+    {
+        let _budget = self.budget;
+        self.log.push(Entry::Node(node.try_clone()?))?;
+        Ok(())
     }
 
     // Searches by the rules of the set, which are kept. Nothing that contracts see changes.

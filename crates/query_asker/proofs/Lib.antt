@@ -1,0 +1,6 @@
+pub mod Local
+pub mod Logged
+pub mod Remembered
+pub mod Answering
+pub mod Tested
+pub mod Begun

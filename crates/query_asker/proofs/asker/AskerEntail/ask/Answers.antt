@@ -1,0 +1,44 @@
+use Rattle.std.proofs.Common.{◌∙◌, ap, sym, subst}
+use Rattle.std.proofs.lemmas.Result.{IfOk-weaker}
+use Rattle.lane_sieve.specs.Sets.{IsPart}
+use Rattle.set_questions.specs.Asked.{Answers}
+use Rattle.set_questions.specs.Meaning.{one_more}
+use Rattle.run_log.specs.Entries.{IsAnswered}
+use Rattle.query_asker.specs.AskerLists.{AskerLists}
+use Rattle.query_asker.specs.Told.{asker_meaning}
+use Rattle.query_asker.specs.Asking.{IsLater}
+use Rattle.query_asker.proofs.Logged.{with_asks}
+use Rattle.query_asker.proofs.Answering.{keeps_later, lifted, answers_counted, known_is, new_if_none, local_inside, local_later}
+use Rattle.query_asker.proofs.asker.AskerEntail.ask.Goals as goal
+
+pub returns-in-Some-clause-answer : goal.returns-in-Some-clause-answer
+returns-in-Some-clause-answer c =
+    let a = c.args.self.now in
+    let s = c.args.set.now in
+    let known = c.in-Some.known in
+    let p = c.in_ok-part.part in
+    let told : Answers (asker_meaning a) p known = known_is a p c.in_ok-known.field-0 known c.in-Some.is c.in_ok-known.ensures.recalled in
+    answers_counted a c.count_ask.new.self (one_more a.asks) s known (c.count_ask.ensures ∙ ap (λ (b : AskerLists). with_asks b (one_more b.asks)) c.recall.ensures.same) (lifted a s p known c.in_ok-part.ensures.part told)
+
+pub test-requires-clause-local_part : goal.test-requires-clause-local_part
+test-requires-clause-local_part c =
+    let p = c.in_ok-part.part in
+    subst (λ (b : AskerLists). IsPart p.members b.local_part) (sym c.recall.ensures.same) (local_inside c.args.self.now c.args.set.now p c.in_ok-part.ensures.part)
+
+pub test-requires-clause-is_new : goal.test-requires-clause-is_new
+test-requires-clause-is_new c =
+    let p = c.in_ok-part.part in
+    subst (λ (b : AskerLists). ¬ IsAnswered b.gained p b.query) (sym c.recall.ensures.same) (new_if_none c.args.self.now p c.in_ok-known.field-0 c.in_default.not-Some c.in_ok-known.ensures.recalled)
+
+pub returns-clause-answer : goal.returns-clause-answer
+returns-clause-answer c =
+    let s = c.args.set.now in
+    let p = c.in_ok-part.part in
+    let new = c.test.new.self in
+    let later : IsLater c.args.self.now new = subst (λ (b : AskerLists). IsLater b new) c.recall.ensures.same c.test.ensures.later in
+    IfOk-weaker c.test.result (Answers (asker_meaning new) p) (Answers (asker_meaning new) s) (λ answer h. lifted new s p answer (local_later c.args.self.now new s p later c.in_ok-part.ensures.part) h) c.test.ensures.answer
+
+pub returns-clause-keeps : goal.returns-clause-keeps
+returns-clause-keeps c =
+    let new = c.test.new.self in
+    keeps_later c.args.self.now new (subst (λ (b : AskerLists). IsLater b new) c.recall.ensures.same c.test.ensures.later)

@@ -1,0 +1,4 @@
+pub mod AskerLists
+pub mod Told
+pub mod Memory
+pub mod Asking

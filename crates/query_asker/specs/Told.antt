@@ -1,0 +1,67 @@
+-- What an asker means, and what its part of the log is.
+use Rattle.std.specs.Prelude.{◌≡◌, ◌⊎◌, ◌↔◌, ℕ, ◌-◌, ◌^◌, ◌≤◌, true, List, ◌++◌, length, All, Contains}
+use Rattle.std.specs.FinSet as set
+use Rattle.lane_sieve.specs.Sets.{NumberSet}
+use Rattle.axiom_sets.specs.Sets.{Limited}
+use Rattle.pinpointing_specs.specs.Smallest.{Grows}
+use Rattle.shq_terms.specs.declared.axioms.Numbered.{Numbered}
+use Rattle.shq_terms.specs.declared.axioms.Query.{Query}
+use Rattle.set_questions.specs.Meaning.{Meaning}
+use Rattle.module_specs.specs.LocalModule.{FollowsFrom, IsLocalModule}
+use Rattle.module_specs.proofs.Kept.{grows}
+use Rattle.run_log.specs.declared.entry.Entry.{Entry}
+use Rattle.run_log.specs.declared.entry.Entry.TheVariants.{Test, Node}
+use Rattle.run_log.specs.declared.entry.TestEnd.TheVariants.{No}
+use Rattle.run_log.specs.Entries.{spent_of, nodes_of, test_count}
+use Rattle.run_log.specs.HonestLog.{EachIsHonest, EndsWhenSpent, AreTestsOf, AsksNoAnswer, IsTestIn}
+use Rattle.run_log.specs.Shown.{IsShownYes}
+use Rattle.query_asker.specs.AskerLists.{AskerLists}
+
+-- the query follows from some of the axioms just where it follows from those of them that are in m
+abbrev pub KeepsAnswers : List Numbered → Query → NumberSet → Type 0
+KeepsAnswers axioms q m = (s : NumberSet) → FollowsFrom axioms q s ↔ FollowsFrom axioms q (set.intersection s m)
+
+-- so it is with a local module
+abbrev pub ModulesKeepAnswers : Type 0
+ModulesKeepAnswers = (axioms : List Numbered) (q : Query) (m : NumberSet) → IsLocalModule axioms q m → KeepsAnswers axioms q m
+
+-- each test is one of another query
+abbrev pub IsTestOfOther : Query → Entry → Type 0
+IsTestOfOther q (Test s p steps e) = ¬ (p ≡ q)
+IsTestOfOther q (Node s) = Unit {0}
+
+abbrev pub AreTestsOfOthers : Query → List Entry → Type 0
+AreTestsOfOthers q log = All (IsTestOfOther q) log
+
+-- a test found that the query does not follow from a set that has each axiom of s that is in m
+pub record IsShownNoIn (log : List Entry) (q : Query) (m s : NumberSet) : Type 0 where
+  pub tested : Limited
+  pub steps : ℕ
+  pub is_no : Contains log (Test tested q steps No)
+  pub has_part : (k : ℕ) → set.contains s k ≡ true → set.contains m k ≡ true → set.contains tested.members k ≡ true
+
+-- the yes-sets are those from which the query follows
+abbrev pub asker_meaning : AskerLists → Meaning
+asker_meaning a = record {
+  size = length a.ontology.axioms;
+  holds = FollowsFrom a.ontology.axioms a.query;
+  left = a.budget - spent_of (a.before ++ a.gained);
+  asks = a.asks;
+  taken = nodes_of a.gained;
+  shown_yes = IsShownYes a.gained a.query;
+  shown_no = IsShownNoIn a.gained a.query a.local_part;
+}
+
+pub asker_grows : (a : AskerLists) → Grows (asker_meaning a).holds
+asker_grows a = grows a.ontology.axioms a.query
+
+-- what holds of the entries that the log gained, and with those before
+pub record IsAskerLog (a : AskerLists) : Type 0 where
+  pub honest : EachIsHonest a.ontology a.gained
+  pub ends : EndsWhenSpent a.budget (a.before ++ a.gained)
+  pub within : spent_of (a.before ++ a.gained) ≤ a.budget
+  pub tests : AreTestsOf a.query a.gained
+  pub new : AsksNoAnswer a.gained
+  pub in_module : All (IsTestIn a.local_part) a.gained
+  -- there are no more tests than asks, of which so many at least are counted as fit 64 bits
+  pub few : (test_count a.gained ≤ a.asks) ⊎ (a.asks ≡ 2 ^ 64 - 1)

@@ -1,0 +1,16 @@
+//! Questions about sets of an ontology's axioms, for one query, answered by an oracle.
+//!
+//! Pinpointing asks a black box whether sets of axioms entail a statement. An [`Asker`] is that box over the search of a
+//! tableau. It asks by as few searches as it can: of a set only the axioms of a module count, on which the answer depends
+//! alone; and where the log has a test whose answer covers the asked set, no search is made. A yes covers each set with the
+//! axioms that its refutation names, a no covers each part of the set that was tested. So no answer is searched for twice,
+//! whichever sets are asked, and all that an answer rests on stands in the log.
+#![tactic(auto)]
+
+mod asker;
+mod law;
+mod memo;
+
+pub use asker::Asker;
+pub use law::modules_keep_answers;
+pub use shq_base::NoMemory;
