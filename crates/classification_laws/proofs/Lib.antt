@@ -1,0 +1,5 @@
+pub mod Chains
+pub mod InLimit
+pub mod Logged
+pub mod Mirrored
+pub mod Settled

@@ -1,0 +1,3 @@
+pub mod Classified
+pub mod Mirrors
+pub mod Laws

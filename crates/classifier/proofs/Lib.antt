@@ -1,0 +1,5 @@
+pub mod Advanced
+pub mod Counting
+pub mod Ended
+pub mod Open
+pub mod Tested

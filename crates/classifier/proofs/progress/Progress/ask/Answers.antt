@@ -1,0 +1,60 @@
+use Rattle.std.proofs.Common.{◌≡◌, true, subst}
+use Rattle.std.proofs.lemmas.Result.{err_from_is_err_and}
+use Rattle.subsumption_rows.specs.Subsumption.{query_at}
+use Rattle.classifier.specs.Tests.{IsTested}
+use Rattle.classifier.specs.Progress.{Advances, is_settled}
+use Rattle.classifier.proofs.Advanced.{is_new, after_yes, after_no, after_spent, after_refused}
+use Rattle.classifier.proofs.progress.Progress.ask.Goals as goal
+
+pub test-requires-clause-is_new : goal.test-requires-clause-is_new
+test-requires-clause-is_new c = is_new c.args.oracle.now c.args.self.now c.requires.going c.args.x c.args.y c.requires.first c.requires.second c.requires.open c.class_count.result c.class_count.ensures.count
+
+pub returns-in_err-take_in-in-Yes-clause-err : goal.returns-in_err-take_in-in-Yes-clause-err
+returns-in_err-take_in-in-Yes-clause-err c =
+    let tested = subst (IsTested c.args.oracle.now c.test.new.oracle c.args.self.now.axioms (query_at c.class_count.result c.args.x c.args.y)) c.in-Yes.is c.in_ok-test.ensures.tested in
+    let p = err_from_is_err_and c.from_residual-in_err-take_in-in-Yes.result c.from_residual-in_err-take_in-in-Yes.ensures.1 in
+    rw (p.1, p.2)
+    (after_refused c.args.oracle.now c.args.self.now c.requires.going c.args.x c.args.y c.requires.first c.requires.second c.requires.open c.test.new.oracle c.in_ok-test.ensures.alike c.in_ok-test.ensures.within
+    c.class_count.result c.class_count.ensures.count tested)
+
+pub returns-in-Spent-clause-err : goal.returns-in-Spent-clause-err
+returns-in-Spent-clause-err c =
+    let tested = subst (IsTested c.args.oracle.now c.test.new.oracle c.args.self.now.axioms (query_at c.class_count.result c.args.x c.args.y)) c.in-Spent.is c.in_ok-test.ensures.tested in
+    after_spent c.args.oracle.now c.args.self.now c.requires.going c.args.x c.args.y c.requires.first c.requires.second c.requires.open c.test.new.oracle c.in_ok-test.ensures.alike c.in_ok-test.ensures.within
+    c.class_count.result c.class_count.ensures.count tested
+
+pub returns-in_ok-take_in-in-Yes-clause-ok : goal.returns-in_ok-take_in-in-Yes-clause-ok
+returns-in_ok-take_in-in-Yes-clause-ok c =
+    let tested = subst (IsTested c.args.oracle.now c.test.new.oracle c.args.self.now.axioms (query_at c.class_count.result c.args.x c.args.y)) c.in-Yes.is c.in_ok-test.ensures.tested in
+    let both : Advances c.test.new.oracle c.args.self.now c.take_in.new.self × (is_settled c.take_in.new.self c.args.x c.args.y ≡ true) =
+    after_yes c.args.oracle.now c.args.self.now c.requires.going c.args.x c.args.y c.requires.first c.requires.second c.requires.open c.test.new.oracle c.in_ok-test.ensures.alike c.in_ok-test.ensures.within
+    c.take_in.new.self c.in_ok-take_in-in-Yes.ensures.known c.in_ok-take_in-in-Yes.ensures.ruled_out c.in_ok-take_in-in-Yes.ensures.axioms c.in_ok-take_in-in-Yes.ensures.classes
+    c.class_count.result c.class_count.ensures.count tested in
+    both.0
+
+pub returns-in_ok-take_in-in-Yes-clause-settled : goal.returns-in_ok-take_in-in-Yes-clause-settled
+returns-in_ok-take_in-in-Yes-clause-settled c =
+    let tested = subst (IsTested c.args.oracle.now c.test.new.oracle c.args.self.now.axioms (query_at c.class_count.result c.args.x c.args.y)) c.in-Yes.is c.in_ok-test.ensures.tested in
+    let both : Advances c.test.new.oracle c.args.self.now c.take_in.new.self × (is_settled c.take_in.new.self c.args.x c.args.y ≡ true) =
+    after_yes c.args.oracle.now c.args.self.now c.requires.going c.args.x c.args.y c.requires.first c.requires.second c.requires.open c.test.new.oracle c.in_ok-test.ensures.alike c.in_ok-test.ensures.within
+    c.take_in.new.self c.in_ok-take_in-in-Yes.ensures.known c.in_ok-take_in-in-Yes.ensures.ruled_out c.in_ok-take_in-in-Yes.ensures.axioms c.in_ok-take_in-in-Yes.ensures.classes
+    c.class_count.result c.class_count.ensures.count tested in
+    both.1
+
+pub returns-in-No-clause-ok : goal.returns-in-No-clause-ok
+returns-in-No-clause-ok c =
+    let tested = subst (IsTested c.args.oracle.now c.test.new.oracle c.args.self.now.axioms (query_at c.class_count.result c.args.x c.args.y)) c.in-No.is c.in_ok-test.ensures.tested in
+    let both : Advances c.test.new.oracle c.args.self.now c.rule_out.new.self × (is_settled c.rule_out.new.self c.args.x c.args.y ≡ true) =
+    after_no c.args.oracle.now c.args.self.now c.requires.going c.args.x c.args.y c.requires.first c.requires.second c.requires.open c.test.new.oracle c.in_ok-test.ensures.alike c.in_ok-test.ensures.within
+    c.rule_out.new.self c.rule_out.ensures.known c.rule_out.ensures.ruled_out c.rule_out.ensures.axioms c.rule_out.ensures.classes
+    c.class_count.result c.class_count.ensures.count tested in
+    both.0
+
+pub returns-in-No-clause-settled : goal.returns-in-No-clause-settled
+returns-in-No-clause-settled c =
+    let tested = subst (IsTested c.args.oracle.now c.test.new.oracle c.args.self.now.axioms (query_at c.class_count.result c.args.x c.args.y)) c.in-No.is c.in_ok-test.ensures.tested in
+    let both : Advances c.test.new.oracle c.args.self.now c.rule_out.new.self × (is_settled c.rule_out.new.self c.args.x c.args.y ≡ true) =
+    after_no c.args.oracle.now c.args.self.now c.requires.going c.args.x c.args.y c.requires.first c.requires.second c.requires.open c.test.new.oracle c.in_ok-test.ensures.alike c.in_ok-test.ensures.within
+    c.rule_out.new.self c.rule_out.ensures.known c.rule_out.ensures.ruled_out c.rule_out.ensures.axioms c.rule_out.ensures.classes
+    c.class_count.result c.class_count.ensures.count tested in
+    both.1

@@ -1,0 +1,4 @@
+pub mod Classified
+pub mod Tests
+pub mod Progress
+pub mod Told

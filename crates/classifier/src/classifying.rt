@@ -1,0 +1,42 @@
+// The classification of an ontology.
+ghost use Rattle.std.specs.Prelude.{◌≡◌, [], IfOk, IfErr};
+ghost use Rattle.ontology_limits.specs.Limits.{IsOntologyInLimit};
+ghost use Rattle.run_log.specs.HonestLog.{IsClassificationLog};
+ghost use Rattle.classification_laws.specs.Classified.{IsClassified};
+ghost use Rattle.classifier.specs.Classified.{IsStop};
+
+use crate::progress::Progress;
+use crate::stop::Stop;
+use crate::told::Told;
+use shq_oracle::Oracle;
+use shq_terms::Ontology;
+use std::alloc::Global;
+use subsumption_rows::Relation;
+
+/// Which class of the ontology is part of which, by all of its axioms (OWL 2 Direct Semantics, section 2.5), where the oracle
+/// is one for this ontology that was asked nothing yet. The log shows each pair.
+///
+/// # Errors
+/// The budget of the oracle was spent in the middle of a test, which is the last of the log; or memory was refused. The log is
+/// honest in each case.
+pub fn classify(
+    alloc: Global,
+    oracle: &mut Oracle<'_>,
+    ontology: &Ontology,
+) -> Result<Relation, Stop>
+    requires same { oracle.old.ontology ≡ ontology.now }
+    requires unlogged { oracle.old.log ≡ [] }
+    requires in_limit { IsOntologyInLimit ontology.now }
+
+    ensures classified { IfOk result (IsClassified ontology.now oracle.new.log) }
+    ensures stopped { IfErr result (IsStop oracle.old.budget oracle.new.log) }
+    ensures honest { IsClassificationLog ontology.now oracle.old.budget oracle.new.log }
+
+    ensures same_ontology { oracle.new.ontology ≡ oracle.old.ontology }
+    ensures same_budget { oracle.new.budget ≡ oracle.old.budget }
+{
+    let told = Told::by(alloc, ontology)?;
+    let mut progress = Progress::new(alloc, ontology)?;
+    progress.settle_all(oracle, told.inclusions())?;
+    Ok(progress.into_known())
+}

@@ -1,0 +1,208 @@
+// What is known and what is ruled out of the pairs of classes, as far as questions were answered.
+ghost use Rattle.std.specs.Prelude.{◌≡◌, ℕ, ◌+◌, ◌<◌, ◌&&◌, true, false, [], length, IfOk, IfErr, OnOk, OnErr};
+ghost use Rattle.std.specs.FinSet as set;
+ghost use Rattle.axiom_sets.specs.Sets.{IsFull};
+ghost use Rattle.ontology_limits.specs.Limits.{IsOntologyInLimit};
+ghost use Rattle.run_log.specs.HonestLog.{IsWhole};
+ghost use Rattle.subsumption_rows.specs.Matrices.{has, IsMatrix, Adds};
+ghost use Rattle.subsumption_rows.specs.Rows.{holds, IsAtFirst, Relates};
+ghost use Rattle.classifier.specs.Tests.{AreAlike};
+
+use crate::finding::most_general;
+use crate::stop::Stop;
+use crate::testing::{Verdict, test};
+use crate::told::Inclusion;
+use axiom_sets::AxiomSet;
+use shq_base::NoMemory;
+use shq_oracle::Oracle;
+use shq_terms::Ontology;
+use std::alloc::Global;
+use subsumption_rows::{BitMatrix, Relation};
+
+/// The pairs of classes that are settled: those of which it is known that the one is part of the other, and those of which this
+/// is ruled out. Beside them are the set of all axioms and that of all class numbers, each greater by one.
+#[derive(Drop)]
+pub(crate) struct Progress {
+    pub(crate) known: Relation,
+    pub(crate) ruled_out: BitMatrix,
+    pub(crate) axioms: AxiomSet,
+    pub(crate) classes: AxiomSet,
+}
+
+impl Progress {
+    ghost use Rattle.classification_laws.specs.Mirrors.{Mirrors, passed_on};
+    ghost use Rattle.classifier.specs.Progress.{IsGoing, HasStopped, Advances, is_settled, IsDone, IsOpenAt};
+    ghost use Rattle.classifier.specs.Told.{AreOf};
+
+    /// What holds before any question.
+    ///
+    /// # Errors
+    /// Memory may be refused.
+    pub(crate) fn new(alloc: Global, ontology: &Ontology) -> Result<Progress, NoMemory>
+        ensures whole { IfOk result (λ p. IsWhole ontology.now p.axioms) }
+        ensures limit { IfOk result (λ p. p.classes.limit ≡ length ontology.now.classes + 2) }
+        ensures full { IfOk result (λ p. IsFull (length ontology.now.classes + 2) p.classes.members) }
+        ensures mirrors { IfOk result (λ p. Mirrors ontology.now [] p.known p.ruled_out) }
+    {
+        let count = ontology.class_count();
+        Ok(Progress {
+            known: Relation::new(alloc, count)?,
+            ruled_out: BitMatrix::empty(alloc, count + 2)?,
+            axioms: AxiomSet::full(alloc, ontology.axiom_count())?,
+            classes: AxiomSet::full(alloc, count + 2)?,
+        })
+    }
+
+    /// Asks until each pair of classes is settled: first whether all things are in the class of none, then what axioms say at
+    /// once, and then class by class.
+    ///
+    /// # Errors
+    /// The budget was spent, or memory was refused.
+    pub(crate) fn settle_all(
+        &mut self,
+        oracle: &mut Oracle<'_>,
+        told: &[Inclusion],
+    ) -> Result<(), Stop>
+        requires going { IsGoing oracle.old self.old }
+        requires told { AreOf self.old.known.count told.now }
+        ensures ok { OnOk result (IsGoing oracle.new self.new) }
+        ensures done { OnOk result ((x : ℕ) → x < self.new.known.count + 2 → IsDone self.new x) }
+        ensures err { IfErr result (HasStopped oracle.new) }
+        ensures alike { AreAlike oracle.old oracle.new }
+    {
+        let count = self.known.class_count();
+        self.settle(oracle, count, count + 1)?;
+        self.settle_told(oracle, told)?;
+        self.settle_classes(oracle)
+    }
+
+    // Asks what axioms say at once.
+    fn settle_told(&mut self, oracle: &mut Oracle<'_>, told: &[Inclusion]) -> Result<(), Stop>
+        requires going { IsGoing oracle.old self.old }
+        requires told { AreOf self.old.known.count told.now }
+        ensures ok { OnOk result (Advances oracle.new self.old self.new) }
+        ensures err { IfErr result (HasStopped oracle.new) }
+        ensures alike { AreAlike oracle.old oracle.new }
+    {
+        for inclusion in told {
+            self.settle(oracle, inclusion.sub, inclusion.sup)?;
+        }
+        Ok(())
+    }
+
+    // Asks class by class.
+    fn settle_classes(&mut self, oracle: &mut Oracle<'_>) -> Result<(), Stop>
+        requires going { IsGoing oracle.old self.old }
+        ensures ok { OnOk result (IsGoing oracle.new self.new) }
+        ensures done { OnOk result ((x : ℕ) → x < self.new.known.count + 2 → IsDone self.new x) }
+        ensures err { IfErr result (HasStopped oracle.new) }
+        ensures alike { AreAlike oracle.old oracle.new }
+    {
+        for class in 0..self.classes.limit() {
+            self.settle_class(oracle, class)?;
+        }
+        Ok(())
+    }
+
+    // Asks until each pair of the class is settled.
+    fn settle_class(&mut self, oracle: &mut Oracle<'_>, class: u32) -> Result<(), Stop>
+        requires going { IsGoing oracle.old self.old }
+        requires class { class < self.old.known.count + 2 }
+        ensures ok { OnOk result (Advances oracle.new self.old self.new) }
+        ensures done { OnOk result (IsDone self.new class) }
+        ensures err { IfErr result (HasStopped oracle.new) }
+        ensures alike { AreAlike oracle.old oracle.new }
+    {
+        while let Some(other) = self.next_open(class)? {
+            self.ask(oracle, class, other)?;
+        }
+        Ok(())
+    }
+
+    // Asks about the pair, where it is not settled.
+    fn settle(&mut self, oracle: &mut Oracle<'_>, x: u32, y: u32) -> Result<(), Stop>
+        requires going { IsGoing oracle.old self.old }
+        requires first { x < self.old.known.count + 2 }
+        requires second { y < self.old.known.count + 2 }
+        ensures ok { OnOk result (Advances oracle.new self.old self.new) }
+        ensures err { IfErr result (HasStopped oracle.new) }
+        ensures alike { AreAlike oracle.old oracle.new }
+    {
+        if self.known.relates(x, y) || self.ruled_out.has(x, y) {
+            return Ok(());
+        }
+        self.ask(oracle, x, y)
+    }
+
+    // Asks about a pair that is not settled.
+    fn ask(&mut self, oracle: &mut Oracle<'_>, x: u32, y: u32) -> Result<(), Stop>
+        requires going { IsGoing oracle.old self.old }
+        requires first { x < self.old.known.count + 2 }
+        requires second { y < self.old.known.count + 2 }
+        requires open { is_settled self.old x y ≡ false }
+        ensures ok { OnOk result (Advances oracle.new self.old self.new) }
+        ensures settled { OnOk result (is_settled self.new x y ≡ true) }
+        ensures err { IfErr result (HasStopped oracle.new) }
+        ensures alike { AreAlike oracle.old oracle.new }
+    {
+        match test(oracle, &self.axioms, self.known.class_count(), x, y)? {
+            Verdict::Yes => self.take_in(x, y)?,
+            Verdict::No => self.rule_out(x, y),
+            Verdict::Spent => return Err(Stop::Spent),
+        }
+        Ok(())
+    }
+
+    // A most general class such that it is not settled whether the class is part of it; none where all are settled.
+    fn next_open(&self, class: u32) -> Result<Option<u32>, NoMemory>
+        requires class { class < self.now.known.count + 2 }
+        requires ruled_out { self.now.ruled_out.size ≡ self.now.known.count + 2 }
+        requires limit { self.now.classes.limit ≡ self.now.known.count + 2 }
+        requires full { IsFull (self.now.known.count + 2) self.now.classes.members }
+        ensures { IfOk result (IsOpenAt self.now class) }
+    {
+        let mut open = self.classes.try_clone()?;
+        open.take_all(self.known.above(class));
+        open.take_all(self.ruled_out.row(class));
+        Ok(most_general(&self.known, &open))
+    }
+
+    // It is known that x is part of y, with all that follows from it.
+    fn take_in(&mut self, x: u32, y: u32) -> Result<(), NoMemory>
+        requires first { x < self.old.known.count + 2 }
+        requires second { y < self.old.known.count + 2 }
+        requires ruled_out { self.old.ruled_out.size ≡ self.old.known.count + 2 }
+        ensures known { OnOk result (Relates x y self.old.known self.new.known) }
+        ensures ruled_out { OnOk result (IsMatrix (self.old.known.count + 2) (passed_on self.new.known x y self.old.ruled_out) self.new.ruled_out) }
+        ensures axioms { self.new.axioms ≡ self.old.axioms }
+        ensures classes { self.new.classes ≡ self.old.classes }
+    {
+        self.known.relate(x, y)?;
+        let row = self.ruled_out.row(x).try_clone()?;
+        self.ruled_out.unite(self.known.above(y), &row);
+        self.ruled_out.unite_where(y, self.known.below(x));
+        Ok(())
+    }
+
+    // It is ruled out that x is part of y, and so for each class that x is part of and each that is part of y.
+    fn rule_out(&mut self, x: u32, y: u32)
+        requires first { x < self.old.known.count + 2 }
+        requires second { y < self.old.known.count + 2 }
+        requires ruled_out { self.old.ruled_out.size ≡ self.old.known.count + 2 }
+        ensures known { self.new.known ≡ self.old.known }
+        ensures ruled_out { Adds (λ a b. holds self.old.known x a && holds self.old.known b y) self.old.ruled_out self.new.ruled_out }
+        ensures axioms { self.new.axioms ≡ self.old.axioms }
+        ensures classes { self.new.classes ≡ self.old.classes }
+    {
+        self.ruled_out
+            .unite(self.known.above(x), self.known.below(y));
+    }
+
+    /// What is known.
+    pub(crate) fn into_known(self) -> Relation
+        ensures { result ≡ self.known }
+    {
+        let Progress { known, .. } = self;
+        known
+    }
+}

@@ -1,0 +1,23 @@
+// Why a classification stopped before its end.
+
+use shq_base::NoMemory;
+
+/// Why a classification stopped before each pair of classes was settled.
+#[derive(Clone, Copy, Debug, PartialEq, Eq)]
+pub enum Stop {
+    /// The budget was spent in the middle of a test.
+    Spent,
+    /// Out of memory.
+    NoMemory,
+}
+
+impl From<NoMemory> for Stop {
+    ghost use Rattle.std.specs.Prelude.{◌≡◌};
+    ghost use Rattle.classifier.specs.declared.stop.Stop.TheVariants as stop;
+
+    ghost from_gives = { λ _ e. e ≡ stop.NoMemory };
+
+    fn from(_: NoMemory) -> Self {
+        Stop::NoMemory
+    }
+}

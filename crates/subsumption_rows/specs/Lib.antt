@@ -1,0 +1,4 @@
+pub mod Matrices
+pub mod Rows
+pub mod Subsumption
+pub mod Laws
