@@ -18,13 +18,13 @@ use Rattle.ofn_reader.specs.Queries.{query_start}
 use Rattle.ofn_reader.proofs.OneReason.{document_refusals, query_refusals}
 use Rattle.ofn_reader.proofs.Unique.{documents, documents_not_refused, queries, queries_not_refused}
 use Rattle.run_log.specs.declared.entry.Entry.{Entry}
-use Rattle.ontology_jobs.specs.Words.{Job, check, decide, job_of}
+use Rattle.ontology_jobs.specs.Words.{Job, check, decide, classify, pinpoint, Request, on_input, generated, request_of}
 use Rattle.certificate_check.specs.Certificates.{certificate}
 use Rattle.read_limits.specs.Laws.{with_names}
 use Rattle.certificate_check.specs.Checking.{IsAsked, IsNotAsked, IsOfModel, IsOfRefutation, IsVerdictOn, line_of_place, Reply, judged, refused_document, refused_query, malformed_line, Shows, IsReply, no_document, no_query, shown}
 use Rattle.job_texts.specs.Answer.{line, Answer}
 use Rattle.certificate_check.specs.Replies.{verdict_answer, reply_answer}
-use Rattle.ontology_jobs.specs.Answers.{IsTooLong, IsBadWords, AnswersJob}
+use Rattle.ontology_jobs.specs.Answers.{IsTooLong, IsBadWords, AnswersJob, AnswersRequest}
 use Rattle.ontology_jobs.specs.Laws.{IsDecided, AsksForNoSearch, AnswersAreUnique}
 use Rattle.certificate_check.specs.declared.certificate.Certificate.{Certificate}
 use Rattle.certificate_check.specs.declared.certificate.Certificate.TheVariants as C
@@ -163,11 +163,14 @@ outcome query bytes out Undecided log known answer = absurd known
 outcome query bytes out NoMemory log known answer = absurd known
 
 pub answers : AnswersAreUnique
-answers words bytes out text s t log more plain known sure = by (job_of words) plain
+answers words bytes out text s t log more plain known sure = by (request_of words) plain
   where
-    by : (j : Option Job) → AsksForNoSearch j → MatchOption j (IsBadWords out s log) (λ job. AnswersJob job bytes out s log) → MatchOption j (IsBadWords text t more) (λ job. AnswersJob job bytes text t more) → (s ≡ t) × (out ≡ text)
+    by : (r : Option Request) → AsksForNoSearch r → MatchOption r (IsBadWords out s log) (λ r. AnswersRequest r bytes out s log) → MatchOption r (IsBadWords text t more) (λ r. AnswersRequest r bytes text t more) → (s ≡ t) × (out ≡ text)
     by None plain p q = (p.status ∙ sym q.status, p.text ∙ sym q.text)
-    by (Some (check query)) plain p q =
+    by (Some (on_input (check query))) plain p q =
         let same = same_outcome query bytes (s, out) (t, text) (outcome query bytes out s log known p) (outcome query bytes text t more sure q) in
         ((λ i. (same i).0), (λ i. (same i).1))
-    by (Some (decide question budget)) plain p q = absurd plain
+    by (Some (on_input (decide question budget))) plain p q = absurd plain
+    by (Some (on_input (classify budget))) plain p q = absurd plain
+    by (Some (on_input (pinpoint wanted inclusion budget))) plain p q = absurd plain
+    by (Some (generated number budget)) plain p q = absurd plain

@@ -1,3 +1,5 @@
 pub mod Replies
 pub mod Decided
 pub mod Accepted
+pub mod Spending
+pub mod Counted

@@ -10,7 +10,9 @@ use Rattle.job_texts.specs.declared.status.Status.TheVariants.{BadWords, Limit, 
 use Rattle.run_log.specs.declared.entry.Entry.{Entry}
 use Rattle.certificate_check.specs.Replies.{Checked}
 use Rattle.decision_jobs.specs.Decisions.{AnswersQuestion}
-use Rattle.ontology_jobs.specs.Words.{Job, check, decide, job_of}
+use Rattle.classification_jobs.specs.Classifications.{AnswersClassification}
+use Rattle.pinpointing_jobs.specs.Answers.{AnswersPinpointing, AnswersWorkload}
+use Rattle.ontology_jobs.specs.Words.{Job, check, decide, classify, pinpoint, Request, on_input, generated, request_of}
 
 abbrev pub bad_words : List ℕ
 bad_words = line (codes "bad words")
@@ -31,12 +33,19 @@ pub record IsTooLong (bytes out : List ℕ) (s : Status) (log : List Entry) : Ty
 abbrev pub AnswersRead : Job → List ℕ → List ℕ → Status → List Entry → Type 0
 AnswersRead (check query) bytes out s log = Checked query bytes out s × (log ≡ [])
 AnswersRead (decide question budget) bytes out s log = AnswersQuestion question budget bytes out s log
+AnswersRead (classify budget) bytes out s log = AnswersClassification budget bytes out s log
+AnswersRead (pinpoint wanted inclusion budget) bytes out s log = AnswersPinpointing wanted inclusion budget bytes out s log
 
--- the answer to an accepted list of words
+-- the answer of a job to an input
 abbrev pub AnswersJob : Job → List ℕ → List ℕ → Status → List Entry → Type 0
 AnswersJob job bytes out ReadFault log = (out ≡ line (codes "read fault")) × (log ≡ [])
 AnswersJob job bytes out NoMemory log = out ≡ no_memory
 AnswersJob job bytes out s log = IsTooLong bytes out s log ⊎ ((length bytes ≤ 2 ^ 24) × AnswersRead job bytes out s log)
+
+-- the answer to an accepted list of words
+abbrev pub AnswersRequest : Request → List ℕ → List ℕ → Status → List Entry → Type 0
+AnswersRequest (on_input job) bytes out s log = AnswersJob job bytes out s log
+AnswersRequest (generated number budget) bytes out s log = AnswersWorkload number budget out s log
 
 -- the answer to the words of no job
 pub record IsBadWords (out : List ℕ) (s : Status) (log : List Entry) : Type 0 where
@@ -46,7 +55,7 @@ pub record IsBadWords (out : List ℕ) (s : Status) (log : List Entry) : Type 0 
 
 -- the answer to the words and the input, with the text that is written and the log
 abbrev pub Answers : List (List ℕ) → List ℕ → List ℕ → Status → List Entry → Type 0
-Answers words bytes out s log = MatchOption (job_of words) (IsBadWords out s log) (λ job. AnswersJob job bytes out s log)
+Answers words bytes out s log = MatchOption (request_of words) (IsBadWords out s log) (λ r. AnswersRequest r bytes out s log)
 
 -- the sink took the text of an answer, whole, or at a fault of writing a front of it
 abbrev pub Answered : Option (List ℕ) → Option (List ℕ) → List (List ℕ) → List ℕ → Status → List Entry → Type 0
@@ -56,6 +65,9 @@ Answered before now words bytes s log = (out : List ℕ) × Answers words bytes 
 -- The same where it is known which bytes the source holds: an answer to all of them.
 abbrev pub AnswersJobOnAll : Job → Option (List ℕ) → List ℕ → Status → List Entry → Type 0
 AnswersJobOnAll job held out s log = IfSome held (λ bytes. AnswersJob job bytes out s log)
+
+abbrev pub AnswersRequestOnAll : Request → Option (List ℕ) → List ℕ → Status → List Entry → Type 0
+AnswersRequestOnAll r held out s log = IfSome held (λ bytes. AnswersRequest r bytes out s log)
 
 abbrev pub AnswersAll : Option (List ℕ) → List (List ℕ) → List ℕ → Status → List Entry → Type 0
 AnswersAll held words out s log = IfSome held (λ bytes. Answers words bytes out s log)
@@ -69,18 +81,25 @@ SaysBadWords before now BadWords = Appends before now bad_words
 SaysBadWords before now WriteFault = TakesPrefix bad_words before now
 SaysBadWords before now s = ⊥
 
--- what is left of the input: nothing, or what comes after one byte more than the limit; for no job all of it
-abbrev pub left_by : Option Job → List ℕ → List ℕ
+-- the words of no job and those of a workload ask for no read
+abbrev pub ReadsNothing : Option Request → Type 0
+ReadsNothing None = Unit {0}
+ReadsNothing (Some (on_input job)) = ⊥
+ReadsNothing (Some (generated number budget)) = Unit {0}
+
+-- what a job leaves of the input: nothing, or what comes after one byte more than the limit; where nothing is read, all of it
+abbrev pub left_by : Option Request → List ℕ → List ℕ
 left_by None bytes = bytes
-left_by (Some job) bytes = if nat_lt (2 ^ 24) (length bytes) then drop (2 ^ 24 + 1) bytes else []
+left_by (Some (on_input job)) bytes = if nat_lt (2 ^ 24) (length bytes) then drop (2 ^ 24 + 1) bytes else []
+left_by (Some (generated number budget)) bytes = bytes
 
 -- what is left of an input whose bytes are known, where nothing failed
-abbrev pub LeavesFor : Option Job → Option (List ℕ) → Option (List ℕ) → Status → Type 0
-LeavesFor job before now ReadFault = Unit {0}
-LeavesFor job before now WriteFault = Unit {0}
-LeavesFor job before now NoMemory = Unit {0}
-LeavesFor job None now s = Unit {0}
-LeavesFor job (Some bytes) now s = now ≡ Some (left_by job bytes)
+abbrev pub LeavesFor : Option Request → Option (List ℕ) → Option (List ℕ) → Status → Type 0
+LeavesFor r before now ReadFault = Unit {0}
+LeavesFor r before now WriteFault = Unit {0}
+LeavesFor r before now NoMemory = Unit {0}
+LeavesFor r None now s = Unit {0}
+LeavesFor r (Some bytes) now s = now ≡ Some (left_by r bytes)
 
 abbrev pub Leaves : List (List ℕ) → Option (List ℕ) → Option (List ℕ) → Status → Type 0
-Leaves words before now s = LeavesFor (job_of words) before now s
+Leaves words before now s = LeavesFor (request_of words) before now s

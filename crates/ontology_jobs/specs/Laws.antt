@@ -9,10 +9,11 @@ use Rattle.ofn_expressions.specs.Counts.{Counts}
 use Rattle.ofn_reader.specs.DocumentContext.{DocumentContext}
 use Rattle.ofn_reader.specs.Documents.{IsDocument}
 use Rattle.run_log.specs.declared.entry.Entry.{Entry}
-use Rattle.ontology_jobs.specs.Words.{Job, check, decide, job_of}
+use Rattle.run_log.specs.Entries.{spent_of}
+use Rattle.ontology_jobs.specs.Words.{Job, check, decide, classify, pinpoint, Request, on_input, generated, request_of}
 use Rattle.certificate_check.specs.Checking.{IsAsked}
 use Rattle.job_texts.specs.Answer.{line}
-use Rattle.ontology_jobs.specs.Answers.{AnswersJob, Answers}
+use Rattle.ontology_jobs.specs.Answers.{AnswersJob, AnswersRequest, Answers}
 use Rattle.job_texts.specs.declared.status.Status.{Status}
 use Rattle.job_texts.specs.declared.status.Status.TheVariants.{Done, Rejected, BadWords, BadText, Outside, Limit, ReadFault, WriteFault, Undecided, NoMemory}
 
@@ -30,15 +31,30 @@ IsDecided Undecided = ⊥
 IsDecided NoMemory = ⊥
 
 -- words that ask for no search, which may find one of several certificates
-abbrev pub AsksForNoSearch : Option Job → Type 0
+abbrev pub AsksForNoSearch : Option Request → Type 0
 AsksForNoSearch None = Unit {0}
-AsksForNoSearch (Some (check query)) = Unit {0}
-AsksForNoSearch (Some (decide question budget)) = ⊥
+AsksForNoSearch (Some (on_input (check query))) = Unit {0}
+AsksForNoSearch (Some (on_input (decide question budget))) = ⊥
+AsksForNoSearch (Some (on_input (classify budget))) = ⊥
+AsksForNoSearch (Some (on_input (pinpoint wanted inclusion budget))) = ⊥
+AsksForNoSearch (Some (generated number budget)) = ⊥
 
 abbrev pub AnswersAreUnique : Type 0
 AnswersAreUnique =
-    (words : List (List ℕ)) (bytes out text : List ℕ) (s t : Status) (log more : List Entry) → AsksForNoSearch (job_of words) → IsDecided s → IsDecided t → Answers words bytes out s log → Answers words bytes text t more
+    (words : List (List ℕ)) (bytes out text : List ℕ) (s t : Status) (log more : List Entry) → AsksForNoSearch (request_of words) → IsDecided s → IsDecided t → Answers words bytes out s log → Answers words bytes text t more
     → (s ≡ t) × (out ≡ text)
+
+-- the whole budget of what the words asked for was spent; a verification has none
+abbrev pub SpendsAll : Request → List Entry → Type 0
+SpendsAll (on_input (check query)) log = ⊥
+SpendsAll (on_input (decide question budget)) log = spent_of log ≡ budget
+SpendsAll (on_input (classify budget)) log = spent_of log ≡ budget
+SpendsAll (on_input (pinpoint wanted inclusion budget)) log = spent_of log ≡ budget
+SpendsAll (generated number budget) log = spent_of log ≡ budget
+
+-- an answer is undecided only where the whole budget was spent
+abbrev pub UndecidedSpendsAll : Type 0
+UndecidedSpendsAll = (r : Request) (bytes out : List ℕ) (log : List Entry) → AnswersRequest r bytes out Undecided log → SpendsAll r log
 
 -- the document and the query on it that texts are, and what holds of the axioms and the query
 pub record HaveRead (holds : List Axiom → Asked → Type 0) (query bytes : List ℕ) : Type 0 where

@@ -1,18 +1,33 @@
--- The lists of words that are accepted, and the job that each asks for.
-use Rattle.std.specs.Prelude.{ℕ, List, [], ◌∷◌, codes, nat_eq, Option, Some, None, if◌then◌else◌, map, String, string_bytes}
+-- The lists of words that are accepted, and what each asks for.
+use Rattle.std.specs.Prelude.{ℕ, List, [], ◌∷◌, codes, nat_eq, nat_lt, ◌||◌, Option, Some, None, if◌then◌else◌, map, String, string_bytes}
 use Rattle.std.specs.Option.{option_and_then}
 use Rattle.std.specs.Str.{bytes_eq}
 use Rattle.std.specs.declared.alloc.Global.{Global}
 use Rattle.certificate_lines.specs.Lines.{number_in}
 use Rattle.job_inputs.specs.Questions.{Text, has_element, follows, question_text}
+use Rattle.pinpointing_lists.specs.declared.wanted.Wanted.{Wanted}
+use Rattle.pinpointing_lists.specs.declared.wanted.Wanted.TheVariants.{Justifications, Repairs}
 use Rattle.ontology_jobs.specs.declared.words.Command.{Command}
-use Rattle.ontology_jobs.specs.declared.words.Command.TheVariants.{Check, Decide}
+use Rattle.ontology_jobs.specs.declared.words.Command.TheVariants.{OnInput, Workload}
+use Rattle.ontology_jobs.specs.declared.workload_number.WorkloadNumber.{WorkloadNumber}
+use Rattle.ontology_jobs.specs.declared.words.Job.{Job as Kept}
+use Rattle.ontology_jobs.specs.declared.words.Job.TheVariants.{Check, Decide, Classify, Pinpoint}
 
+-- a job on an input, with a budget where it searches
 pub data Job : Type 0 where
   -- verify the certificate for the axiom of this text
   check : List ℕ → Job
-  -- decide a question, by so many steps at most
+  -- decide a question
   decide : Text → ℕ → Job
+  -- which class is part of which
+  classify : ℕ → Job
+  -- the justifications or the repairs of the axiom of this text
+  pinpoint : Wanted → List ℕ → ℕ → Job
+
+-- what words ask for: a job on an input, or the pinpointing job on the workload of a number
+pub data Request : Type 0 where
+  on_input : Job → Request
+  generated : ℕ → ℕ → Request
 
 -- the budget where none is given
 abbrev pub default_budget : ℕ
@@ -25,36 +40,85 @@ positive n = if nat_eq n 0 then None else Some n
 abbrev pub budget_in : List ℕ → Option ℕ
 budget_in word = option_and_then positive (number_in word)
 
--- `sat CLASS` and `entails AXIOM`, with a budget
-abbrev pub decision_job : List ℕ → List ℕ → ℕ → Option Job
-decision_job w text budget =
-    if bytes_eq w (codes "sat") then Some (decide (has_element text) budget)
-    else if bytes_eq w (codes "entails") then Some (decide (follows text) budget)
-    else None
+-- the number of a workload: one from 1 to 4,000
+abbrev pub workload_size : ℕ → Option ℕ
+workload_size n = if nat_eq n 0 || nat_lt 4000 n then None else Some n
+
+abbrev pub workload_number : List ℕ → Option ℕ
+workload_number word = option_and_then workload_size (number_in word)
+
+-- `classify`
+abbrev pub alone_request : List ℕ → ℕ → Option Request
+alone_request w budget = if bytes_eq w (codes "classify") then Some (on_input (classify budget)) else None
+
+abbrev pub generated_with : ℕ → ℕ → Option Request
+generated_with budget n = Some (generated n budget)
+
+-- `workload N`, with a budget
+abbrev pub workload_request : List ℕ → List ℕ → ℕ → Option Request
+workload_request w text budget = if bytes_eq w (codes "workload") then option_and_then (generated_with budget) (workload_number text) else None
+
+-- `explain AXIOM` and `repair AXIOM`, with a budget
+abbrev pub pinpointing_request : List ℕ → List ℕ → ℕ → Option Request
+pinpointing_request w text budget =
+    if bytes_eq w (codes "explain") then Some (on_input (pinpoint Justifications text budget))
+    else if bytes_eq w (codes "repair") then Some (on_input (pinpoint Repairs text budget))
+    else workload_request w text budget
+
+-- `sat CLASS` and `entails AXIOM`, and those above, with a budget
+abbrev pub searching_request : List ℕ → List ℕ → ℕ → Option Request
+searching_request w text budget =
+    if bytes_eq w (codes "sat") then Some (on_input (decide (has_element text) budget))
+    else if bytes_eq w (codes "entails") then Some (on_input (decide (follows text) budget))
+    else pinpointing_request w text budget
+
+-- `check AXIOM`, and those that search, without a budget
+abbrev pub text_request : List ℕ → List ℕ → Option Request
+text_request w text = if bytes_eq w (codes "check") then Some (on_input (check text)) else searching_request w text default_budget
 
 -- the same where the word before the budget is `budget`
-abbrev pub budgeted_job : List ℕ → List ℕ → List ℕ → List ℕ → Option Job
-budgeted_job w text word number = if bytes_eq word (codes "budget") then option_and_then (decision_job w text) (budget_in number) else None
+abbrev pub budgeted_request : List ℕ → List ℕ → List ℕ → List ℕ → Option Request
+budgeted_request w text word number = if bytes_eq word (codes "budget") then option_and_then (searching_request w text) (budget_in number) else None
 
--- a question with a budget
-abbrev pub longer_job : List (List ℕ) → Option Job
-longer_job [] = None
-longer_job (w ∷ []) = None
-longer_job (w ∷ a ∷ []) = None
-longer_job (w ∷ a ∷ b ∷ []) = None
-longer_job (w ∷ a ∷ b ∷ n ∷ []) = budgeted_job w a b n
-longer_job (w ∷ a ∷ b ∷ n ∷ m ∷ rest) = None
+abbrev pub budgeted_alone : List ℕ → List ℕ → List ℕ → Option Request
+budgeted_alone w word number = if bytes_eq word (codes "budget") then option_and_then (alone_request w) (budget_in number) else None
 
--- `check AXIOM`, and questions, each of which may have `budget B` after it; every other list of words asks for nothing
-abbrev pub job_of : List (List ℕ) → Option Job
-job_of [] = None
-job_of (w ∷ []) = None
-job_of (w ∷ a ∷ []) = if bytes_eq w (codes "check") then Some (check a) else decision_job w a default_budget
-job_of (w ∷ a ∷ b ∷ rest) = longer_job (w ∷ a ∷ b ∷ rest)
+-- a job with one text and a budget
+abbrev pub longest_request : List (List ℕ) → Option Request
+longest_request [] = None
+longest_request (w ∷ []) = None
+longest_request (w ∷ a ∷ []) = None
+longest_request (w ∷ a ∷ b ∷ []) = None
+longest_request (w ∷ a ∷ b ∷ n ∷ []) = budgeted_request w a b n
+longest_request (w ∷ a ∷ b ∷ n ∷ m ∷ rest) = None
 
-abbrev pub command_job : Command → Job
-command_job (Check a) = check a.now
-command_job (Decide question budget) = decide (question_text question) budget
+-- a job with a budget
+abbrev pub longer_request : List (List ℕ) → Option Request
+longer_request [] = None
+longer_request (w ∷ []) = None
+longer_request (w ∷ a ∷ []) = None
+longer_request (w ∷ b ∷ n ∷ []) = budgeted_alone w b n
+longer_request (w ∷ a ∷ b ∷ n ∷ rest) = longest_request (w ∷ a ∷ b ∷ n ∷ rest)
+
+-- `check AXIOM`, and the jobs that search, each of which may have `budget B` after it; every other list of words asks for nothing
+abbrev pub request_of : List (List ℕ) → Option Request
+request_of [] = None
+request_of (w ∷ []) = alone_request w default_budget
+request_of (w ∷ a ∷ []) = text_request w a
+request_of (w ∷ a ∷ b ∷ rest) = longer_request (w ∷ a ∷ b ∷ rest)
+
+abbrev pub kept_job : Kept → Job
+kept_job (Check a) = check a.now
+kept_job (Decide question budget) = decide (question_text question) budget
+kept_job (Classify budget) = classify budget
+kept_job (Pinpoint wanted a budget) = pinpoint wanted a.now budget
+
+abbrev pub plain_number : WorkloadNumber → ℕ
+plain_number n = n.number
+
+abbrev pub command_request : Command → Request
+command_request (OnInput job) = on_input (kept_job job)
+command_request (Workload n budget) = generated n.number budget
 
 abbrev pub texts_of : List (String Global) → List (List ℕ)
 texts_of words = map string_bytes words

@@ -1,14 +1,16 @@
 // The top call.
 ghost use Rattle.std.specs.Prelude.{◌≡◌, ◌≢◌, ◌≤◌, false, [], Some, None, length};
 ghost use Rattle.shq_io.specs.Causes.{Rose};
-ghost use Rattle.ontology_jobs.specs.Words.{job_of, command_job, texts_of};
+ghost use Rattle.ontology_jobs.specs.Words.{request_of, on_input, kept_job, command_request, texts_of};
 ghost use Rattle.job_texts.specs.Answer.{IsAnswer, is_fault, text_bytes};
-ghost use Rattle.ontology_jobs.specs.Answers.{AnswersRead, AnswersJobOnAll, AnswersAll, AnsweredAll, SaysBadWords, IsBadWords, end_answer, LeavesFor, Leaves};
+ghost use Rattle.ontology_jobs.specs.Answers.{AnswersRead, AnswersJobOnAll, AnswersRequestOnAll, AnswersAll, AnsweredAll, SaysBadWords, IsBadWords, end_answer, ReadsNothing, LeavesFor, Leaves};
 
-use crate::words::{Command, read_words};
+use crate::words::{Command, Job, read_words};
 use certificate_check::verify;
+use classification_jobs::classify;
 use decision_jobs::answer;
 use job_texts::{Status, Text};
+use pinpointing_jobs::{pinpoint, run_workload};
 use run_log::RunLog;
 use shq_io::{ReadEnd, Sink, Source, WriteFailed, read_all, write_whole};
 use std::alloc::Global;
@@ -37,9 +39,9 @@ pub fn run<S: Source, K: Sink>(
     ensures read_fault { result ≡ Status.ReadFault → Rose (S.faults source.old) (S.faults source.new) }
     ensures write_fault { result ≡ Status.WriteFault → Rose (K.faults sink.old) (K.faults sink.new) }
 
-    // On the words of no job, whatever the source tells.
-    ensures bad_words { job_of (texts_of words.now) ≡ None → SaysBadWords (K.taken sink.old) (K.taken sink.new) result }
-    ensures unread { job_of (texts_of words.now) ≡ None → source.new ≡ source.old }
+    // On the words of no job, whatever the source tells; and where nothing is to be read.
+    ensures bad_words { request_of (texts_of words.now) ≡ None → SaysBadWords (K.taken sink.old) (K.taken sink.new) result }
+    ensures unread { ReadsNothing (request_of (texts_of words.now)) → source.new ≡ source.old }
 {
     let (status, text) = reply_to(alloc, words, source, log);
     match write_whole(sink, text.bytes()) {
@@ -60,44 +62,68 @@ fn reply_to<S: Source>(
     ensures leaves { Leaves (texts_of words.now) (S.left source.old) (S.left source.new) result.0 }
     ensures fault { result.0 ≡ Status.ReadFault → Rose (S.faults source.old) (S.faults source.new) }
     ensures no_write_fault { result.0 ≢ Status.WriteFault }
-    ensures bad_words { job_of (texts_of words.now) ≡ None → IsBadWords (text_bytes result.1) result.0 log.new }
-    ensures unread { job_of (texts_of words.now) ≡ None → source.new ≡ source.old }
+    ensures bad_words { request_of (texts_of words.now) ≡ None → IsBadWords (text_bytes result.1) result.0 log.new }
+    ensures unread { ReadsNothing (request_of (texts_of words.now)) → source.new ≡ source.old }
 {
     match read_words(words) {
-        Some(command) => do_job(alloc, command, source, log),
+        Some(command) => do_command(alloc, command, source, log),
         None => (Status::BadWords, Text::Fixed("bad words\n")),
     }
 }
 
-// Reads the input, and does the job on it.
-fn do_job<S: Source>(
+// Does what the words ask for.
+fn do_command<S: Source>(
     alloc: Global,
     command: Command<'_>,
     source: &mut S,
     log: &mut RunLog,
 ) -> (Status, Text)
     requires { log.old ≡ [] }
-    ensures answers { AnswersJobOnAll (command_job command.entry) (S.left source.old) (text_bytes result.1) result.0 log.new }
-    ensures leaves { LeavesFor (Some (command_job command.entry)) (S.left source.old) (S.left source.new) result.0 }
+    ensures answers { AnswersRequestOnAll (command_request command.entry) (S.left source.old) (text_bytes result.1) result.0 log.new }
+    ensures leaves { LeavesFor (Some (command_request command.entry)) (S.left source.old) (S.left source.new) result.0 }
+    ensures fault { result.0 ≡ Status.ReadFault → Rose (S.faults source.old) (S.faults source.new) }
+    ensures status { result.0 ≢ Status.WriteFault }
+    ensures unread { ReadsNothing (Some (command_request command.entry)) → source.new ≡ source.old }
+{
+    match command {
+        Command::OnInput(job) => do_job(alloc, job, source, log),
+        Command::Workload(number, budget) => run_workload(alloc, number.get(), budget, log),
+    }
+}
+
+// Reads the input, and does the job on it.
+fn do_job<S: Source>(
+    alloc: Global,
+    job: Job<'_>,
+    source: &mut S,
+    log: &mut RunLog,
+) -> (Status, Text)
+    requires { log.old ≡ [] }
+    ensures answers { AnswersJobOnAll (kept_job job.entry) (S.left source.old) (text_bytes result.1) result.0 log.new }
+    ensures leaves { LeavesFor (Some (on_input (kept_job job.entry))) (S.left source.old) (S.left source.new) result.0 }
     ensures fault { result.0 ≡ Status.ReadFault → Rose (S.faults source.old) (S.faults source.new) }
     ensures status { result.0 ≢ Status.WriteFault }
 {
     match read_all(alloc, source, MAX_BYTES) {
-        Ok(input) => do_on(alloc, command, &input, log),
+        Ok(input) => do_on(alloc, job, &input, log),
         Err(end) => end_reply(end),
     }
 }
 
 // Does the job on an input.
-fn do_on(alloc: Global, command: Command<'_>, input: &[u8], log: &mut RunLog) -> (Status, Text)
+fn do_on(alloc: Global, job: Job<'_>, input: &[u8], log: &mut RunLog) -> (Status, Text)
     requires small { length input.now ≤ 4294967293 }
     requires unlogged { log.old ≡ [] }
-    ensures answers { AnswersRead (command_job command.entry) input.now (text_bytes result.1) result.0 log.new }
+    ensures answers { AnswersRead (kept_job job.entry) input.now (text_bytes result.1) result.0 log.new }
     ensures no_fault { is_fault result.0 ≡ false }
 {
-    match command {
-        Command::Check(query) => verify(alloc, query, input),
-        Command::Decide(question, budget) => answer(alloc, question, budget, input, log),
+    match job {
+        Job::Check(query) => verify(alloc, query, input),
+        Job::Decide(question, budget) => answer(alloc, question, budget, input, log),
+        Job::Classify(budget) => classify(alloc, budget, input, log),
+        Job::Pinpoint(wanted, inclusion, budget) => {
+            pinpoint(alloc, wanted, inclusion, budget, input, log)
+        }
     }
 }
 

@@ -2,17 +2,22 @@
 //!
 //! A certifying program gives with each answer a certificate that can be checked without trust in the program (McConnell,
 //! Mehlhorn, Naeher and Schweitzer, "Certifying algorithms", Computer Science Review 5, 2011). The jobs `sat` and `entails`
-//! find such certificates, finite counter-models and refutations, and the job `check` verifies them. All of it is itself
-//! proved: the clause `answer` of `run` says for any words and input which text is written, with which status, and what the
-//! log then has.
+//! find such certificates, finite counter-models and refutations, and the job `check` verifies them; `classify`, `explain` and
+//! `repair` rest on many such tests, which the log shows. All of it is itself proved: the clause `answer` of `run` says for any
+//! words and input which text is written, with which status, and what the log then has.
 #![tactic(auto)]
 
 mod jobs;
 mod laws;
 mod words;
+mod workload_number;
 
 pub use job_texts::Status;
 pub use jobs::run;
-pub use laws::{accepted_queries_do_not_follow, accepted_queries_follow, answers_are_unique};
+pub use laws::{
+    accepted_queries_do_not_follow, accepted_queries_follow, answers_are_unique,
+    undecided_spends_all,
+};
 pub use run_log::RunLog;
-pub use words::{Command, read_words};
+pub use words::{Command, Job, read_words};
+pub use workload_number::WorkloadNumber;

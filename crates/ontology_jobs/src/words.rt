@@ -1,27 +1,43 @@
 // The words of the command line.
 ghost use Rattle.std.specs.Prelude.{◌≡◌, ◌∷◌, [], option_map};
-ghost use Rattle.ontology_jobs.specs.Words.{job_of, command_job, texts_of, budget_in, decision_job, budgeted_job, longer_job};
+ghost use Rattle.ontology_jobs.specs.Words.{request_of, command_request, texts_of, budget_in, plain_number, workload_number, alone_request, text_request, searching_request, pinpointing_request, workload_request, budgeted_request, budgeted_alone, longest_request, longer_request};
 
+use crate::workload_number::WorkloadNumber;
 use certificate_lines::number;
 use job_inputs::Question;
+use pinpointing_jobs::Wanted;
 
 /// What the words ask for.
 #[derive(Clone, Copy)]
 pub enum Command<'a> {
-    /// `check AXIOM`: verify the certificate for this axiom that follows the document.
-    Check(&'a str),
-    /// `sat CLASS` or `entails AXIOM`: decide the question, by at most so many steps of a search.
-    Decide(Question<'a>, u32),
+    /// A job on the input.
+    OnInput(Job<'a>),
+    /// `workload N`: the pinpointing job on the ontology of this number, by at most so many steps and nodes. Nothing is read.
+    Workload(WorkloadNumber, u32),
 }
 
-// How many steps a search may make where the words do not say it.
+/// A job on an input. The last number is how many steps, and nodes of a hitting-set tree, it may take.
+#[derive(Clone, Copy)]
+pub enum Job<'a> {
+    /// `check AXIOM`: verify the certificate for this axiom that follows the document.
+    Check(&'a str),
+    /// `sat CLASS` or `entails AXIOM`: decide the question.
+    Decide(Question<'a>, u32),
+    /// `classify`: which class is part of which.
+    Classify(u32),
+    /// `explain AXIOM` or `repair AXIOM`: all smallest sets of axioms from which the axiom follows, or whose removal ends that.
+    Pinpoint(Wanted, &'a str, u32),
+}
+
+// How many steps a job may take where the words do not say it.
 const DEFAULT_BUDGET: u32 = 1_000_000;
 
 /// None exactly where the words ask for no job.
 pub fn read_words(words: &[String]) -> Option<Command<'_>>
-    ensures { option_map command_job result ≡ job_of (texts_of words.now) }
+    ensures { option_map command_request result ≡ request_of (texts_of words.now) }
 {
     match words {
+        [job] => read_alone(job.as_str(), DEFAULT_BUDGET),
         [job, text] => read_job(job.as_str(), text.as_str()),
         _ => read_longer(words),
     }
@@ -29,7 +45,20 @@ pub fn read_words(words: &[String]) -> Option<Command<'_>>
 
 // A job with a budget.
 fn read_longer(words: &[String]) -> Option<Command<'_>>
-    ensures { option_map command_job result ≡ longer_job (texts_of words.now) }
+    ensures { option_map command_request result ≡ longer_request (texts_of words.now) }
+{
+    match words {
+        [job, word, budget] => {
+            read_budgeted_alone(job.as_str(), word.as_str(), budget.as_bytes())
+        }
+        _ => read_longest(words),
+    }
+}
+
+// A job with one text and a budget.
+#[tactic(auto, using(crate::proofs::Counted::few, crate::proofs::Counted::many))]
+fn read_longest(words: &[String]) -> Option<Command<'_>>
+    ensures { option_map command_request result ≡ longest_request (texts_of words.now) }
 {
     match words {
         [job, text, word, budget] => read_budgeted(
@@ -42,38 +71,96 @@ fn read_longer(words: &[String]) -> Option<Command<'_>>
     }
 }
 
-// A job with one text.
-fn read_job<'a>(job: &str, text: &'a str) -> Option<Command<'a>>
-    ensures { option_map command_job result ≡ job_of (job.now ∷ text.now ∷ []) }
+// A job with no text.
+fn read_alone<'a>(job: &str, budget: u32) -> Option<Command<'a>>
+    ensures { option_map command_request result ≡ alone_request job.now budget }
 {
-    if job == "check" {
-        Some(Command::Check(text))
-    } else {
-        read_decision(job, text, DEFAULT_BUDGET)
-    }
-}
-
-fn read_decision<'a>(job: &str, text: &'a str, budget: u32) -> Option<Command<'a>>
-    ensures { option_map command_job result ≡ decision_job job.now text.now budget }
-{
-    if job == "sat" {
-        Some(Command::Decide(Question::HasElement(text), budget))
-    } else if job == "entails" {
-        Some(Command::Decide(Question::Follows(text), budget))
+    if job == "classify" {
+        Some(Command::OnInput(Job::Classify(budget)))
     } else {
         None
     }
 }
 
+// A job with one text.
+fn read_job<'a>(job: &str, text: &'a str) -> Option<Command<'a>>
+    ensures { option_map command_request result ≡ text_request job.now text.now }
+{
+    if job == "check" {
+        Some(Command::OnInput(Job::Check(text)))
+    } else {
+        read_searching(job, text, DEFAULT_BUDGET)
+    }
+}
+
+// A job with one text that searches.
+fn read_searching<'a>(job: &str, text: &'a str, budget: u32) -> Option<Command<'a>>
+    ensures { option_map command_request result ≡ searching_request job.now text.now budget }
+{
+    if job == "sat" {
+        Some(Command::OnInput(Job::Decide(Question::HasElement(text), budget)))
+    } else if job == "entails" {
+        Some(Command::OnInput(Job::Decide(Question::Follows(text), budget)))
+    } else {
+        read_pinpointing(job, text, budget)
+    }
+}
+
+fn read_pinpointing<'a>(job: &str, text: &'a str, budget: u32) -> Option<Command<'a>>
+    ensures { option_map command_request result ≡ pinpointing_request job.now text.now budget }
+{
+    if job == "explain" {
+        Some(Command::OnInput(Job::Pinpoint(Wanted::Justifications, text, budget)))
+    } else if job == "repair" {
+        Some(Command::OnInput(Job::Pinpoint(Wanted::Repairs, text, budget)))
+    } else {
+        read_workload(job, text.as_bytes(), budget)
+    }
+}
+
+fn read_workload<'a>(job: &str, text: &[u8], budget: u32) -> Option<Command<'a>>
+    ensures { option_map command_request result ≡ workload_request job.now text.now budget }
+{
+    if job != "workload" {
+        return None;
+    }
+    match read_number(text) {
+        Some(number) => Some(Command::Workload(number, budget)),
+        None => None,
+    }
+}
+
+fn read_number(word: &[u8]) -> Option<WorkloadNumber>
+    ensures { option_map plain_number result ≡ workload_number word.now }
+{
+    match number(word) {
+        Some(number) => WorkloadNumber::new(number),
+        None => None,
+    }
+}
+
 // A job with one text, a word that should be `budget`, and the budget.
 fn read_budgeted<'a>(job: &str, text: &'a str, word: &str, budget: &[u8]) -> Option<Command<'a>>
-    ensures { option_map command_job result ≡ budgeted_job job.now text.now word.now budget.now }
+    ensures { option_map command_request result ≡ budgeted_request job.now text.now word.now budget.now }
 {
     if word != "budget" {
         return None;
     }
     match read_budget(budget) {
-        Some(budget) => read_decision(job, text, budget),
+        Some(budget) => read_searching(job, text, budget),
+        None => None,
+    }
+}
+
+// The same for a job with no text.
+fn read_budgeted_alone<'a>(job: &str, word: &str, budget: &[u8]) -> Option<Command<'a>>
+    ensures { option_map command_request result ≡ budgeted_alone job.now word.now budget.now }
+{
+    if word != "budget" {
+        return None;
+    }
+    match read_budget(budget) {
+        Some(budget) => read_alone(job, budget),
         None => None,
     }
 }

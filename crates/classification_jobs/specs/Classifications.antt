@@ -1,0 +1,58 @@
+-- What is answered to the job of classification.
+use Rattle.std.specs.Prelude.{◌≡◌, ℕ, [], List, codes}
+use Rattle.shq_terms.specs.Listed.{Listed}
+use Rattle.ofn_expressions.specs.declared.refusal.Refusal.{Refusal}
+use Rattle.ofn_reader.specs.DocumentContext.{DocumentContext}
+use Rattle.run_log.specs.declared.entry.Entry.{Entry}
+use Rattle.run_log.specs.HonestLog.{IsClassificationLog}
+use Rattle.run_log.specs.Shown.{ShowsClasses}
+use Rattle.subsumption_rows.specs.Subsumption.{IsSubsumption}
+use Rattle.classification_laws.specs.Classified.{EndsSpent}
+use Rattle.taxonomy.specs.Taxonomies.{Parthood}
+use Rattle.taxonomy.specs.TaxonomyText.{taxonomy_text}
+use Rattle.taxonomy.specs.Laws.{taxonomy_by}
+use Rattle.job_texts.specs.Answer.{line, no_memory, complaint_answer, IsAnswer}
+use Rattle.job_texts.specs.Complaints.{complaint}
+use Rattle.job_texts.specs.declared.complaint.Place.TheVariants.{Document}
+use Rattle.job_texts.specs.declared.status.Status.{Status}
+use Rattle.job_texts.specs.declared.status.Status.TheVariants.{Done, Undecided, NoMemory}
+use Rattle.job_inputs.specs.Questions.{IsDocumentAlone, IsNotAlone}
+
+-- ---- answers on an ontology
+
+-- each two of its classes are decided: the text is that of their taxonomy, and the log is honest and shows it
+pub record IsFinished (budget : ℕ) (out : List ℕ) (log : List Entry) (o : Listed) : Type 0 where
+  pub part_of : Parthood
+  pub is_so : IsSubsumption o part_of
+  pub text : out ≡ taxonomy_text o (taxonomy_by o part_of)
+  pub honest : IsClassificationLog o budget log
+  pub shown : ShowsClasses o log
+
+-- the budget was spent in the middle of a test, the last one of an honest log, and the text says nothing else
+pub record IsUnfinished (budget : ℕ) (out : List ℕ) (log : List Entry) (o : Listed) : Type 0 where
+  pub text : out ≡ line (codes "undecided")
+  pub honest : IsClassificationLog o budget log
+  pub ends : EndsSpent budget log
+
+-- ---- the answer on a document
+
+-- the bytes are a document alone, and this is so of its ontology
+pub record OnDocument (is_so : Listed → Type 0) (bytes : List ℕ) : Type 0 where
+  pub ontology : Listed
+  pub kept : DocumentContext
+  pub is_document : IsDocumentAlone bytes ontology kept
+  pub so : is_so ontology
+
+-- the document is refused, and nothing was asked
+pub record IsRefused (bytes out : List ℕ) (s : Status) (log : List Entry) : Type 0 where
+  pub refusal : Refusal
+  pub refused : IsNotAlone bytes refusal
+  pub answer : IsAnswer (complaint_answer Document (complaint refusal)) out s
+  pub unlogged : log ≡ []
+
+-- the answer, unless memory was refused
+abbrev pub AnswersClassification : ℕ → List ℕ → List ℕ → Status → List Entry → Type 0
+AnswersClassification budget bytes out NoMemory log = out ≡ no_memory
+AnswersClassification budget bytes out Done log = OnDocument (IsFinished budget out log) bytes
+AnswersClassification budget bytes out Undecided log = OnDocument (IsUnfinished budget out log) bytes
+AnswersClassification budget bytes out s log = IsRefused bytes out s log

@@ -1,0 +1,3 @@
+pub mod Classifications
+pub mod Answering
+pub mod Laws

@@ -1,0 +1,62 @@
+// The relation of the classes, and the text of their taxonomy.
+ghost use Rattle.std.specs.Prelude.{◌≡◌, [], IfOk, IfErr, length};
+ghost use Rattle.ontology_limits.specs.Limits.{IsOntologyInLimit};
+ghost use Rattle.run_log.specs.HonestLog.{IsClassificationLog};
+ghost use Rattle.subsumption_rows.specs.Rows.{holds};
+ghost use Rattle.classification_laws.specs.Classified.{IsClassified};
+ghost use Rattle.classifier.specs.Classified.{IsStop};
+ghost use Rattle.taxonomy.specs.Taxonomies.{taxonomy_of};
+ghost use Rattle.taxonomy.specs.TaxonomyText.{taxonomy_text};
+ghost use Rattle.job_texts.specs.Answer.{text_bytes};
+
+use classifier::{Relation, Stop, classify};
+use job_texts::Text;
+use shq_base::NoMemory;
+use shq_oracle::{Oracle, RunLog};
+use shq_terms::Ontology;
+use std::alloc::Global;
+use std::mem;
+use taxonomy::Taxonomy;
+
+/// Which class of the ontology is part of which, within a budget of steps.
+///
+/// # Errors
+///
+/// The budget was spent, or out of memory.
+pub(crate) fn relation_of(
+    alloc: Global,
+    budget: u32,
+    ontology: &Ontology,
+    log: &mut RunLog,
+) -> Result<Relation, Stop>
+    requires in_limit { IsOntologyInLimit ontology.now }
+    requires unlogged { log.old ≡ [] }
+    ensures classified { IfOk result (IsClassified ontology.now log.new) }
+    ensures stopped { IfErr result (IsStop budget log.new) }
+    ensures honest { IsClassificationLog ontology.now budget log.new }
+{
+    let begun = mem::replace(log, RunLog::new(alloc));
+    let mut oracle = Oracle::new(alloc, ontology, budget, begun);
+    let outcome = classify(alloc, &mut oracle, ontology);
+    *log = oracle.into_log();
+    outcome
+}
+
+/// The text of the taxonomy of a relation, with the names of the ontology.
+///
+/// # Errors
+///
+/// Out of memory.
+pub(crate) fn text_of(
+    alloc: Global,
+    relation: Relation,
+    ontology: &Ontology,
+) -> Result<Text, NoMemory>
+    requires { relation.count ≡ length ontology.now.classes }
+    ensures { IfOk result (λ text. text_bytes text ≡ taxonomy_text ontology.now (taxonomy_of (length ontology.now.classes) (holds relation))) }
+{
+    let taxonomy = Taxonomy::of(alloc, &relation)?;
+    let mut out = Vec::new(alloc);
+    taxonomy.text(&mut out, ontology)?;
+    Ok(Text::Bytes(out))
+}

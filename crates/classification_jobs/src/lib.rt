@@ -1,0 +1,14 @@
+//! The job `classify`: which class of a document is part of which.
+//!
+//! The answer is the taxonomy of the document's classes, or that the budget of the search was spent. Whatever was asked stands in
+//! the log, and each line of the taxonomy follows from it: so a reader of the log has no need to trust the order in which the
+//! questions were chosen (Glimm, Horrocks, Motik, Shearer and Stoilos, "A novel approach to ontology classification", Journal of
+//! Web Semantics 14, 2012, give such an order).
+#![tactic(auto)]
+
+mod answering;
+mod deciding;
+mod laws;
+
+pub use answering::classify;
+pub use laws::taxonomies_are_answered_alike;

@@ -1,0 +1,4 @@
+pub mod Searched
+pub mod Asked
+pub mod Lengths
+pub mod Unique

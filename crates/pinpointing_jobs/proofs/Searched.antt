@@ -1,0 +1,180 @@
+-- From what an asker answered to what a search found.
+use Rattle.std.proofs.Common.{◌≡◌, ℕ, ◌+◌, ◌-◌, ◌*◌, ◌^◌, ◌<◌, ◌≤◌, true, List, [], ◌∷◌, ◌++◌, length, get_or, Result, Ok, Err, refl, ap, sym, ◌∙◌, subst, arith, inl, inr}
+use Rattle.std.specs.Prelude.{IfOk, OnOk}
+use Rattle.std.specs.List.{Contains}
+use Rattle.std.proofs.Math.Nat.{mul-le-mul_right}
+use Rattle.std.proofs.lemmas.List.Sums.{sum_by-cons}
+use Rattle.std.proofs.lemmas.List.Elements.{Contains-get_or}
+use Rattle.std.specs.FinSet as set
+use Rattle.lane_sieve.specs.Sets.{NumberSet}
+use Rattle.axiom_sets.specs.Sets.{Limited}
+use Rattle.pinpointing_specs.proofs.Choices.{to_rest}
+use Rattle.pinpointing_specs.proofs.Explored.{removal_is_leaf}
+use Rattle.shq_base.specs.declared.memory.NoMemory.{NoMemory}
+use Rattle.hitting_set_tree.specs.declared.tree.Found.{Found}
+use Rattle.hitting_set_tree.specs.Found.{IsFound}
+use Rattle.hitting_set_tree.specs.Open.{AsksFew}
+use Rattle.shq_terms.specs.Listed.{Listed}
+use Rattle.shq_terms.specs.declared.axioms.Query.{Query as Asked}
+use Rattle.module_specs.specs.LocalModule.{IsLocalModule, FollowsFrom, of_axioms, IsJustification, IsRepair}
+use Rattle.module_specs.proofs.Kept.{keeps, grows, intersection_part}
+use Rattle.run_log.specs.declared.entry.Entry.{Entry}
+use Rattle.run_log.specs.declared.entry.Entry.TheVariants.{Test, Node}
+use Rattle.run_log.specs.Entries.{cost_of, spent_of, nodes_of}
+use Rattle.run_log.specs.HonestLog.{IsJustificationSet, EndsWhenSpent, AsksFewPerNode, KeepsToBudget, IsPinpointingLog}
+use Rattle.run_log.specs.Shown.{IsShownYes, IsShownNo}
+use Rattle.shq_oracle.specs.OracleLists.{OracleLists}
+use Rattle.query_asker.specs.AskerLists.{AskerLists, AskerOrigin, origin_of}
+use Rattle.query_asker.specs.Told.{KeepsAnswers, asker_meaning, IsAskerLog}
+use Rattle.pinpointing_lists.specs.Searched.{IsLeaf, IsSearched}
+use Rattle.pinpointing_lists.proofs.Repairs.{to_justification}
+
+-- ---- counts
+
+-- each node costs one
+nodes_cost : (log : List Entry) → length (nodes_of log) ≤ spent_of log
+nodes_cost [] = omega arith
+nodes_cost (Test s q steps e ∷ log) = omega (arith, nodes_cost log, sum_by-cons cost_of (Test s q steps e) log)
+nodes_cost (Node s ∷ log) = omega (arith, nodes_cost log, sum_by-cons cost_of (Node s) log)
+
+-- so few asks are all counted
+few_asks : (size nodes asks : ℕ) → size ≤ 20000 → nodes < 2 ^ 32 → asks ≤ (size + 1) * nodes → asks < 2 ^ 64 - 1
+few_asks size nodes asks small within few =
+    let size_small : size + 1 ≤ 20001 = omega arith in
+    let more : (size + 1) * nodes ≤ 20001 * nodes = mul-le-mul_right nodes size_small in
+    omega arith
+
+-- ---- the log and the lists
+
+module _ (a : AskerLists) (f : Found) (is_log : IsAskerLog a) (found : IsFound (asker_meaning a) f) (none : a.before ≡ []) (is_module : IsLocalModule a.ontology.axioms a.query a.local_part)
+    (asked : a.asks ≤ (length a.ontology.axioms + 1) * length (nodes_of a.gained)) (small : length a.ontology.axioms ≤ 20000) (budget_small : a.budget < 2 ^ 32) where
+  whole : a.before ++ a.gained ≡ a.gained
+  whole = ap (λ (l : List Entry). l ++ a.gained) none
+
+  within : spent_of a.gained ≤ a.budget
+  within = subst (λ (l : List Entry). spent_of l ≤ a.budget) whole is_log.within
+
+  few : AsksFewPerNode a.ontology a.gained
+  few =
+      let nodes_few : length (nodes_of a.gained) < 2 ^ 32 = omega (arith, nodes_cost a.gained, within, budget_small) in
+      elim is_log.few [
+        | inl le ↦ omega (arith, le, asked)
+        | inr full ↦ absurd (omega (arith, full, few_asks (length a.ontology.axioms) (length (nodes_of a.gained)) a.asks small nodes_few asked))
+      ]
+
+  just : (j : Limited) → Contains f.justs.items j → IsJustificationSet a.ontology a.query j
+  just j listed = to_justification a.ontology a.query j (found.just_limits j listed) (found.smallest j listed)
+
+  budget_kept : KeepsToBudget a.ontology a.budget a.gained
+  budget_kept = record { within = within; honest = is_log.honest; ends = subst (EndsWhenSpent a.budget) whole is_log.ends }
+
+  honest : IsPinpointingLog a.ontology a.query a.budget a.gained
+  honest = record {
+    budget_kept = budget_kept;
+    tests = is_log.tests;
+    new = is_log.new;
+    nodes = record { labels = f.justs.items; justifications = λ k d lt. just (get_or f.justs.items k d) (Contains-get_or f.justs.items k d lt); nodes = found.nodes };
+    few = few;
+    in_module = record { local_part = a.local_part; is_module = is_module; within = is_log.in_module };
+  }
+
+  leaf : (l : Limited) → Contains f.leaves.items l → IsLeaf a.ontology a.query l
+  leaf l listed = record { limit_is = found.leaf_limits l listed; within = (found.ends l listed).0; ends = (found.ends l listed).1 }
+
+  -- ---- a finished search
+
+  yes_shown : f.finished ≡ true → (j : NumberSet) → IsJustification a.ontology.axioms a.query j → IsShownYes a.gained a.query j
+  yes_shown finished j x =
+      let s = of_axioms a.ontology.axioms j in
+      found.shown_yes s (found.all finished s refl x)
+
+  no_shown : f.finished ≡ true → (m r : NumberSet) → IsLocalModule a.ontology.axioms a.query m → IsRepair a.ontology.axioms a.query r → IsShownNo a.gained a.query m r
+  no_shown finished m r is x =
+      let s = of_axioms a.ontology.axioms r in
+      let listed = removal_is_leaf (FollowsFrom a.ontology.axioms a.query) (length a.ontology.axioms) f.justs.items f.leaves.items (grows a.ontology.axioms a.query) (found.explored finished) s refl x in
+      let shown = found.shown_no s listed in
+      record {
+        tested = shown.tested;
+        steps = shown.steps;
+        is_no = shown.is_no;
+        has_rest = λ k in_m out_r. let inside = is.within k in_m in shown.has_part k (to_rest s k inside.0 inside.1 out_r) (is.least a.local_part is_module.closed k in_m);
+      }
+
+  pub searched : IsSearched a.ontology a.query a.budget a.gained f
+  searched = record {
+    honest = honest;
+    order = found.order;
+    justifications = just;
+    leaves = leaf;
+    limits = found.limits;
+    nodes = found.nodes;
+    leaf_taken = found.leaf_taken;
+    settled = found.settled;
+    explored = found.explored;
+    shown = λ finished. record { justifications = yes_shown finished; repairs = no_shown finished };
+    spent = λ unfinished. omega (arith, found.spent unfinished, is_log.within, ap spent_of whole);
+  }
+
+-- ---- of what a call answers
+
+-- what an asker is made of
+record IsMadeOf (o : Listed) (q : Asked) (budget : ℕ) (m : NumberSet) (a : AskerLists) : Type 0 where
+  ontology : a.ontology ≡ o
+  query : a.query ≡ q
+  budget_is : a.budget ≡ budget
+  local_part : a.local_part ≡ m
+  none : a.before ≡ []
+
+is_made_of : (o : Listed) (q : Asked) (budget : ℕ) (m : NumberSet) (a : AskerLists) → origin_of a ≡ record { ontology = o; query = q; budget = budget; local_part = m; before = [] } → IsMadeOf o q budget m a
+is_made_of o q budget m a e = record {
+  ontology = ap (λ (x : AskerOrigin). x.ontology) e;
+  query = ap (λ (x : AskerOrigin). x.query) e;
+  budget_is = ap (λ (x : AskerOrigin). x.budget) e;
+  local_part = ap (λ (x : AskerOrigin). x.local_part) e;
+  none = ap (λ (x : AskerOrigin). x.before) e;
+}
+
+abbrev fresh : Listed → Asked → ℕ → NumberSet → AskerLists
+fresh o q budget m = record { ontology = o; query = q; budget = budget; local_part = m; before = []; gained = []; asks = 0 }
+
+-- one that was made of an oracle with an empty log
+pub made_fresh : (o : Listed) (q : Asked) (budget : ℕ) (m : NumberSet) (oracle : OracleLists) (log : List Entry) (begun : AskerLists)
+    → begun ≡ record { ontology = oracle.ontology; query = q; budget = oracle.budget; local_part = m; before = oracle.log; gained = []; asks = 0 } → oracle ≡ record { ontology = o; budget = budget; log = log } → log ≡ []
+    → begun ≡ fresh o q budget m
+made_fresh o q budget m oracle log begun made is none =
+    made
+    ∙ ap (λ (x : OracleLists). record { ontology = x.ontology; query = q; budget = x.budget; local_part = m; before = x.log; gained = []; asks = 0 }) is
+    ∙ ap (λ (l : List Entry). record { ontology = o; query = q; budget = budget; local_part = m; before = l; gained = []; asks = 0 }) none
+
+-- what follows is told within the local module
+pub module_keeps_answers : (o p : Listed) (q : Asked) (m : NumberSet) → p ≡ o → IsLocalModule o.axioms q m → KeepsAnswers p.axioms q m
+module_keeps_answers o p q m e is =
+    subst (λ (l : Listed). KeepsAnswers l.axioms q m) (sym e) (λ s. (keeps o.axioms q m is s, grows o.axioms q (set.intersection s m) s (intersection_part s m)))
+
+-- an asker that begins with no asks and no nodes makes few asks for each node
+asks_few : (o : Listed) (q : Asked) (budget : ℕ) (m : NumberSet) (begun ended : AskerLists) → begun ≡ fresh o q budget m → AsksFew (length ended.ontology.axioms) (asker_meaning begun) (asker_meaning ended)
+    → ended.asks ≤ (length ended.ontology.axioms + 1) * length (nodes_of ended.gained)
+asks_few o q budget m begun ended e few =
+    let from : AsksFew (length ended.ontology.axioms) (asker_meaning (fresh o q budget m)) (asker_meaning ended) = subst (λ (x : AskerLists). AsksFew (length ended.ontology.axioms) (asker_meaning x) (asker_meaning ended)) e few in
+    omega (arith, from)
+
+along : (o p : Listed) (q r : Asked) (b c : ℕ) (log more : List Entry) (f : Found) → o ≡ p → q ≡ r → b ≡ c → log ≡ more → IsSearched o q b log f → IsSearched p r c more f
+along o p q r b c log more f e e' e'' e''' h =
+    subst (λ (l : Listed). IsSearched l r c more f) e
+    (subst (λ (k : Asked). IsSearched o k c more f) e'
+    (subst (λ (n : ℕ). IsSearched o q n more f) e''
+    (subst (λ (l : List Entry). IsSearched o q b l f) e''' h)))
+
+module _ (o : Listed) (q : Asked) (budget : ℕ) (m : NumberSet) (begun ended : AskerLists) (log : List Entry) where
+  pub all_searched : begun ≡ fresh o q budget m → origin_of ended ≡ origin_of begun → IsAskerLog ended → log ≡ ended.before ++ ended.gained → IsLocalModule o.axioms q m → length o.axioms ≤ 20000 → budget < 2 ^ 32
+      → (r : Result Found NoMemory) → IfOk r (IsFound (asker_meaning ended)) → OnOk r (AsksFew (length ended.ontology.axioms) (asker_meaning begun) (asker_meaning ended)) → IfOk r (IsSearched o q budget log)
+  all_searched made same is_log log_is is_module small budget_small (Err e) found few = tt
+  all_searched made same is_log log_is is_module small budget_small (Ok f) found few =
+      let of = is_made_of o q budget m ended (same ∙ ap origin_of made) in
+      let moved : IsLocalModule ended.ontology.axioms ended.query ended.local_part =
+      subst (λ (l : Listed). IsLocalModule l.axioms ended.query ended.local_part) (sym of.ontology)
+      (subst (λ (k : Asked). IsLocalModule o.axioms k ended.local_part) (sym of.query) (subst (λ (s : NumberSet). IsLocalModule o.axioms q s) (sym of.local_part) is_module)) in
+      let logged : ended.gained ≡ log = sym (ap (λ (l : List Entry). l ++ ended.gained) of.none) ∙ sym log_is in
+      let count : length ended.ontology.axioms ≡ length o.axioms = ap (λ (l : Listed). length l.axioms) of.ontology in
+      along ended.ontology o ended.query q ended.budget budget ended.gained log f of.ontology of.query of.budget_is logged
+      (searched ended f is_log found of.none moved (asks_few o q budget m begun ended made few) (omega (arith, small, count)) (omega (arith, budget_small, of.budget_is)))

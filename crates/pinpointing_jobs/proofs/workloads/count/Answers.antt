@@ -1,0 +1,11 @@
+use Rattle.std.proofs.Common.{}
+use Rattle.job_texts.specs.Answer.{text_bytes}
+use Rattle.pinpointing_lists.proofs.Listed.{of_axioms_found, all_counted}
+use Rattle.pinpointing_jobs.proofs.workloads.count.Goals as goal
+
+pub count_answer-outcome-requires : goal.count_answer-outcome-requires
+count_answer-outcome-requires c = of_axioms_found c.args.ontology.now c.args.query.now c.args.budget c.search.new.log c.in_ok-found.found c.in_ok-found.ensures
+
+pub returns : goal.returns
+returns c =
+    all_counted c.args.ontology.now c.args.query.now c.args.budget c.search.new.log c.in_ok-found.found c.in_ok-found.ensures c.args.number c.count_answer-outcome.result text_bytes c.count_answer-outcome.ensures

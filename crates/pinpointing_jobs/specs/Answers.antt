@@ -1,0 +1,43 @@
+-- What is answered to the question which sets of axioms are wanted, and to a workload.
+use Rattle.std.specs.Prelude.{◌⊎◌, ℕ, List, codes}
+use Rattle.shq_terms.specs.Listed.{Listed}
+use Rattle.shq_terms.specs.declared.axioms.Query.{Query as Asked}
+use Rattle.workload.specs.WorkloadText.{workload_text}
+use Rattle.run_log.specs.declared.entry.Entry.{Entry}
+use Rattle.job_texts.specs.declared.status.Status.{Status}
+use Rattle.job_inputs.specs.Questions.{follows, IsQuestion}
+use Rattle.decision_jobs.specs.Decisions.{IsRefused}
+use Rattle.pinpointing_lists.specs.declared.wanted.Wanted.{Wanted}
+use Rattle.pinpointing_lists.specs.Listings.{IsListed}
+use Rattle.pinpointing_lists.specs.Counts.{IsCounted}
+use Rattle.pinpointing_jobs.specs.Memory.{UnlessNoMemory}
+
+-- ---- lists of sets
+
+-- the inclusion is a query on the document that the bytes are, and its sets were listed
+pub record IsPinpointed (w : Wanted) (inclusion : List ℕ) (budget : ℕ) (bytes out : List ℕ) (s : Status) (log : List Entry) : Type 0 where
+  pub ontology : Listed
+  pub query : Asked
+  pub is_question : IsQuestion (follows inclusion) bytes ontology query
+  pub listed : IsListed w ontology query budget log s out
+
+-- the document or the inclusion is refused, or its sets were listed
+abbrev pub AnswersPinpointing : Wanted → List ℕ → ℕ → List ℕ → List ℕ → Status → List Entry → Type 0
+AnswersPinpointing w inclusion budget bytes out s log = UnlessNoMemory s out (IsRefused (follows inclusion) bytes out s log ⊎ IsPinpointed w inclusion budget bytes out s log)
+
+-- ---- workloads
+
+-- the query of each workload
+abbrev pub workload_query : List ℕ
+workload_query = codes "SubClassOf(:Q0 :Q3)"
+
+-- the text of the number is a document, and the sets of its query were counted
+pub record IsMeasured (number budget : ℕ) (out : List ℕ) (s : Status) (log : List Entry) : Type 0 where
+  pub ontology : Listed
+  pub query : Asked
+  pub is_question : IsQuestion (follows workload_query) (workload_text number) ontology query
+  pub counted : IsCounted number ontology query budget log s out
+
+-- the text or its query is refused, or its sets were counted
+abbrev pub AnswersWorkload : ℕ → ℕ → List ℕ → Status → List Entry → Type 0
+AnswersWorkload number budget out s log = UnlessNoMemory s out (IsRefused (follows workload_query) (workload_text number) out s log ⊎ IsMeasured number budget out s log)

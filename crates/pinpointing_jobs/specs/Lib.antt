@@ -1,0 +1,4 @@
+pub mod Memory
+pub mod Asked
+pub mod Answers
+pub mod Laws

@@ -1,0 +1,40 @@
+// The search for justifications and repairs.
+ghost use Rattle.std.specs.Prelude.{◌≡◌, [], IfOk};
+ghost use Rattle.ontology_limits.specs.Limits.{IsInLimit};
+ghost use Rattle.pinpointing_lists.specs.Searched.{IsSearched};
+
+use hitting_set_tree::{Found, enumerate};
+use module_extract::module;
+use query_asker::Asker;
+use run_log::RunLog;
+use shq_base::NoMemory;
+use shq_oracle::Oracle;
+use shq_terms::{Ontology, Query};
+use std::alloc::Global;
+use std::mem;
+
+/// Searches for the justifications of a query and for leaves among which its repairs are, within a budget of steps and nodes. The
+/// log gets what was asked, also where memory is refused.
+///
+/// # Errors
+///
+/// Out of memory.
+pub(crate) fn search(
+    alloc: Global,
+    ontology: &Ontology,
+    query: &Query,
+    budget: u32,
+    log: &mut RunLog,
+) -> Result<Found, NoMemory>
+    requires in_limit { IsInLimit ontology.now query.now }
+    requires unlogged { log.old ≡ [] }
+    ensures { IfOk result (IsSearched ontology.now query.now budget log.new) }
+{
+    let module = module(alloc, ontology, query)?;
+    let begun = mem::replace(log, RunLog::new(alloc));
+    let oracle = Oracle::new(alloc, ontology, budget, begun);
+    let mut asker = Asker::within(alloc, oracle, query, module);
+    let outcome = enumerate(alloc, &mut asker);
+    *log = asker.into_oracle().into_log();
+    outcome
+}

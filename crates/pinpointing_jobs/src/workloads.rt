@@ -1,0 +1,103 @@
+// The numbers of the sets of a generated document.
+ghost use Rattle.std.specs.Prelude.{◌≡◌, ◌≤◌, false, [], IfOk, IfErr};
+ghost use Rattle.ontology_limits.specs.Limits.{IsInLimit};
+ghost use Rattle.workload.specs.WorkloadText.{workload_text};
+ghost use Rattle.job_texts.specs.Answer.{text_bytes, is_fault};
+ghost use Rattle.job_inputs.specs.Questions.{follows};
+ghost use Rattle.decision_jobs.specs.Answering.{IsUnanswered};
+ghost use Rattle.pinpointing_lists.specs.Counts.{IsCounted};
+ghost use Rattle.pinpointing_jobs.specs.Asked.{IsInput, IsNoInput};
+ghost use Rattle.pinpointing_jobs.specs.Answers.{workload_query, IsMeasured, AnswersWorkload};
+
+use crate::asking::{Input, read_input};
+use crate::searching::search;
+use certificate_check::{Unread, unread_reply};
+use job_texts::{Status, Text};
+use pinpointing_lists::count_answer;
+use run_log::RunLog;
+use shq_base::NoMemory;
+use shq_terms::{Ontology, Query};
+use std::alloc::Global;
+use workload::{QUERY, generate};
+
+/// The numbers of axioms, justifications and repairs of the workload of a number: how the run ends, and the text. The log gets what
+/// was asked.
+///
+/// `budget` is the number of steps and nodes that the search may take. Where it does not suffice, the run ends `Undecided`.
+pub fn run_workload(alloc: Global, number: u32, budget: u32, log: &mut RunLog) -> (Status, Text)
+    requires least { 1 ≤ number }
+    requires most { number ≤ 4000 }
+    requires unlogged { log.old ≡ [] }
+    ensures answer { AnswersWorkload number budget (text_bytes result.1) result.0 log.new }
+    ensures no_fault { is_fault result.0 ≡ false }
+{
+    match measured(alloc, number, budget, log) {
+        Ok(answer) => answer,
+        Err(unread) => unread_reply(alloc, unread),
+    }
+}
+
+// The numbers, unless the text or its query is refused.
+fn measured(
+    alloc: Global,
+    number: u32,
+    budget: u32,
+    log: &mut RunLog,
+) -> Result<(Status, Text), Unread>
+    requires least { 1 ≤ number }
+    requires most { number ≤ 4000 }
+    requires unlogged { log.old ≡ [] }
+    ensures answer { IfOk result (λ a. IsMeasured number budget (text_bytes a.1) a.0 log.new) }
+    ensures unread { IfErr result (IsUnanswered (follows workload_query) (workload_text number) log.new) }
+{
+    let input = generated(alloc, number)?;
+    let answer = counted(alloc, number, budget, input, log)?;
+    Ok(answer)
+}
+
+// The workload of a number.
+fn generated(alloc: Global, number: u32) -> Result<Input, Unread>
+    requires least { 1 ≤ number }
+    requires most { number ≤ 4000 }
+    ensures input { IfOk result (IsInput workload_query (workload_text number)) }
+    ensures unread { IfErr result (IsNoInput workload_query (workload_text number)) }
+{
+    let text = generate(alloc, number)?;
+    read_input(alloc, QUERY, &text)
+}
+
+// The numbers of the sets of what was read.
+fn counted(
+    alloc: Global,
+    number: u32,
+    budget: u32,
+    input: Input,
+    log: &mut RunLog,
+) -> Result<(Status, Text), NoMemory>
+    requires in_limit { IsInLimit input.ontology input.query }
+    requires unlogged { log.old ≡ [] }
+    ensures { IfOk result (λ a. IsCounted number input.ontology input.query budget log.new a.0 (text_bytes a.1)) }
+{
+    let outcome = count(alloc, number, &input.ontology, &input.query, budget, log);
+    drop(input);
+    outcome
+}
+
+// The numbers of the sets of a query.
+fn count(
+    alloc: Global,
+    number: u32,
+    ontology: &Ontology,
+    query: &Query,
+    budget: u32,
+    log: &mut RunLog,
+) -> Result<(Status, Text), NoMemory>
+    requires in_limit { IsInLimit ontology.now query.now }
+    requires unlogged { log.old ≡ [] }
+    ensures { IfOk result (λ a. IsCounted number ontology.now query.now budget log.new a.0 (text_bytes a.1)) }
+{
+    let found = search(alloc, ontology, query, budget, log)?;
+    let outcome = count_answer(alloc, number, ontology, &found);
+    drop(found);
+    outcome
+}
