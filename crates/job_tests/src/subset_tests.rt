@@ -1,0 +1,305 @@
+// Lists compared with what all subsets of the axioms say, each asked by itself.
+
+use crate::runs::{document, run_on};
+use ontology_jobs::Status;
+use std::alloc::Global;
+use std::test::Fail;
+
+// Axioms, one on each line, and a query.
+const ONTOLOGIES: [(&[&str], &str); 20] = [
+    (
+        &[
+            "SubClassOf(:A :B)",
+            "SubClassOf(:B :C)",
+            "SubClassOf(:A :C)",
+        ],
+        "SubClassOf(:A :C)",
+    ),
+    (
+        &[
+            "SubClassOf(:A ObjectUnionOf(:B :C))",
+            "SubClassOf(:B :D)",
+            "SubClassOf(:C :D)",
+            "SubClassOf(:A :D)",
+        ],
+        "SubClassOf(:A :D)",
+    ),
+    (
+        &[
+            "SubClassOf(:A ObjectSomeValuesFrom(:R :B))",
+            "SubClassOf(:A ObjectSomeValuesFrom(:R :C))",
+            "SubClassOf(:A ObjectMaxCardinality(1 :R))",
+            "DisjointClasses(:B :C)",
+            "SubClassOf(:B owl:Nothing)",
+        ],
+        "SubClassOf(:A owl:Nothing)",
+    ),
+    (
+        &[
+            "TransitiveObjectProperty(:R)",
+            "SubObjectPropertyOf(:S :R)",
+            "SubClassOf(:A ObjectSomeValuesFrom(:S ObjectSomeValuesFrom(:S :B)))",
+            "SubClassOf(:A ObjectAllValuesFrom(:R ObjectComplementOf(:B)))",
+            "SubClassOf(:A ObjectAllValuesFrom(:S owl:Nothing))",
+        ],
+        "SubClassOf(:A owl:Nothing)",
+    ),
+    (
+        &[
+            "SubClassOf(:A ObjectMinCardinality(3 :R :B))",
+            "SubClassOf(:A ObjectMaxCardinality(2 :R :C))",
+            "SubClassOf(:B :C)",
+            "SubClassOf(:A ObjectMaxCardinality(2 :R))",
+        ],
+        "SubClassOf(:A owl:Nothing)",
+    ),
+    (
+        &[
+            "EquivalentClasses(:A ObjectSomeValuesFrom(:R :B))",
+            "SubClassOf(:B :C)",
+            "EquivalentClasses(:D ObjectSomeValuesFrom(:R :C))",
+            "SubClassOf(:A :D)",
+        ],
+        "SubClassOf(:A :D)",
+    ),
+    (
+        &[
+            "ObjectPropertyDomain(:R :A)",
+            "SubObjectPropertyOf(:S :R)",
+            "ObjectPropertyDomain(:S :A)",
+        ],
+        "SubClassOf(ObjectSomeValuesFrom(:S :B) :A)",
+    ),
+    (
+        &[
+            "ObjectPropertyRange(:R :A)",
+            "SubObjectPropertyOf(:S :R)",
+            "SubClassOf(:B ObjectSomeValuesFrom(:S owl:Thing))",
+            "DisjointClasses(:A :A)",
+        ],
+        "SubClassOf(:B owl:Nothing)",
+    ),
+    (
+        &[
+            "DisjointUnion(:A :B :C)",
+            "SubClassOf(:D :A)",
+            "SubClassOf(:D ObjectComplementOf(:B))",
+            "SubClassOf(:C :E)",
+        ],
+        "SubClassOf(:D :E)",
+    ),
+    (
+        &[
+            "FunctionalObjectProperty(:R)",
+            "SubClassOf(:A ObjectSomeValuesFrom(:R :B))",
+            "SubClassOf(:A ObjectSomeValuesFrom(:R :C))",
+            "SubClassOf(ObjectIntersectionOf(:B :C) :D)",
+        ],
+        "SubClassOf(:A ObjectSomeValuesFrom(:R :D))",
+    ),
+    (
+        &[
+            "SubClassOf(owl:Thing :A)",
+            "SubClassOf(:B :C)",
+            "SubClassOf(:A :C)",
+        ],
+        "SubClassOf(:B :C)",
+    ),
+    (
+        &["SubClassOf(owl:Thing owl:Nothing)", "SubClassOf(:A :B)"],
+        "SubClassOf(:A :B)",
+    ),
+    (
+        &[
+            "EquivalentObjectProperties(:R :S)",
+            "SubClassOf(:A ObjectSomeValuesFrom(:R :B))",
+            "SubClassOf(:A ObjectAllValuesFrom(:S :C))",
+            "DisjointClasses(:B :C)",
+        ],
+        "SubClassOf(:A owl:Nothing)",
+    ),
+    (
+        &[
+            "SubClassOf(:A ObjectMinCardinality(2 :R))",
+            "SubClassOf(:A ObjectMaxCardinality(1 :R :B))",
+            "SubClassOf(:A ObjectAllValuesFrom(:R :B))",
+            "SubClassOf(:B :C)",
+        ],
+        "SubClassOf(:A owl:Nothing)",
+    ),
+    (
+        &[
+            "SubClassOf(:A ObjectSomeValuesFrom(:R :A))",
+            "SubClassOf(:A ObjectAllValuesFrom(:R ObjectComplementOf(:A)))",
+            "SubClassOf(:A :B)",
+        ],
+        "SubClassOf(:A :B)",
+    ),
+    (
+        &[
+            "TransitiveObjectProperty(:R)",
+            "SubClassOf(:A ObjectSomeValuesFrom(:R :B))",
+            "SubClassOf(:B ObjectSomeValuesFrom(:R :C))",
+            "SubClassOf(ObjectSomeValuesFrom(:R :C) :D)",
+            "SubClassOf(:B :D)",
+        ],
+        "SubClassOf(:A :D)",
+    ),
+    (
+        &[
+            "SubClassOf(:A ObjectUnionOf(:B :C))",
+            "SubClassOf(:A ObjectUnionOf(ObjectComplementOf(:B) :D))",
+            "SubClassOf(:C :D)",
+            "SubClassOf(:B :D)",
+        ],
+        "SubClassOf(:A :D)",
+    ),
+    (
+        &[
+            "SubClassOf(:A ObjectExactCardinality(2 :R :B))",
+            "SubClassOf(:A ObjectMaxCardinality(1 :R))",
+            "SubClassOf(:A ObjectExactCardinality(0 :R :B))",
+        ],
+        "SubClassOf(:A owl:Nothing)",
+    ),
+    (
+        &[
+            "SubClassOf(:A :B)",
+            "SubClassOf(:B :A)",
+            "SubClassOf(:B :C)",
+            "SubClassOf(:A :C)",
+            "SubClassOf(:C :A)",
+        ],
+        "SubClassOf(:B :C)",
+    ),
+    (
+        &[
+            "SubClassOf(:A ObjectIntersectionOf(:B :C))",
+            "EquivalentClasses(:D ObjectIntersectionOf(:B :C))",
+            "SubClassOf(:B :D)",
+        ],
+        "SubClassOf(:A :D)",
+    ),
+];
+
+// Whether the axiom at this place, from 0, is in the subset.
+fn is_in(subset: u32, place: u32) -> bool {
+    (subset >> (place % 16)) & 1 == 1
+}
+
+fn without(subset: u32, place: u32) -> u32 {
+    subset & !(1_u32 << (place % 16))
+}
+
+// Whether the query follows from the axioms of the subset.
+fn follows(alloc: Global, axioms: &[&str], query: &str, subset: u32) -> Result<bool, Fail> {
+    let mut lines = String::new(alloc);
+    for (place, axiom) in axioms.iter().enumerate() {
+        if is_in(subset, place as u32) {
+            lines.push_str(axiom)?;
+            lines.push_str("\n")?;
+        }
+    }
+    let document = document(alloc, &lines)?;
+    let answer = run_on(alloc, &["entails", query], document.as_bytes())?;
+    Ok(answer.sink.taken().starts_with(b"entailed\n"))
+}
+
+// Of each subset of the axioms, whether it is wanted: whether the query follows from it, or does not follow without it.
+fn wanted_subsets(
+    alloc: Global,
+    axioms: &[&str],
+    query: &str,
+    job: &str,
+) -> Result<Vec<bool>, Fail> {
+    let all = (1_u32 << (axioms.len() as u32 % 16)) - 1;
+    let mut wanted = Vec::new(alloc);
+    for subset in 0..all + 1 {
+        let is_wanted = if job == "explain" {
+            follows(alloc, axioms, query, subset)?
+        } else {
+            !follows(alloc, axioms, query, all & !subset)?
+        };
+        wanted.push(is_wanted)?;
+    }
+    Ok(wanted)
+}
+
+fn is_wanted(wanted: &[bool], subset: u32) -> bool {
+    wanted.get(subset as usize) == Some(&true)
+}
+
+// Whether the subset is wanted, and no subset that lacks one axiom more is.
+fn is_smallest(wanted: &[bool], subset: u32) -> bool {
+    let mut smallest = is_wanted(wanted, subset);
+    for place in 0..16 {
+        if is_in(subset, place) && is_wanted(wanted, without(subset, place)) {
+            smallest = false;
+        }
+    }
+    smallest
+}
+
+// The numbers of the subset's axioms, as they are printed.
+fn line_of(alloc: Global, subset: u32) -> Result<String, Fail> {
+    let mut line = String::new(alloc);
+    for place in 0..16_u32 {
+        if is_in(subset, place) {
+            if !line.is_empty() {
+                line.push_str(" ")?;
+            }
+            line.push_str(&format!(in alloc; "{}", place + 1)?)?;
+        }
+    }
+    if line.is_empty() {
+        line.push_str("empty")?;
+    }
+    Ok(line)
+}
+
+// The list that the job should print, by all subsets. There are fewer than ten axioms, so lines and sets have one order.
+fn list_by_subsets(alloc: Global, axioms: &[&str], query: &str, job: &str) -> Result<String, Fail> {
+    let wanted = wanted_subsets(alloc, axioms, query, job)?;
+    let mut lines = Vec::new(alloc);
+    for subset in 0..wanted.len() as u32 {
+        if is_smallest(&wanted, subset) {
+            lines.push(line_of(alloc, subset)?)?;
+        }
+    }
+    lines.sort_unstable();
+    let heading = if job == "explain" {
+        "justifications"
+    } else {
+        "repairs"
+    };
+    let mut text = format!(in alloc; "{heading} {}\n", lines.len())?;
+    for line in lines.iter() {
+        text.push_str(line)?;
+        text.push_str("\n")?;
+    }
+    Ok(text)
+}
+
+// What the job prints.
+fn printed(alloc: Global, axioms: &[&str], words: [&str; 2]) -> Result<Vec<u8>, Fail> {
+    let mut lines = String::new(alloc);
+    for axiom in axioms {
+        lines.push_str(axiom)?;
+        lines.push_str("\n")?;
+    }
+    let document = document(alloc, &lines)?;
+    let answer = run_on(alloc, &words, document.as_bytes())?;
+    Ok(Vec::from_slice(alloc, answer.sink.taken())?)
+}
+
+#[test]
+fn agrees_with_all_subsets(rt: HostRuntime) -> Result<(), Fail> {
+    for (axioms, query) in ONTOLOGIES {
+        for job in ["explain", "repair"] {
+            let list = list_by_subsets(rt.alloc(), axioms, query, job)?;
+            let text = printed(rt.alloc(), axioms, [job, query])?;
+            assert!(rt; text.starts_with(list.as_bytes()), "{list}");
+        }
+    }
+    Ok(())
+}
