@@ -183,19 +183,19 @@ const ONTOLOGIES: [(&[&str], &str); 20] = [
 ];
 
 // Whether the axiom at this place, from 0, is in the subset.
-fn is_in(subset: u32, place: u32) -> bool {
+fn is_in(subset: usize, place: usize) -> bool {
     (subset >> (place % 16)) & 1 == 1
 }
 
-fn without(subset: u32, place: u32) -> u32 {
-    subset & !(1_u32 << (place % 16))
+fn without(subset: usize, place: usize) -> usize {
+    subset & !(1_usize << (place % 16))
 }
 
 // Whether the query follows from the axioms of the subset.
-fn follows(alloc: Global, axioms: &[&str], query: &str, subset: u32) -> Result<bool, Fail> {
+fn follows(alloc: Global, axioms: &[&str], query: &str, subset: usize) -> Result<bool, Fail> {
     let mut lines = String::new(alloc);
     for (place, axiom) in axioms.iter().enumerate() {
-        if is_in(subset, place as u32) {
+        if is_in(subset, place) {
             lines.push_str(axiom)?;
             lines.push_str("\n")?;
         }
@@ -205,34 +205,41 @@ fn follows(alloc: Global, axioms: &[&str], query: &str, subset: u32) -> Result<b
     Ok(answer.sink.taken().starts_with(b"entailed\n"))
 }
 
-// Of each subset of the axioms, whether it is wanted: whether the query follows from it, or does not follow without it.
-fn wanted_subsets(
+// Whether the subset is wanted: the query follows from it, or does not follow without it.
+fn is_asked_for(
     alloc: Global,
     axioms: &[&str],
-    query: &str,
-    job: &str,
-) -> Result<Vec<bool>, Fail> {
-    let all = (1_u32 << (axioms.len() as u32 % 16)) - 1;
+    words: [&str; 2],
+    subset: usize,
+    all: usize,
+) -> Result<bool, Fail> {
+    if words[0] == "explain" {
+        follows(alloc, axioms, words[1], subset)
+    } else {
+        let without = follows(alloc, axioms, words[1], all & !subset)?;
+        Ok(!without)
+    }
+}
+
+// Of each subset of the axioms, whether it is wanted.
+fn wanted_subsets(alloc: Global, axioms: &[&str], words: [&str; 2]) -> Result<Vec<bool>, Fail> {
+    let count = 1_usize << (axioms.len() % 16);
+    let all = count.saturating_sub(1);
     let mut wanted = Vec::new(alloc);
-    for subset in 0..all + 1 {
-        let is_wanted = if job == "explain" {
-            follows(alloc, axioms, query, subset)?
-        } else {
-            !follows(alloc, axioms, query, all & !subset)?
-        };
-        wanted.push(is_wanted)?;
+    for subset in 0..count {
+        wanted.push(is_asked_for(alloc, axioms, words, subset, all)?)?;
     }
     Ok(wanted)
 }
 
-fn is_wanted(wanted: &[bool], subset: u32) -> bool {
-    wanted.get(subset as usize) == Some(&true)
+fn is_wanted(wanted: &[bool], subset: usize) -> bool {
+    wanted.get(subset) == Some(&true)
 }
 
 // Whether the subset is wanted, and no subset that lacks one axiom more is.
-fn is_smallest(wanted: &[bool], subset: u32) -> bool {
+fn is_smallest(wanted: &[bool], subset: usize) -> bool {
     let mut smallest = is_wanted(wanted, subset);
-    for place in 0..16 {
+    for place in 0..16_usize {
         if is_in(subset, place) && is_wanted(wanted, without(subset, place)) {
             smallest = false;
         }
@@ -241,9 +248,9 @@ fn is_smallest(wanted: &[bool], subset: u32) -> bool {
 }
 
 // The numbers of the subset's axioms, as they are printed.
-fn line_of(alloc: Global, subset: u32) -> Result<String, Fail> {
+fn line_of(alloc: Global, subset: usize) -> Result<String, Fail> {
     let mut line = String::new(alloc);
-    for place in 0..16_u32 {
+    for place in 0..16_usize {
         if is_in(subset, place) {
             if !line.is_empty() {
                 line.push_str(" ")?;
@@ -258,23 +265,29 @@ fn line_of(alloc: Global, subset: u32) -> Result<String, Fail> {
 }
 
 // The list that the job should print, by all subsets. There are fewer than ten axioms, so lines and sets have one order.
-fn list_by_subsets(alloc: Global, axioms: &[&str], query: &str, job: &str) -> Result<String, Fail> {
-    let wanted = wanted_subsets(alloc, axioms, query, job)?;
+fn list_by_subsets(alloc: Global, axioms: &[&str], words: [&str; 2]) -> Result<String, Fail> {
+    let wanted = wanted_subsets(alloc, axioms, words)?;
     let mut lines = Vec::new(alloc);
-    for subset in 0..wanted.len() as u32 {
+    for subset in 0..wanted.len() {
         if is_smallest(&wanted, subset) {
             lines.push(line_of(alloc, subset)?)?;
         }
     }
     lines.sort_unstable();
+    list_text(alloc, words[0], &lines)
+}
+
+// The heading of the list, and its lines.
+fn list_text(alloc: Global, job: &str, lines: &[String]) -> Result<String, Fail> {
     let heading = if job == "explain" {
         "justifications"
     } else {
         "repairs"
     };
-    let mut text = format!(in alloc; "{heading} {}\n", lines.len())?;
-    for line in lines.iter() {
-        text.push_str(line)?;
+    let count = lines.len();
+    let mut text = format!(in alloc; "{heading} {count}\n")?;
+    for line in lines {
+        text.push_str(line.as_str())?;
         text.push_str("\n")?;
     }
     Ok(text)
@@ -296,7 +309,7 @@ fn printed(alloc: Global, axioms: &[&str], words: [&str; 2]) -> Result<Vec<u8>, 
 fn agrees_with_all_subsets(rt: HostRuntime) -> Result<(), Fail> {
     for (axioms, query) in ONTOLOGIES {
         for job in ["explain", "repair"] {
-            let list = list_by_subsets(rt.alloc(), axioms, query, job)?;
+            let list = list_by_subsets(rt.alloc(), axioms, [job, query])?;
             let text = printed(rt.alloc(), axioms, [job, query])?;
             assert!(rt; text.starts_with(list.as_bytes()), "{list}");
         }
