@@ -12,3 +12,4 @@ pub mod Distinct
 pub mod Fresh
 pub mod Printed
 pub mod Agreeing
+pub mod Indexed

@@ -3,6 +3,7 @@ ghost use Rattle.std.specs.Prelude.{◌≡◌, ◌++◌, ◌<◌, ◌^◌, ◌==
 ghost use Rattle.std.specs.List.{list_any};
 ghost use Rattle.fact_tree.specs.Kept.{new_lists, putting, having, leading, parted, absorbing, cut_lists, Begins};
 
+use crate::bits::{forget_after, put_last};
 use lane_sieve::{has_number, put_number};
 use shq_base::NoMemory;
 use std::alloc::Allocator;
@@ -24,8 +25,10 @@ pub(crate) struct Node<A: Allocator> {
     concepts: Vec<u32, A>,
     edges: Vec<(u32, u32), A>,
     aparts: Vec<u32, A>,
-    // The bits of its concepts by their remainders, and maybe more: most concepts that it does not have are told by them.
+    // The bits of its concepts by their remainders, and maybe more: while they are few, most others are told by them.
     print: [u64; 4],
+    // A bit for each concept where they are many; else no words.
+    bits: Vec<u64, A>,
     // Where to look first for what says something of it: the places of the first edge into it, and, beside the lists, of
     // what gave its concepts and its aparts. No answer rests on them: who looks there checks what stands there.
     origin_place: u32,
@@ -35,7 +38,7 @@ pub(crate) struct Node<A: Allocator> {
 
 impl<A: Allocator> Model for Node<A> {
     ghost use Rattle.fact_tree.specs.Kept.{Lists};
-    ghost use Rattle.fact_tree.specs.Short.{AreShort, ArePrinted};
+    ghost use Rattle.fact_tree.specs.Short.{AreShort, ArePrinted, AreIndexed, EachIsNew};
 
     ghost Value = { Lists };
 
@@ -47,7 +50,7 @@ impl<A: Allocator> Model for Node<A> {
       aparts = n.aparts.items;
     } };
 
-    ghost invariant = { λ n. AreShort n.members.items n.concepts.items n.edges.items n.aparts.items × ArePrinted n.concepts.items n.print };
+    ghost invariant = { λ n. AreShort n.members.items n.concepts.items n.edges.items n.aparts.items × ArePrinted n.concepts.items n.print × AreIndexed n.concepts.items n.bits.items × EachIsNew n.concepts.items };
 }
 
 impl<A: Allocator + Copy> Node<A> {
@@ -75,6 +78,7 @@ impl<A: Allocator + Copy> Node<A> {
             edges: Vec::new(alloc),
             aparts: Vec::new(alloc),
             print,
+            bits: Vec::new(alloc),
             origin_place: place,
             concept_places,
             apart_places: Vec::new(alloc),
@@ -149,6 +153,9 @@ impl<A: Allocator + Copy> Node<A> {
         if !has_number(&self.print, concept % BITS) {
             return false;
         }
+        if !self.bits.is_empty() {
+            return has_number(self.bits.as_slice(), concept);
+        }
         self.concepts.contains(&concept)
     }
 
@@ -159,7 +166,7 @@ impl<A: Allocator + Copy> Node<A> {
 
     /// Where to look first for what gave it a concept.
     pub(crate) fn concept_place(&self, concept: u32) -> u32 {
-        match self.concepts.iter().position(|other| *other == concept) {
+        match self.concepts.iter().rposition(|other| *other == concept) {
             Some(index) => place_at(self.concept_places.as_slice(), index),
             None => u32::MAX,
         }
@@ -183,7 +190,7 @@ impl<A: Allocator + Copy> Node<A> {
         }
         self.concept_places.push(place)?;
         put_number(&mut self.print, concept % BITS);
-        self.concepts.push(concept)?;
+        put_last(&mut self.concepts, &mut self.bits, concept)?;
         Ok(())
     }
 
@@ -273,6 +280,7 @@ impl<A: Allocator + Copy> Node<A> {
     pub(crate) fn cut(&mut self, members: u32, concepts: u32, edges: u32, aparts: u32)
         ensures { self.new ≡ cut_lists members concepts edges aparts self.old }
     {
+        forget_after(&mut self.bits, self.concepts.as_slice(), concepts as usize);
         self.members.truncate(members as usize);
         self.concepts.truncate(concepts as usize);
         self.edges.truncate(edges as usize);

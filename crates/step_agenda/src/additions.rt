@@ -4,8 +4,11 @@ ghost use Rattle.step_finders.specs.Reasons.{IsAddition};
 
 use completion_tree::{Item, Tree};
 use fact_specs::Fact;
+use shq_nnf::Shape;
 use std::alloc::Allocator;
-use step_finders::{Addition, Rules, State, find_by_concept, find_by_name, find_from};
+use step_finders::{
+    Addition, Rules, State, find_by_concept, find_by_edge, find_by_name, find_from, find_general,
+};
 
 /// The first entry from this one on that adds a concept, and what it adds; or the length of the trail.
 pub(crate) fn first_addition<A: Allocator + Copy, S: State, R: Rules>(
@@ -25,16 +28,19 @@ pub(crate) fn first_addition<A: Allocator + Copy, S: State, R: Rules>(
     (tree.len(), None)
 }
 
-// What the entry at this place adds. The first one stands for all that node 0 has at the start.
+// What the entry at this place adds. With the first one, node 0 is there.
 fn addition_at<S: State, R: Rules>(item: Item, place: u32, state: &S, rules: &R) -> Option<Addition>
     ensures { IfSome result (IsAddition (R.context rules.now) (S.facts state.now) (R.files rules.now)) }
 {
-    if place == 0 {
-        return at_node(state, rules, 0);
-    }
-    match item {
-        Item::Fact(fact) => by_fact(fact, state, rules),
-        Item::Mark(_) => None,
+    let at_start = if place == 0 {
+        in_general(state, rules, 0)
+    } else {
+        None
+    };
+    match (at_start, item) {
+        (Some(addition), _) => Some(addition),
+        (None, Item::Fact(fact)) => by_fact(fact, state, rules),
+        (None, Item::Mark(_)) => None,
     }
 }
 
@@ -44,20 +50,86 @@ fn by_fact<S: State, R: Rules>(fact: Fact<u32>, state: &S, rules: &R) -> Option<
 {
     match fact {
         Fact::Has(node, concept) => by_concept(state, rules, state.representative(node), concept),
-        Fact::Edge(_, from, to) => by_edge(state, rules, from, to),
+        Fact::Edge(role, from, to) => by_edge(state, rules, role, state.representative(from), to),
         Fact::Same(node, _) => at_node(state, rules, node),
         Fact::Apart(_, _) => None,
     }
 }
 
-// What the nodes at both ends of an edge add.
-fn by_edge<S: State, R: Rules>(state: &S, rules: &R, from: u32, to: u32) -> Option<Addition>
+// What an edge adds: by what its beginning has, by rows at either end, and by rows that are used at each node, where its end is
+// a new one.
+fn by_edge<S: State, R: Rules>(
+    state: &S,
+    rules: &R,
+    role: u32,
+    from: u32,
+    to: u32,
+) -> Option<Addition>
     ensures { IfSome result (IsAddition (R.context rules.now) (S.facts state.now) (R.files rules.now)) }
 {
-    match at_node(state, rules, from) {
-        Some(addition) => Some(addition),
-        None => at_node(state, rules, to),
+    match by_universals(state, rules, from, to) {
+        Some(addition) => return Some(addition),
+        None => {}
     }
+    match by_ends(state, rules, role, from, to) {
+        Some(addition) => Some(addition),
+        None => in_general(state, rules, to),
+    }
+}
+
+// What a universal restriction of the node adds, where one may say something of this successor.
+fn by_universals<S: State, R: Rules>(state: &S, rules: &R, node: u32, to: u32) -> Option<Addition>
+    ensures { IfSome result (IsAddition (R.context rules.now) (S.facts state.now) (R.files rules.now)) }
+{
+    for concept in state.label(node) {
+        if may_reach(state, rules, *concept, to) {
+            match by_concept(state, rules, node, *concept) {
+                Some(addition) => return Some(addition),
+                None => {}
+            }
+        }
+    }
+    None
+}
+
+// Whether the concept is a universal restriction that the node may not meet yet as a successor.
+fn may_reach<S: State, R: Rules>(state: &S, rules: &R, concept: u32, to: u32) -> bool {
+    match rules.shape(concept) {
+        Shape::AllOf(_, filler) => { !state.has(to, filler) || !rules.carries(concept).is_empty() }
+        _ => false,
+    }
+}
+
+// What rows add at the ends of an edge between these nodes.
+fn by_ends<S: State, R: Rules>(
+    state: &S,
+    rules: &R,
+    role: u32,
+    from: u32,
+    to: u32,
+) -> Option<Addition>
+    ensures { IfSome result (IsAddition (R.context rules.now) (S.facts state.now) (R.files rules.now)) }
+{
+    if from >= state.nodes() {
+        return None;
+    }
+    for edge in state.edges(from) {
+        if edge.0 == role && edge.1 == to {
+            return find_by_edge(state, rules, from, edge.0, state.representative(edge.1));
+        }
+    }
+    None
+}
+
+// What a row that is used at each node adds to the node's representative.
+fn in_general<S: State, R: Rules>(state: &S, rules: &R, node: u32) -> Option<Addition>
+    ensures { IfSome result (IsAddition (R.context rules.now) (S.facts state.now) (R.files rules.now)) }
+{
+    let node = state.representative(node);
+    if node >= state.nodes() {
+        return None;
+    }
+    find_general(state, rules, node)
 }
 
 // What the node's representative adds.

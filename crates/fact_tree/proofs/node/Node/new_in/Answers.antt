@@ -8,4 +8,6 @@ invariant_of-result g c = (
   search rules,
   subst (λ (cs : List ℕ). ArePrinted cs c.put_number.new.words) (sym c.in_ok-push-2.ensures.items)
       (printed_top c.new-concepts.result.items _ c.put_number.new.words c.new-concepts.ensures.items c.put_number.ensures),
+  search rules,
+  search rules,
 )
