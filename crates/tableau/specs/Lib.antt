@@ -1,3 +1,4 @@
 pub mod SearchState
 pub mod Steps
 pub mod Inside
+pub mod Bounds

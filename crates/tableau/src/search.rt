@@ -4,12 +4,14 @@ ghost use Rattle.ontology_limits.specs.Limits.{IsInLimit};
 ghost use Rattle.search_rules.specs.RuleLists.{AreNumbersOf};
 ghost use Rattle.tableau.specs.SearchState.{IsReachedBy, HasBegun, IsSameSearch};
 ghost use Rattle.tableau.specs.Steps.{IsEvent, IsEnd};
+ghost use Rattle.tableau.specs.Bounds.{HasFewSteps, HasFewMarks};
 ghost use Rattle.tableau.specs.Inside.{goes_on as event_goes_on, is_spent, IsHalted, IsWalked};
 
 use crate::advancing::{advance, settle};
 use crate::{NoMemory, Refutation};
 use blocking::Prints;
 use completion_tree::Tree;
+use search_bounds::{few_marks, few_steps_without_going_back};
 use search_rules::SearchRules;
 use search_state::Progress;
 use shq_terms::Query;
@@ -213,11 +215,16 @@ impl<'b, A: Allocator + Copy> Search<'b, A> {
         Ok(end)
     }
 
-    /// How many steps were made.
+    /// How many steps were made. They lead to the trail, and are few for the nodes and the concepts of the search until it
+    /// first goes on from an alternative; so are its marks.
     pub fn steps(&self) -> u64
         ensures count { result ≡ self.now.steps }
         ensures reached { self.now.failed ≡ false → IsReachedBy self.now }
+        ensures few_steps { self.now.failed ≡ false → HasFewSteps self.now }
+        ensures few_marks { self.now.failed ≡ false → HasFewMarks self.now }
     {
+        few_steps_without_going_back();
+        few_marks();
         self.steps
     }
 
