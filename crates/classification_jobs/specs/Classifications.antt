@@ -8,6 +8,7 @@ use Rattle.run_log.specs.HonestLog.{IsClassificationLog}
 use Rattle.run_log.specs.Shown.{ShowsClasses}
 use Rattle.subsumption_rows.specs.Subsumption.{IsSubsumption}
 use Rattle.classification_laws.specs.Classified.{EndsSpent}
+use Rattle.classification_laws.specs.Excluded.{AsksNoExcluded}
 use Rattle.taxonomy.specs.Taxonomies.{Parthood}
 use Rattle.taxonomy.specs.TaxonomyText.{taxonomy_text}
 use Rattle.taxonomy.specs.Laws.{taxonomy_by}
@@ -20,18 +21,22 @@ use Rattle.job_inputs.specs.Questions.{IsDocumentAlone, IsNotAlone}
 
 -- ---- answers on an ontology
 
--- each two of its classes are decided: the text is that of their taxonomy, and the log is honest and shows it
+-- each two of its classes are decided: the text is that of their taxonomy, and the log is honest, shows it, and asks nothing that
+-- was ruled out
 pub record IsFinished (budget : ℕ) (out : List ℕ) (log : List Entry) (o : Listed) : Type 0 where
   pub part_of : Parthood
   pub is_so : IsSubsumption o part_of
   pub text : out ≡ taxonomy_text o (taxonomy_by o part_of)
   pub honest : IsClassificationLog o budget log
+  pub excluded : AsksNoExcluded log
   pub shown : ShowsClasses o log
 
--- the budget was spent in the middle of a test, the last one of an honest log, and the text says nothing else
+-- the budget was spent in the middle of a test, the last one of an honest log that asks nothing that was ruled out, and the text
+-- says nothing else
 pub record IsUnfinished (budget : ℕ) (out : List ℕ) (log : List Entry) (o : Listed) : Type 0 where
   pub text : out ≡ line (codes "undecided")
   pub honest : IsClassificationLog o budget log
+  pub excluded : AsksNoExcluded log
   pub ends : EndsSpent budget log
 
 -- ---- the answer on a document

@@ -4,6 +4,7 @@ ghost use Rattle.ontology_limits.specs.Limits.{IsOntologyInLimit};
 ghost use Rattle.run_log.specs.HonestLog.{IsClassificationLog};
 ghost use Rattle.subsumption_rows.specs.Rows.{holds};
 ghost use Rattle.classification_laws.specs.Classified.{IsClassified};
+ghost use Rattle.classification_laws.specs.Excluded.{AsksNoExcluded};
 ghost use Rattle.classifier.specs.Classified.{IsStop};
 ghost use Rattle.taxonomy.specs.Taxonomies.{taxonomy_of};
 ghost use Rattle.taxonomy.specs.TaxonomyText.{taxonomy_text};
@@ -34,6 +35,7 @@ pub(crate) fn relation_of(
     ensures classified { IfOk result (IsClassified ontology.now log.new) }
     ensures stopped { IfErr result (IsStop budget log.new) }
     ensures honest { IsClassificationLog ontology.now budget log.new }
+    ensures fresh { AsksNoExcluded log.new }
 {
     let begun = mem::replace(log, RunLog::new(alloc));
     let mut oracle = Oracle::new(alloc, ontology, budget, begun);

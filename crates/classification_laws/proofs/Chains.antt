@@ -1,5 +1,5 @@
 -- Chains of a log, and what one test more makes of them.
-use Rattle.std.proofs.Common.{◌≡◌, ◌⊎◌, List, [], ◌∷◌, ◌++◌, refl, sym, ap, subst, ◌∙◌, arith, inl, inr}
+use Rattle.std.proofs.Common.{◌≡◌, ◌⊎◌, List, [], ◌∷◌, ◌++◌, refl, sym, ap, subst, arith, inl, inr}
 use Rattle.std.specs.Prelude.{Contains, ℕ}
 use Rattle.std.proofs.lemmas.List.Elements.{Contains-append_left, Contains-push, Contains-push_cases}
 use Rattle.axiom_sets.specs.Sets.{Limited}
@@ -7,8 +7,7 @@ use Rattle.shq_base.specs.Concept.{Concept, top, bottom}
 use Rattle.shq_terms.specs.declared.axioms.Query.{Query}
 use Rattle.run_log.specs.declared.entry.Entry.{Entry}
 use Rattle.run_log.specs.declared.entry.Entry.TheVariants.{Test}
-use Rattle.run_log.specs.declared.entry.TestEnd.{TestEnd}
-use Rattle.run_log.specs.declared.entry.TestEnd.TheVariants.{Yes, No, Spent}
+use Rattle.run_log.specs.declared.entry.TestEnd.TheVariants.{Yes, No}
 use Rattle.run_log.specs.HonestLog.{IsStep, IsChain}
 use Rattle.run_log.specs.HonestLog.IsStep.{by_test, in_top, of_bottom}
 use Rattle.run_log.specs.HonestLog.IsChain.{none, onward}
@@ -61,6 +60,10 @@ module _ (log : List Entry) (e : Entry) where
     upper = chain_stays y r.query.sup r.upper;
   }
 
+-- a test that was no rules out its own query
+pub test_rules_out : (log : List Entry) (s : Limited) (q : Query) (steps : ℕ) → Contains log (Test s q steps No) → IsRuledOut log q.sub q.sup
+test_rules_out log s q steps there = record { tested = s; query = q; steps = steps; is_no = there; lower = none q.sub; upper = none q.sup }
+
 -- what leads below what is ruled out, and from above it, is ruled out
 pub ruled_out_wider : (log : List Entry) (x y a b : Concept) → IsRuledOut log x y → IsChain log x a → IsChain log b y → IsRuledOut log a b
 ruled_out_wider log x y a b r up down = record {
@@ -96,6 +99,17 @@ module _ (log : List Entry) (s : Limited) (q : Query) (steps : ℕ) where
     upper = chain_stays log (Test s q steps No) b q.sup upper;
   }
 
+  -- such a test rules out no more than what it is about
+  pub ruled_out_by_no : (a b : Concept) → IsRuledOut (log ++ Test s q steps No ∷ []) a b → IsRuledOut log a b ⊎ (IsChain log q.sub a × IsChain log b q.sup)
+  ruled_out_by_no a b r = elim (Contains-push_cases log (Test s q steps No) (Test r.tested r.query r.steps No) r.is_no) [
+    | inl before ↦ inl (record { tested = r.tested; query = r.query; steps = r.steps; is_no = before; lower = no_chain r.query.sub a r.lower; upper = no_chain b r.query.sup r.upper })
+    | inr e ↦ let same : r.query ≡ q = query_of r.tested r.query r.steps e in
+        inr (subst (λ (p : Query). IsChain log p.sub a) same (no_chain r.query.sub a r.lower), subst (λ (p : Query). IsChain log b p.sup) same (no_chain b r.query.sup r.upper))
+  ]
+    where
+      query_of : (s' : Limited) (q' : Query) (steps' : ℕ) → Test s q steps No ≡ Test s' q' steps' No → q' ≡ q
+      query_of s' q' steps' h = cc
+
   -- one that was yes leads from what is below the one class to what is above the other
   pub yes_leads : (u : Limited) → IsChain (log ++ Test s q steps (Yes u) ∷ []) q.sub q.sup
   yes_leads u = one_step (log ++ Test s q steps (Yes u) ∷ []) q.sub q.sup (by_test s q steps u (Contains-push log (Test s q steps (Yes u))))
@@ -121,3 +135,24 @@ module _ (log : List Entry) (s : Limited) (q : Query) (steps : ℕ) where
           | inr both ↦ inr (here, both.1)
         ]
   ]
+
+  -- What one that was yes rules out was ruled out before, or it was so for what the test leads from, or to, or both. In the
+  -- last case the query itself was ruled out.
+  pub ruled_out_by_yes : (u : Limited) (a b : Concept) → IsRuledOut (log ++ Test s q steps (Yes u) ∷ []) a b
+      → (IsRuledOut log a b ⊎ (IsRuledOut log q.sub b × IsChain log q.sup a)) ⊎ ((IsRuledOut log a q.sup × IsChain log b q.sub) ⊎ IsRuledOut log q.sub q.sup)
+  ruled_out_by_yes u a b r = elim (Contains-push_cases log (Test s q steps (Yes u)) (Test r.tested r.query r.steps No) r.is_no) [
+    | inl before ↦ elim (yes_chain u r.query.sub a r.lower) [
+      | inl below ↦ elim (yes_chain u b r.query.sup r.upper) [
+        | inl above ↦ inl (inl (out before below above))
+        | inr over ↦ inr (inl (out before below over.1, over.0))
+      ]
+      | inr under ↦ elim (yes_chain u b r.query.sup r.upper) [
+        | inl above ↦ inl (inr (out before under.0 above, under.1))
+        | inr over ↦ inr (inr (out before under.0 over.1))
+      ]
+    ]
+    | inr e ↦ absurd (cc e)
+  ]
+    where
+      out : {x y : Concept} → Contains log (Test r.tested r.query r.steps No) → IsChain log r.query.sub x → IsChain log y r.query.sup → IsRuledOut log x y
+      out {x} {y} there lower upper = record { tested = r.tested; query = r.query; steps = r.steps; is_no = there; lower = lower; upper = upper }

@@ -17,11 +17,13 @@ use Rattle.run_log.specs.Entries.{spent_of, is_spent, ended_spent, IsAnswered}
 use Rattle.run_log.specs.HonestLog.{IsWhole, IsHonestEntry, IsClassTest, IsChain, IsClassificationLog}
 use Rattle.run_log.specs.HonestLog.IsStep.{by_test}
 use Rattle.run_log.specs.HonestLog.IsChain.{none}
+use Rattle.run_log.specs.Shown.{IsRuledOut}
 use Rattle.subsumption_rows.specs.Matrices.{Matrix, has}
 use Rattle.subsumption_rows.specs.Rows.{Rows, holds}
 use Rattle.subsumption_rows.specs.Subsumption.{class_at, query_at}
+use Rattle.classification_laws.specs.Excluded.{AsksNoExcluded}
 use Rattle.classification_laws.specs.Mirrors.{Mirrors}
-use Rattle.classification_laws.proofs.Chains.{one_step}
+use Rattle.classification_laws.proofs.Chains.{one_step, test_rules_out}
 use Rattle.classification_laws.proofs.InLimit.{is_class}
 
 -- ---- what stands at a place
@@ -74,13 +76,17 @@ module _ (o : Listed) (log : List Entry) (known : Rows) (ruled_out : Matrix) (m 
   no_chain_yet : IsChain log (class_at (length o.classes) x) (class_at (length o.classes) y) → ⊥
   no_chain_yet chain = let k : holds known x y ≡ true = (m.known_is x y lx ly).1 chain in cc
 
+  not_ruled_out_yet : IsRuledOut log (class_at (length o.classes) x) (class_at (length o.classes) y) → ⊥
+  not_ruled_out_yet out = let k : has ruled_out x y ≡ true = (m.ruled_out_is x y lx ly).1 out in cc
+
   -- no test was of its query
   untested : (place : ℕ) (s : Limited) (q : Query) (steps : ℕ) (e : TestEnd) → slice_get log place ≡ Some (Test s q steps e) → q ≡ query_at (length o.classes) x y → ⊥
   untested place s q steps (Yes u) at same =
       let step : IsChain log q.sub q.sup = one_step log q.sub q.sup (by_test s q steps u (at_contains log (Test s q steps (Yes u)) place at)) in
       no_chain_yet (subst (λ (p : Query). IsChain log p.sub p.sup) same step)
   untested place s q steps No at same =
-      let k : has ruled_out x y ≡ true = m.noted x y s q steps lx ly (at_contains log (Test s q steps No) place at) same in cc
+      let out : IsRuledOut log q.sub q.sup = test_rules_out log s q steps (at_contains log (Test s q steps No) place at) in
+      not_ruled_out_yet (subst (λ (p : Query). IsRuledOut log p.sub p.sup) same out)
   untested place s q steps (Spent t) at same = let k : true ≡ false = none_of is_spent log (Test s q steps (Spent t)) place unspent at in cc
 
   -- so the log does not answer it
@@ -101,6 +107,9 @@ module _ (o : Listed) (log : List Entry) (known : Rows) (ruled_out : Matrix) (m 
     is_test : IsClassTest o last
     is_test = (whole, is_class o x lx, is_class o y ly, λ same. no_chain_yet (subst (λ (c : Concept). IsChain log (class_at (length o.classes) x) c) same (none (class_at (length o.classes) x))))
 
+    query_of : (t : Limited) (q : Query) (k : ℕ) (g : TestEnd) → last ≡ Test t q k g → query_at (length o.classes) x y ≡ q
+    query_of t q k g h = cc
+
     once : (i j : ℕ) (s' t : Limited) (p q : Query) (k l : ℕ) (f g : TestEnd) → i < j → slice_get (log ++ last ∷ []) i ≡ Some (Test s' p k f) → slice_get (log ++ last ∷ []) j ≡ Some (Test t q l g) → ¬ (p ≡ q)
     once i j s' t p q k l f g lt at at' same = elim (at_push log last (Test t q l g) j at') [
       | inl before ↦ elim (at_push log last (Test s' p k f) i at) [
@@ -108,30 +117,33 @@ module _ (o : Listed) (log : List Entry) (known : Rows) (ruled_out : Matrix) (m 
         | inr late ↦ absurd (omega (arith, lt, late.0, before.1))
       ]
       | inr new ↦ elim (at_push log last (Test s' p k f) i at) [
-        | inl earlier ↦ let is : q ≡ query_at (length o.classes) x y = query_of new.1 in untested i s' p k f earlier.0 (same ∙ is)
+        | inl earlier ↦ untested i s' p k f earlier.0 (same ∙ sym (query_of t q l g new.1))
         | inr late ↦ absurd (omega (arith, lt, late.0, new.0))
       ]
     ]
-      where
-        query_of : last ≡ Test t q l g → q ≡ query_at (length o.classes) x y
-        query_of h = cc
+
+    before_place : (n : ℕ) → n ≤ length log → take n (log ++ last ∷ []) ≡ take n log
+    before_place n less = rw take-append-le refl
+
+    all_before : (n : ℕ) → n ≡ length log → take n (log ++ last ∷ []) ≡ log
+    all_before n h = before_place n (omega (arith, h)) ∙ take_all n log (omega (arith, h))
 
     fresh : (place : ℕ) (t : Limited) (q : Query) (k : ℕ) (g : TestEnd) → slice_get (log ++ last ∷ []) place ≡ Some (Test t q k g) → ¬ IsChain (take place (log ++ last ∷ [])) q.sub q.sup
     fresh place t q k g at chain = elim (at_push log last (Test t q k g) place at) [
       | inl before ↦ let less : place ≤ length log = omega (arith, before.1) in
           honest.new place t q k g before.0 (subst (λ (es : List Entry). IsChain es q.sub q.sup) (before_place place less) chain)
-      | inr new ↦ let same : query_at (length o.classes) x y ≡ q = query_of new.1 in
+      | inr new ↦ let same : query_at (length o.classes) x y ≡ q = query_of t q k g new.1 in
           no_chain_yet (subst (λ (p : Query). IsChain log p.sub p.sup) (sym same) (subst (λ (es : List Entry). IsChain es q.sub q.sup) (all_before place new.0) chain))
     ]
-      where
-        query_of : last ≡ Test t q k g → query_at (length o.classes) x y ≡ q
-        query_of h = cc
 
-        before_place : (n : ℕ) → n ≤ length log → take n (log ++ last ∷ []) ≡ take n log
-        before_place n less = rw take-append-le refl
-
-        all_before : (n : ℕ) → n ≡ length log → take n (log ++ last ∷ []) ≡ log
-        all_before n h = before_place n (omega (arith, h)) ∙ take_all n log (omega (arith, h))
+    -- nor does it ask what was ruled out
+    pub asks_no_excluded : AsksNoExcluded log → AsksNoExcluded (log ++ last ∷ [])
+    asks_no_excluded old place t q k g at out = elim (at_push log last (Test t q k g) place at) [
+      | inl before ↦ let less : place ≤ length log = omega (arith, before.1) in
+          old place t q k g before.0 (subst (λ (es : List Entry). IsRuledOut es q.sub q.sup) (before_place place less) out)
+      | inr new ↦ let same : query_at (length o.classes) x y ≡ q = query_of t q k g new.1 in
+          not_ruled_out_yet (subst (λ (p : Query). IsRuledOut log p.sub p.sup) (sym same) (subst (λ (es : List Entry). IsRuledOut es q.sub q.sup) (all_before place new.0) out))
+    ]
 
     is_last : (place : ℕ) (f : Entry) → slice_get (log ++ last ∷ []) place ≡ Some f → is_spent f ≡ true → place + 1 ≡ length (log ++ last ∷ [])
     is_last place f at spent = elim (at_push log last f place at) [

@@ -1,8 +1,7 @@
 -- What is known and ruled out mirrors the log, from the first question to the last.
-use Rattle.std.proofs.Common.{◌≡◌, ◌⊎◌, ℕ, ◌+◌, ◌<◌, ◌&&◌, ◌||◌, Bool, true, false, List, [], ◌∷◌, ◌++◌, length, refl, sym, ap, subst, ◌∙◌, arith, inl, inr, eq-eqb}
-use Rattle.std.specs.Prelude.{◌==◌, Contains}
+use Rattle.std.proofs.Common.{◌≡◌, ◌⊎◌, ℕ, ◌+◌, ◌<◌, ◌&&◌, ◌||◌, true, false, List, [], ◌∷◌, ◌++◌, length, sym, subst, ◌∙◌, arith, inl, inr, eq-eqb}
+use Rattle.std.specs.Prelude.{◌==◌}
 use Rattle.std.proofs.lemmas.Bool.{and_parts, and_from, or_cases, or_left, or_right, eqb-true}
-use Rattle.std.proofs.lemmas.List.Elements.{Contains-push_cases}
 use Rattle.axiom_sets.specs.Sets.{Limited}
 use Rattle.shq_base.specs.Concept.{Concept}
 use Rattle.shq_terms.specs.Listed.{Listed}
@@ -17,7 +16,7 @@ use Rattle.subsumption_rows.specs.Matrices.{Matrix, has, IsMatrix, Adds}
 use Rattle.subsumption_rows.specs.Rows.{Rows, holds, is_bounded, IsAtFirst, Relates}
 use Rattle.subsumption_rows.specs.Subsumption.{class_at, query_at}
 use Rattle.classification_laws.specs.Mirrors.{Mirrors, passed_up, passed_on}
-use Rattle.classification_laws.proofs.Chains.{then_chain, to_top, from_bottom, none_leads, chain_stays, ruled_out_stays, ruled_out_wider, no_chain, now_ruled_out, yes_leads, yes_chain}
+use Rattle.classification_laws.proofs.Chains.{then_chain, to_top, from_bottom, none_leads, chain_stays, ruled_out_stays, ruled_out_wider, no_chain, now_ruled_out, ruled_out_by_no, yes_leads, yes_chain, ruled_out_by_yes}
 use Rattle.classification_laws.proofs.InLimit.{at_top, at_bottom, same_number, number_of_top, number_of_bottom}
 
 -- ---- at first
@@ -50,8 +49,7 @@ module _ (o : Listed) (known : Rows) (ruled_out : Matrix) (first : IsAtFirst (le
     count_is = first.count_is;
     size_is = blank.size_is;
     known_is = λ x y lx ly. (λ h. bounded_chain x y lx ly (sym (first.pairs x y lx ly) ∙ h), λ chain. first.pairs x y lx ly ∙ chain_bounded x y lx ly chain);
-    excludes = λ x y lx ly h. let k : has ruled_out x y ≡ false = blank.pairs x y lx ly in absurd (cc (k, h));
-    noted = λ x y s q steps lx ly there same. absurd (omega (arith, there.1));
+    ruled_out_is = λ x y lx ly. (λ h. (let k : has ruled_out x y ≡ false = blank.pairs x y lx ly in absurd (cc (k, h))), λ r. absurd (omega (arith, r.is_no.1)));
   }
 
 -- ---- one test more
@@ -69,16 +67,19 @@ module _ (o : Listed) (log : List Entry) (known : Rows) (ruled_out : Matrix) (m 
     pairs_no : (a b : ℕ) → a < length o.classes + 2 → b < length o.classes + 2 → has ruled_out' a b ≡ (has ruled_out a b || (holds known x a && holds known b y))
     pairs_no a b la lb = adds.pairs a b (omega (arith, la, m.size_is)) (omega (arith, lb, m.size_is))
 
-    query_of : (s' : Limited) (q' : Query) (steps' : ℕ) → Test s q steps No ≡ Test s' q' steps' No → q ≡ q'
-    query_of s' q' steps' h = cc
+    excludes_no : (a b : ℕ) → a < length o.classes + 2 → b < length o.classes + 2 → has ruled_out' a b ≡ true → IsRuledOut (log ++ Test s q steps No ∷ []) (c a) (c b)
+    excludes_no a b la lb h = elim (or_cases (has ruled_out a b) (holds known x a && holds known b y) (sym (pairs_no a b la lb) ∙ h)) [
+      | inl old ↦ ruled_out_stays log (Test s q steps No) (c a) (c b) ((m.ruled_out_is a b la lb).0 old)
+      | inr new ↦ let both = and_parts (holds known x a) (holds known b y) new in
+          now_ruled_out log s q steps (c a) (c b) ((m.known_is x a lx la).0 both.0) ((m.known_is b y lb ly).0 both.1)
+    ]
 
-    itself : (a b : ℕ) → a < length o.classes + 2 → b < length o.classes + 2 → q ≡ query_at (length o.classes) a b → (holds known x a && holds known b y) ≡ true
-    itself a b la lb h =
-        let ea : x ≡ a = same_number (length o.classes) x a lx la (ap (λ (p : Query). p.sub) h) in
-        let eb : y ≡ b = same_number (length o.classes) y b ly lb (ap (λ (p : Query). p.sup) h) in
-        and_from (holds known x a) (holds known b y)
-        (subst (λ (z : ℕ). holds known x z ≡ true) ea ((m.known_is x x lx lx).1 (none (c x))))
-        (subst (λ (z : ℕ). holds known z y ≡ true) eb ((m.known_is y y ly ly).1 (none (c y))))
+    excluded_no : (a b : ℕ) → a < length o.classes + 2 → b < length o.classes + 2 → IsRuledOut (log ++ Test s q steps No ∷ []) (c a) (c b) → has ruled_out' a b ≡ true
+    excluded_no a b la lb r = pairs_no a b la lb
+        ∙ elim (ruled_out_by_no log s q steps (c a) (c b) r) [
+          | inl old ↦ or_left (has ruled_out a b) (holds known x a && holds known b y) ((m.ruled_out_is a b la lb).1 old)
+          | inr new ↦ or_right (has ruled_out a b) (holds known x a && holds known b y) (and_from (holds known x a) (holds known b y) ((m.known_is x a lx la).1 new.0) ((m.known_is b y lb ly).1 new.1))
+        ]
 
     pub mirrors_no : Mirrors o (log ++ Test s q steps No ∷ []) known ruled_out'
     mirrors_no = record {
@@ -88,20 +89,11 @@ module _ (o : Listed) (log : List Entry) (known : Rows) (ruled_out : Matrix) (m 
         λ h. chain_stays log (Test s q steps No) (c a) (c b) ((m.known_is a b la lb).0 h),
         λ chain. (m.known_is a b la lb).1 (no_chain log s q steps (c a) (c b) chain),
       );
-      excludes = λ a b la lb h. elim (or_cases (has ruled_out a b) (holds known x a && holds known b y) (sym (pairs_no a b la lb) ∙ h)) [
-        | inl old ↦ ruled_out_stays log (Test s q steps No) (c a) (c b) (m.excludes a b la lb old)
-        | inr new ↦ let both = and_parts (holds known x a) (holds known b y) new in
-            now_ruled_out log s q steps (c a) (c b) ((m.known_is x a lx la).0 both.0) ((m.known_is b y lb ly).0 both.1)
-      ];
-      noted = λ a b s' q' steps' la lb there same. pairs_no a b la lb
-          ∙ elim (Contains-push_cases log (Test s q steps No) (Test s' q' steps' No) there) [
-            | inl before ↦ or_left (has ruled_out a b) (holds known x a && holds known b y) (m.noted a b s' q' steps' la lb before same)
-            | inr new ↦ or_right (has ruled_out a b) (holds known x a && holds known b y) (itself a b la lb (query_of s' q' steps' new ∙ same))
-          ];
+      ruled_out_is = λ a b la lb. (excludes_no a b la lb, excluded_no a b la lb);
     }
 
-  -- or that it is
-  module _ (u : Limited) (known' : Rows) (ruled_out' : Matrix) (relates : Relates x y known known') (passes : IsMatrix (known.count + 2) (passed_on known' x y ruled_out) ruled_out') where
+  -- or that it is, which was not ruled out
+  module _ (open_yet : has ruled_out x y ≡ false) (u : Limited) (known' : Rows) (ruled_out' : Matrix) (relates : Relates x y known known') (passes : IsMatrix (known.count + 2) (passed_on known' x y ruled_out) ruled_out') where
     abbrev more : List Entry
     more = log ++ Test s q steps (Yes u) ∷ []
 
@@ -131,27 +123,45 @@ module _ (o : Listed) (log : List Entry) (known : Rows) (ruled_out : Matrix) (m 
           | inr both ↦ or_right (holds known a b) (holds known a x && holds known y b) (and_from (holds known a x) (holds known y b) ((m.known_is a x la lx).1 both.0) ((m.known_is y b ly lb).1 both.1))
         ]
 
+    led_before : (a b : ℕ) → a < length o.classes + 2 → b < length o.classes + 2 → IsChain log (c a) (c b) → holds known' a b ≡ true
+    led_before a b la lb chain = led a b la lb (chain_stays log (Test s q steps (Yes u)) (c a) (c b) chain)
+
     up : (a b : ℕ) → a < length o.classes + 2 → b < length o.classes + 2 → passed_up known' x y ruled_out a b ≡ true → IsRuledOut more (c a) (c b)
     up a b la lb h = elim (or_cases (has ruled_out a b) (holds known' y a && has ruled_out x b) h) [
-      | inl old ↦ ruled_out_stays log (Test s q steps (Yes u)) (c a) (c b) (m.excludes a b la lb old)
+      | inl old ↦ ruled_out_stays log (Test s q steps (Yes u)) (c a) (c b) ((m.ruled_out_is a b la lb).0 old)
       | inr new ↦ let both = and_parts (holds known' y a) (has ruled_out x b) new in
-          ruled_out_wider more (c x) (c b) (c a) (c b) (ruled_out_stays log (Test s q steps (Yes u)) (c x) (c b) (m.excludes x b lx lb both.1))
+          ruled_out_wider more (c x) (c b) (c a) (c b) (ruled_out_stays log (Test s q steps (Yes u)) (c x) (c b) ((m.ruled_out_is x b lx lb).0 both.1))
           (then_chain more (c x) (c y) (c a) across (leads y a ly la both.0)) (none (c b))
     ]
+
+    excludes_yes : (a b : ℕ) → a < length o.classes + 2 → b < length o.classes + 2 → has ruled_out' a b ≡ true → IsRuledOut more (c a) (c b)
+    excludes_yes a b la lb h = elim (or_cases (passed_up known' x y ruled_out a b) (passed_up known' x y ruled_out a y && holds known' b x) (sym (pairs_yes a b la lb) ∙ h)) [
+      | inl first ↦ up a b la lb first
+      | inr new ↦ let both = and_parts (passed_up known' x y ruled_out a y) (holds known' b x) new in
+          ruled_out_wider more (c a) (c y) (c a) (c b) (up a y la ly both.0) (none (c a)) (then_chain more (c b) (c x) (c y) (leads b x lb lx both.1) across)
+    ]
+
+    -- what stands since before, or for a class above y
+    upward : (a b : ℕ) → a < length o.classes + 2 → b < length o.classes + 2 → IsRuledOut log (c a) (c b) ⊎ (IsRuledOut log (c x) (c b) × IsChain log (c y) (c a)) → passed_up known' x y ruled_out a b ≡ true
+    upward a b la lb (inl old) = or_left (has ruled_out a b) (holds known' y a && has ruled_out x b) ((m.ruled_out_is a b la lb).1 old)
+    upward a b la lb (inr new) = or_right (has ruled_out a b) (holds known' y a && has ruled_out x b)
+        (and_from (holds known' y a) (has ruled_out x b) (led_before y a ly la new.1) ((m.ruled_out_is x b lx lb).1 new.0))
+
+    excluded_yes : (a b : ℕ) → a < length o.classes + 2 → b < length o.classes + 2 → IsRuledOut more (c a) (c b) → has ruled_out' a b ≡ true
+    excluded_yes a b la lb r = pairs_yes a b la lb
+        ∙ elim (ruled_out_by_yes log s q steps u (c a) (c b) r) [
+          | inl first ↦ or_left (passed_up known' x y ruled_out a b) (passed_up known' x y ruled_out a y && holds known' b x) (upward a b la lb first)
+          | inr other ↦ elim other [
+            | inl new ↦ or_right (passed_up known' x y ruled_out a b) (passed_up known' x y ruled_out a y && holds known' b x)
+                (and_from (passed_up known' x y ruled_out a y) (holds known' b x) (upward a y la ly (inl new.0)) (led_before b x lb lx new.1))
+            | inr against ↦ let k : has ruled_out x y ≡ true = (m.ruled_out_is x y lx ly).1 against in absurd (cc (k, open_yet))
+          ]
+        ]
 
     pub mirrors_yes : Mirrors o (log ++ Test s q steps (Yes u) ∷ []) known' ruled_out'
     mirrors_yes = record {
       count_is = relates.count_is ∙ m.count_is;
       size_is = omega (arith, passes.size_is, m.count_is);
       known_is = λ a b la lb. (leads a b la lb, led a b la lb);
-      excludes = λ a b la lb h. elim (or_cases (passed_up known' x y ruled_out a b) (passed_up known' x y ruled_out a y && holds known' b x) (sym (pairs_yes a b la lb) ∙ h)) [
-        | inl first ↦ up a b la lb first
-        | inr new ↦ let both = and_parts (passed_up known' x y ruled_out a y) (holds known' b x) new in
-            ruled_out_wider more (c a) (c y) (c a) (c b) (up a y la ly both.0) (none (c a)) (then_chain more (c b) (c x) (c y) (leads b x lb lx both.1) across)
-      ];
-      noted = λ a b s' q' steps' la lb there same. elim (Contains-push_cases log (Test s q steps (Yes u)) (Test s' q' steps' No) there) [
-        | inl before ↦ pairs_yes a b la lb
-            ∙ or_left (passed_up known' x y ruled_out a b) (passed_up known' x y ruled_out a y && holds known' b x) (or_left (has ruled_out a b) (holds known' y a && has ruled_out x b) (m.noted a b s' q' steps' la lb before same))
-        | inr new ↦ absurd (cc new)
-      ];
+      ruled_out_is = λ a b la lb. (excludes_yes a b la lb, excluded_yes a b la lb);
     }

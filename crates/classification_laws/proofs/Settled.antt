@@ -1,18 +1,16 @@
 -- Where each pair is settled, the classification is done.
-use Rattle.std.proofs.Common.{◌≡◌, ◌⊎◌, ℕ, ◌+◌, ◌<◌, ◌≤◌, ◌&&◌, ◌||◌, not, Bool, true, false, List, length, refl, sym, ap, subst, ◌∙◌, arith, inl, inr}
-use Rattle.std.specs.Prelude.{Contains}
+use Rattle.std.proofs.Common.{◌≡◌, ◌⊎◌, ℕ, ◌+◌, ◌<◌, ◌&&◌, ◌||◌, not, Bool, true, false, List, length, refl, sym, subst, arith, inl, inr}
 use Rattle.std.proofs.lemmas.Bool.{or_cases}
 use Rattle.std.proofs.lemmas.List.Elements.{All-contains}
 use Rattle.shq_base.specs.Concept.{Concept}
 use Rattle.shq_terms.specs.Listed.{Listed}
 use Rattle.shq_terms.specs.declared.axioms.Axiom.{Axiom}
-use Rattle.shq_terms.specs.declared.axioms.Query.{Query}
 use Rattle.shq_meaning.specs.Truth.{holds as has_element, Entails}
 use Rattle.refutation_truth.specs.Theory.{all_axioms}
 use Rattle.run_log.specs.declared.entry.Entry.{Entry}
 use Rattle.run_log.specs.declared.entry.Entry.TheVariants.{Test}
 use Rattle.run_log.specs.declared.entry.TestEnd.TheVariants.{No}
-use Rattle.run_log.specs.HonestLog.{IsClass, IsHonestEntry, IsClassTest, IsChain, IsClassificationLog}
+use Rattle.run_log.specs.HonestLog.{IsHonestEntry, IsClassTest, IsChain, IsClassificationLog}
 use Rattle.run_log.specs.HonestLog.IsChain.{none}
 use Rattle.run_log.specs.Shown.{IsRuledOut, ShowsClasses}
 use Rattle.run_log.proofs.Told.{chain_is_true}
@@ -55,7 +53,7 @@ module _ (o : Listed) (budget : ℕ) (log : List Entry) (honest : IsClassificati
     shown_at : (x y : ℕ) → x < length o.classes + 2 → y < length o.classes + 2 → IsChain log (c x) (c y) ⊎ IsRuledOut log (c x) (c y)
     shown_at x y lx ly = elim (or_cases (holds known x y) (has ruled_out x y) (settled x y lx ly)) [
       | inl h ↦ inl ((m.known_is x y lx ly).0 h)
-      | inr h ↦ inr (m.excludes x y lx ly h)
+      | inr h ↦ inr ((m.ruled_out_is x y lx ly).0 h)
     ]
 
     shows : ShowsClasses o log
@@ -73,7 +71,7 @@ module _ (o : Listed) (budget : ℕ) (log : List Entry) (honest : IsClassificati
     is_part : (x y : ℕ) → x < length o.classes + 2 → y < length o.classes + 2 → Entails (all_axioms o.axioms) (query_at (length o.classes) x y) → holds known x y ≡ true
     is_part x y lx ly h = elim (or_cases (holds known x y) (has ruled_out x y) (settled x y lx ly)) [
       | inl k ↦ k
-      | inr k ↦ absurd (ruled_out_is_true (c x) (c y) (m.excludes x y lx ly k) h)
+      | inr k ↦ absurd (ruled_out_is_true (c x) (c y) ((m.ruled_out_is x y lx ly).0 k) h)
     ]
 
     is_subsumption : IsSubsumption o (holds known)

@@ -1,3 +1,4 @@
 pub mod Classified
+pub mod Excluded
 pub mod Mirrors
 pub mod Laws

@@ -1,28 +1,21 @@
 -- What is known of each two classes, and what is ruled out, as far as a log goes.
-use Rattle.std.specs.Prelude.{◌≡◌, ◌↔◌, ℕ, ◌+◌, ◌<◌, ◌&&◌, ◌||◌, Bool, true, List, length, Contains}
-use Rattle.axiom_sets.specs.Sets.{Limited}
+use Rattle.std.specs.Prelude.{◌≡◌, ◌↔◌, ℕ, ◌+◌, ◌<◌, ◌&&◌, ◌||◌, Bool, true, List, length}
 use Rattle.shq_terms.specs.Listed.{Listed}
-use Rattle.shq_terms.specs.declared.axioms.Query.{Query}
 use Rattle.run_log.specs.declared.entry.Entry.{Entry}
-use Rattle.run_log.specs.declared.entry.Entry.TheVariants.{Test}
-use Rattle.run_log.specs.declared.entry.TestEnd.TheVariants.{No}
 use Rattle.run_log.specs.HonestLog.{IsChain}
 use Rattle.run_log.specs.Shown.{IsRuledOut}
 use Rattle.subsumption_rows.specs.Matrices.{Matrix, has}
 use Rattle.subsumption_rows.specs.Rows.{Rows, holds}
-use Rattle.subsumption_rows.specs.Subsumption.{class_at, query_at}
+use Rattle.subsumption_rows.specs.Subsumption.{class_at}
 
--- What is known is just what tests of the log lead to, in any number of steps. What is ruled out is so by tests of the log,
--- and each pair of which a test said so is.
+-- What is known is just what tests of the log lead to, in any number of steps. What is ruled out is just what they rule out.
 pub record Mirrors (o : Listed) (log : List Entry) (known : Rows) (ruled_out : Matrix) : Type 0 where
   pub count_is : known.count ≡ length o.classes
   pub size_is : ruled_out.size ≡ length o.classes + 2
   pub known_is : (x y : ℕ) → x < length o.classes + 2 → y < length o.classes + 2
       → (holds known x y ≡ true ↔ IsChain log (class_at (length o.classes) x) (class_at (length o.classes) y))
-  pub excludes : (x y : ℕ) → x < length o.classes + 2 → y < length o.classes + 2
-      → has ruled_out x y ≡ true → IsRuledOut log (class_at (length o.classes) x) (class_at (length o.classes) y)
-  pub noted : (x y : ℕ) (s : Limited) (q : Query) (steps : ℕ) → x < length o.classes + 2 → y < length o.classes + 2
-      → Contains log (Test s q steps No) → q ≡ query_at (length o.classes) x y → has ruled_out x y ≡ true
+  pub ruled_out_is : (x y : ℕ) → x < length o.classes + 2 → y < length o.classes + 2
+      → (has ruled_out x y ≡ true ↔ IsRuledOut log (class_at (length o.classes) x) (class_at (length o.classes) y))
 
 -- ---- what follows where x is part of y
 

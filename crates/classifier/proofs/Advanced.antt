@@ -20,17 +20,18 @@ use Rattle.classifier.specs.declared.stop.Stop.TheVariants as stop
 use Rattle.classifier.specs.declared.testing.Verdict.{Verdict}
 use Rattle.classifier.specs.declared.testing.Verdict.TheVariants.{Yes, No, Spent}
 use Rattle.classifier.specs.Tests.{EndsAs, IsTested, AreAlike}
+use Rattle.classification_laws.specs.Excluded.{AsksNoExcluded}
 use Rattle.classification_laws.specs.Mirrors.{Mirrors, passed_up, passed_on}
 use Rattle.classifier.specs.Progress.{IsGoing, HasStopped, Advances, is_settled}
 use Rattle.classification_laws.proofs.InLimit.{query_in_limit}
-use Rattle.classification_laws.proofs.Logged.{unanswered, one_more, goes_on}
+use Rattle.classification_laws.proofs.Logged.{unanswered, one_more, asks_no_excluded, goes_on}
 use Rattle.classification_laws.proofs.Mirrored.{mirrors_no, mirrors_yes}
 
 -- a log that is as it was is honest as it was
 pub stopped_as_before : (before after : OracleLists) (p : Progress) → IsGoing before p → AreAlike before after → after.log ≡ before.log → HasStopped after stop.NoMemory
 stopped_as_before before after p going alike same =
     let is : before ≡ after = λ i. record { ontology = sym alike.ontology i; budget = sym alike.budget i; log = sym same i } in
-    subst (λ (l : OracleLists). HasStopped l stop.NoMemory) is (record { honest = going.honest; is_stop = tt })
+    subst (λ (l : OracleLists). HasStopped l stop.NoMemory) is (record { honest = going.honest; excluded = going.excluded; is_stop = tt })
 
 module _ (before : OracleLists) (p : Progress) (going : IsGoing before p) (x y : ℕ) (lx : x < p.known.count + 2) (ly : y < p.known.count + 2) (open_yet : is_settled p x y ≡ false) where
   below : (z : ℕ) → z < p.known.count + 2 → z < length before.ontology.classes + 2
@@ -65,6 +66,11 @@ module _ (before : OracleLists) (p : Progress) (going : IsGoing before p) (x y :
         (omega (arith, within, alike.budget, ap spent_of same))
         (λ h. sym (ap spent_of same) ∙ all_spent h ∙ alike.budget)
 
+    excluded_with : (steps : ℕ) (e : TestEnd) → IsHonestEntry before.ontology (entry steps e) → AsksNoExcluded (before.log ++ entry steps e ∷ [])
+    excluded_with steps e so =
+        asks_no_excluded before.ontology before.log p.known p.ruled_out going.mirrors x y (below x lx) (below y ly) (or_parts (holds p.known x y) (has p.ruled_out x y) open_yet).0
+        (or_parts (holds p.known x y) (has p.ruled_out x y) open_yet).1 going.goes_on before.budget going.honest p.axioms steps e going.whole so going.excluded
+
     at_count : (v : Verdict) (n : ℕ) → n ≡ p.known.count → IsTested before after p.axioms (query_at n x y) v → IsTested before after p.axioms (query_at (length before.ontology.classes) x y) v
     at_count v n same = subst (λ (k : ℕ). IsTested before after p.axioms (query_at k x y) v) (same ∙ going.mirrors.count_is)
 
@@ -95,11 +101,12 @@ module _ (before : OracleLists) (p : Progress) (going : IsGoing before p) (x y :
         going = record {
           in_limit = going.in_limit;
           honest = honest_with steps (E.Yes u) same so (λ h. absurd (cc h));
+          excluded = excluded_with steps (E.Yes u) so;
           goes_on = goes_on_with steps (E.Yes u) refl;
           whole = subst (IsWhole before.ontology) (sym axioms) going.whole;
           limit = ap (λ (s : Limited). s.limit) classes ∙ going.limit;
           full = subst (λ (s : Limited). IsFull (length before.ontology.classes + 2) s.members) (sym classes) going.full;
-          mirrors = mirrors_yes before.ontology before.log p.known p.ruled_out going.mirrors x y (below x lx) (below y ly) p.axioms steps u p'.known p'.ruled_out relates passes;
+          mirrors = mirrors_yes before.ontology before.log p.known p.ruled_out going.mirrors x y (below x lx) (below y ly) p.axioms steps (or_parts (holds p.known x y) (has p.ruled_out x y) open_yet).1 u p'.known p'.ruled_out relates passes;
         };
         count_is = relates.count_is;
         stays = λ a b la lb h. elim (or_cases (holds p.known a b) (has p.ruled_out a b) h) [ inl k ↦ knows a b la lb k | inr k ↦ keeps_out a b la lb k ];
@@ -137,6 +144,7 @@ module _ (before : OracleLists) (p : Progress) (going : IsGoing before p) (x y :
         going = record {
           in_limit = going.in_limit;
           honest = honest_with steps E.No same so (λ h. absurd (cc h));
+          excluded = excluded_with steps E.No so;
           goes_on = goes_on_with steps E.No refl;
           whole = subst (IsWhole before.ontology) (sym axioms) going.whole;
           limit = ap (λ (s : Limited). s.limit) classes ∙ going.limit;
@@ -162,6 +170,7 @@ module _ (before : OracleLists) (p : Progress) (going : IsGoing before p) (x y :
     spent_by_end steps (E.Spent t) ends same so all = subst (λ (l : OracleLists). HasStopped l stop.Spent) (is_with steps (E.Spent t) same)
         (record {
           honest = honest_with steps (E.Spent t) same so (λ h. all);
+          excluded = excluded_with steps (E.Spent t) so;
           is_stop = record { before = before.log; asked = p.axioms; query = query_at (length before.ontology.classes) x y; steps = steps; trail = t; is_log = refl; whole = sym (ap spent_of same) ∙ all ∙ alike.budget };
         })
     spent_by_end steps (E.Yes u) ends same so all = absurd ends
@@ -172,7 +181,7 @@ module _ (before : OracleLists) (p : Progress) (going : IsGoing before p) (x y :
 
     -- or memory was refused when its answer was to be noted
     noted_by_end : (steps : ℕ) (e : TestEnd) → EndsAs Yes e → after.log ≡ before.log ++ entry steps e ∷ [] → IsHonestEntry before.ontology (entry steps e) → HasStopped after stop.NoMemory
-    noted_by_end steps (E.Yes u) ends same so = subst (λ (l : OracleLists). HasStopped l stop.NoMemory) (is_with steps (E.Yes u) same) (record { honest = honest_with steps (E.Yes u) same so (λ h. absurd (cc h)); is_stop = tt })
+    noted_by_end steps (E.Yes u) ends same so = subst (λ (l : OracleLists). HasStopped l stop.NoMemory) (is_with steps (E.Yes u) same) (record { honest = honest_with steps (E.Yes u) same so (λ h. absurd (cc h)); excluded = excluded_with steps (E.Yes u) so; is_stop = tt })
     noted_by_end steps E.No ends same so = absurd ends
     noted_by_end steps (E.Spent t) ends same so = absurd ends
 

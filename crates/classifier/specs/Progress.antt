@@ -8,24 +8,27 @@ use Rattle.run_log.specs.HonestLog.{IsWhole, IsClassificationLog}
 use Rattle.shq_oracle.specs.OracleLists.{OracleLists}
 use Rattle.subsumption_rows.specs.Matrices.{has}
 use Rattle.subsumption_rows.specs.Rows.{holds}
+use Rattle.classification_laws.specs.Excluded.{AsksNoExcluded}
 use Rattle.classification_laws.specs.Mirrors.{Mirrors}
 use Rattle.classifier.specs.declared.progress.Progress.{Progress}
 use Rattle.classifier.specs.declared.stop.Stop.{Stop}
 use Rattle.classifier.specs.Classified.{IsStop}
 
--- the log is honest, something of the budget may be left, and what is kept mirrors the log
+-- the log is honest and asks nothing that was ruled out, something of the budget may be left, and what is kept mirrors the log
 pub record IsGoing (l : OracleLists) (p : Progress) : Type 0 where
   pub in_limit : IsOntologyInLimit l.ontology
   pub honest : IsClassificationLog l.ontology l.budget l.log
+  pub excluded : AsksNoExcluded l.log
   pub goes_on : list_any is_spent l.log ≡ false
   pub whole : IsWhole l.ontology p.axioms
   pub limit : p.classes.limit ≡ length l.ontology.classes + 2
   pub full : IsFull (length l.ontology.classes + 2) p.classes.members
   pub mirrors : Mirrors l.ontology l.log p.known p.ruled_out
 
--- the log is honest, where it stopped so
+-- the log is honest and asks nothing that was ruled out, where it stopped so
 pub record HasStopped (l : OracleLists) (stop : Stop) : Type 0 where
   pub honest : IsClassificationLog l.ontology l.budget l.log
+  pub excluded : AsksNoExcluded l.log
   pub is_stop : IsStop l.budget l.log stop
 
 -- ---- pairs

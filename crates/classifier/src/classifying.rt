@@ -3,6 +3,7 @@ ghost use Rattle.std.specs.Prelude.{◌≡◌, [], IfOk, IfErr};
 ghost use Rattle.ontology_limits.specs.Limits.{IsOntologyInLimit};
 ghost use Rattle.run_log.specs.HonestLog.{IsClassificationLog};
 ghost use Rattle.classification_laws.specs.Classified.{IsClassified};
+ghost use Rattle.classification_laws.specs.Excluded.{AsksNoExcluded};
 ghost use Rattle.classifier.specs.Classified.{IsStop};
 
 use crate::progress::Progress;
@@ -14,11 +15,12 @@ use std::alloc::Global;
 use subsumption_rows::Relation;
 
 /// Which class of the ontology is part of which, by all of its axioms (OWL 2 Direct Semantics, section 2.5), where the oracle
-/// is one for this ontology that was asked nothing yet. The log shows each pair.
+/// is one for this ontology that was asked nothing yet. The log shows each pair. Nothing is asked whose answer follows from the
+/// answers before, be it yes or no.
 ///
 /// # Errors
 /// The budget of the oracle was spent in the middle of a test, which is the last of the log; or memory was refused. The log is
-/// honest in each case.
+/// honest in each case, and asks nothing that follows.
 pub fn classify(
     alloc: Global,
     oracle: &mut Oracle<'_>,
@@ -31,6 +33,7 @@ pub fn classify(
     ensures classified { IfOk result (IsClassified ontology.now oracle.new.log) }
     ensures stopped { IfErr result (IsStop oracle.old.budget oracle.new.log) }
     ensures honest { IsClassificationLog ontology.now oracle.old.budget oracle.new.log }
+    ensures fresh { AsksNoExcluded oracle.new.log }
 
     ensures same_ontology { oracle.new.ontology ≡ oracle.old.ontology }
     ensures same_budget { oracle.new.budget ≡ oracle.old.budget }

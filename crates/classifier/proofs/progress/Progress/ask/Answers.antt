@@ -3,11 +3,17 @@ use Rattle.std.proofs.lemmas.Result.{err_from_is_err_and}
 use Rattle.subsumption_rows.specs.Subsumption.{query_at}
 use Rattle.classifier.specs.Tests.{IsTested}
 use Rattle.classifier.specs.Progress.{Advances, is_settled}
-use Rattle.classifier.proofs.Advanced.{is_new, after_yes, after_no, after_spent, after_refused}
+use Rattle.classifier.proofs.Advanced.{stopped_as_before, is_new, after_yes, after_no, after_spent, after_refused}
 use Rattle.classifier.proofs.progress.Progress.ask.Goals as goal
 
 pub test-requires-clause-is_new : goal.test-requires-clause-is_new
 test-requires-clause-is_new c = is_new c.args.oracle.now c.args.self.now c.requires.going c.args.x c.args.y c.requires.first c.requires.second c.requires.open c.class_count.result c.class_count.ensures.count
+
+pub returns-in_err-test-clause-err : goal.returns-in_err-test-clause-err
+returns-in_err-test-clause-err c =
+    let p = err_from_is_err_and c.from_residual.result c.from_residual.ensures.1 in
+    rw (p.1, p.2)
+    (stopped_as_before c.args.oracle.now c.test.new.oracle c.args.self.now c.requires.going c.in_err-test.ensures.alike c.in_err-test.ensures.unchanged)
 
 pub returns-in_err-take_in-in-Yes-clause-err : goal.returns-in_err-take_in-in-Yes-clause-err
 returns-in_err-take_in-in-Yes-clause-err c =
