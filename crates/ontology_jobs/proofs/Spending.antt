@@ -1,5 +1,5 @@
 -- An undecided answer has spent the whole budget.
-use Rattle.std.proofs.Common.{◌≡◌, ℕ, ◌⊎◌, inl, inr, List, [], ◌∷◌, Bool, true, false, Option, Some, None, refl, ap, sym, ◌∙◌, subst}
+use Rattle.std.proofs.Common.{◌≡◌, ℕ, ◌⊎◌, inl, inr, List, [], ◌∷◌, Bool, true, false, Option, Some, None, MatchOption, refl, ap, sym, ◌∙◌, subst}
 use Rattle.std.specs.List.{list_any}
 use Rattle.axiom_sets.specs.Sets.{Limited}
 use Rattle.shq_terms.specs.Listed.{Listed}
@@ -29,9 +29,9 @@ use Rattle.decision_jobs.specs.Decisions.{decision_status, IsDecided, IsRefused}
 use Rattle.pinpointing_lists.specs.declared.wanted.Wanted.{Wanted}
 use Rattle.pinpointing_lists.specs.Listings.{end_status, IsListing, IsListed}
 use Rattle.pinpointing_lists.specs.Counts.{IsCount, IsCounted}
-use Rattle.ontology_jobs.specs.Words.{Job, check, decide, classify, pinpoint, Request, on_input, generated}
-use Rattle.ontology_jobs.specs.Answers.{IsTooLong, AnswersJob, AnswersRequest}
-use Rattle.ontology_jobs.specs.Laws.{SpendsAll, UndecidedSpendsAll}
+use Rattle.ontology_jobs.specs.Words.{Job, check, decide, classify, pinpoint, Request, on_input, generated, request_of}
+use Rattle.ontology_jobs.specs.Answers.{IsTooLong, IsBadWords, AnswersJob, AnswersRequest, Answers, AnswersAll}
+use Rattle.ontology_jobs.specs.Laws.{SpendsAll, HasSpentAll, UndecidedSpendsAll}
 
 -- ---- a refusal is not undecided
 
@@ -108,3 +108,11 @@ spends_all (on_input (pinpoint wanted inclusion budget)) bytes out log (inr (sho
 spends_all (on_input (pinpoint wanted inclusion budget)) bytes out log (inr (short, inr p)) = listed_spent wanted p.ontology p.query budget log out p.listed
 spends_all (generated number budget) bytes out log (inl refused) = absurd (no_reply refused.reply out refused.answer)
 spends_all (generated number budget) bytes out log (inr m) = counted_spent number m.ontology m.query budget log out m.counted
+
+pub answered_spends : (held : Option (List ℕ)) (words : List (List ℕ)) (out : List ℕ) (s : Status) (log : List Entry) → AnswersAll held words out s log → s ≡ Undecided → HasSpentAll held (request_of words) log
+answered_spends None words out s log answers is = tt
+answered_spends (Some bytes) words out s log answers is = by (request_of words) (subst (λ (t : Status). Answers words bytes out t log) is answers)
+  where
+    by : (r : Option Request) → MatchOption r (IsBadWords out Undecided log) (λ r. AnswersRequest r bytes out Undecided log) → HasSpentAll (Some bytes) r log
+    by None bad = absurd (cc bad.status)
+    by (Some r) so = spends_all r bytes out log so

@@ -52,6 +52,12 @@ SpendsAll (on_input (classify budget)) log = spent_of log ≡ budget
 SpendsAll (on_input (pinpoint wanted inclusion budget)) log = spent_of log ≡ budget
 SpendsAll (generated number budget) log = spent_of log ≡ budget
 
+-- The same of words, where it is known which bytes the source holds; the words of no job spend nothing.
+abbrev pub HasSpentAll : Option (List ℕ) → Option Request → List Entry → Type 0
+HasSpentAll None r log = Unit {0}
+HasSpentAll (Some bytes) None log = ⊥
+HasSpentAll (Some bytes) (Some r) log = SpendsAll r log
+
 -- an answer is undecided only where the whole budget was spent
 abbrev pub UndecidedSpendsAll : Type 0
 UndecidedSpendsAll = (r : Request) (bytes out : List ℕ) (log : List Entry) → AnswersRequest r bytes out Undecided log → SpendsAll r log
