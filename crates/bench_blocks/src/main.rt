@@ -1,5 +1,6 @@
 // How long it takes to follow the blocks of a chain that gets longer node by node. Given any word, it prints for chains of
-// 2,500 to 20,000 nodes how many milliseconds all of it takes, and how many nodes are clear in the end.
+// 2,500 to 20,000 nodes, and for rings of 300 to 4,800 classes, how many milliseconds all of it takes, and how many nodes are
+// clear in the end.
 #![tactic(auto)]
 
 ghost use Rattle.std.specs.Prelude.{◌≡◌, OnOk, IfOk};
@@ -16,6 +17,8 @@ use std::{env, io};
 
 /// How many nodes the chains have.
 const LENGTHS: [u32; 4] = [2_500, 5_000, 10_000, 20_000];
+/// The rings: how many nodes are made, of which the last is blocked, and how many classes there are.
+const RINGS: [(u32, u32); 3] = [(301, 300), (1_201, 1_200), (4_801, 4_800)];
 
 fn out_of_memory() -> io::Error {
     io::Error::from(io::ErrorKind::OutOfMemory)
@@ -83,7 +86,7 @@ fn time_chain(
     let start = Instant::now(rt)?;
     let clear = clear_of_chain(heap, length, concepts).map_err(|_| out_of_memory())?;
     let millis = start.elapsed(rt)?.as_secs_f64() * 1_000.0;
-    println!(rt; "{length} nodes, {concepts} concepts: {millis:.1} milliseconds, {clear} clear")
+    println!(rt; "{length} nodes, {concepts} concepts: {millis:.2} milliseconds, {clear} clear")
 }
 
 fn main(rt: HostRuntime) -> io::Result<()> {
@@ -94,6 +97,9 @@ fn main(rt: HostRuntime) -> io::Result<()> {
     for length in LENGTHS {
         time_chain(&rt, rt.alloc(), length, 20_000)?;
         time_chain(&rt, rt.alloc(), length, 300)?;
+    }
+    for (length, concepts) in RINGS {
+        time_chain(&rt, rt.alloc(), length, concepts)?;
     }
     Ok(())
 }

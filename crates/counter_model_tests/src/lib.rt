@@ -1,0 +1,12 @@
+//! Tests of the counter-models that the program prints: each has the elements that were worked out by hand, and `check`
+//! accepts it.
+#![tactic(auto)]
+
+#[cfg(test)]
+mod chain_tests;
+#[cfg(test)]
+mod ring_tests;
+#[cfg(test)]
+mod runs;
+#[cfg(test)]
+mod tree_tests;
