@@ -1,8 +1,10 @@
 // Documents of a few axioms, and what is asked of them.
 ghost use Rattle.std.specs.Prelude.{◌≤◌, length};
 
+use axiom_sets::AxiomSet;
 use module_extract::module;
-use ofn_reader::{Refusal, read_ontology, read_query};
+use ofn_reader::{Context, Refusal, read_ontology, read_query};
+use shq_terms::{Ontology, Query};
 use std::alloc::{AllocError, Global};
 
 /// The bytes of a short text.
@@ -17,31 +19,62 @@ fn short_bytes(text: &[u8]) -> &[u8]
 
 /// A document of these axioms.
 pub(crate) fn document_of(alloc: Global, axioms: &str) -> Result<String, AllocError> {
-    let mut text = String::from_str(alloc, "Prefix(:=<e:>)\nOntology(\n")?;
-    text.push_str(axioms)?;
-    text.push_str("\n)\n")?;
-    Ok(text)
+    format!(in alloc; "Prefix(:=<e:>)\nOntology(\n{axioms}\n)\n")
 }
 
-/// The numbers of the axioms in the module of the query, in a document.
-pub(crate) fn module_of(alloc: Global, text: &[u8], query: &str) -> Result<Vec<u32>, Refusal> {
-    let (mut ontology, context, _) = read_ontology(alloc, short_bytes(text))?;
-    let query = read_query(alloc, query, &mut ontology, &context)?;
-    let found = module(alloc, &ontology, &query)?;
-    let mut numbers = Vec::new(alloc);
-    for number in found.numbers() {
-        numbers.push(number)?;
+/// Whether these are the numbers of the set.
+fn are_numbers(set: &AxiomSet, wanted: &[u32]) -> bool {
+    let mut numbers = set.numbers();
+    for number in wanted {
+        if numbers.next() != Some(*number) {
+            return false;
+        }
     }
-    Ok(numbers)
+    numbers.next().is_none()
 }
 
-/// How many axioms, classes and roles a document has.
-pub(crate) fn counts(alloc: Global, text: &[u8]) -> Result<(u32, u32, u32), Refusal> {
+fn is_module(
+    alloc: Global,
+    ontology: &Ontology,
+    query: &Query,
+    wanted: &[u32],
+) -> Result<bool, Refusal> {
+    let found = module(alloc, ontology, query)?;
+    Ok(are_numbers(&found, wanted))
+}
+
+/// Whether these are the numbers of the axioms in the module of the query.
+fn has_module(
+    alloc: Global,
+    ontology: &mut Ontology,
+    context: &Context,
+    query: &str,
+    wanted: &[u32],
+) -> Result<bool, Refusal> {
+    let query = read_query(alloc, query, ontology, context)?;
+    is_module(alloc, ontology, &query, wanted)
+}
+
+/// Whether these are the numbers of the axioms in the module of the query, in a document.
+pub(crate) fn gives_module(
+    alloc: Global,
+    text: &[u8],
+    query: &str,
+    wanted: &[u32],
+) -> Result<bool, Refusal> {
+    let (mut ontology, context, _) = read_ontology(alloc, short_bytes(text))?;
+    has_module(alloc, &mut ontology, &context, query, wanted)
+}
+
+fn are_counts(ontology: &Ontology, listed: u32) -> bool {
+    ontology.axiom_count() == listed
+        && ontology.class_count() == listed
+        && ontology.role_count() == 2
+}
+
+/// Whether a document has so many axioms, as many classes, and two roles.
+pub(crate) fn has_counts(alloc: Global, text: &[u8], listed: u32) -> Result<bool, Refusal> {
     let (ontology, context, _) = read_ontology(alloc, short_bytes(text))?;
     drop(context);
-    Ok((
-        ontology.axiom_count(),
-        ontology.class_count(),
-        ontology.role_count(),
-    ))
+    Ok(are_counts(&ontology, listed))
 }

@@ -1,10 +1,9 @@
 // Each kind of line once where its premises hold, and some where a premise does not.
-ghost use Rattle.std.specs.Prelude.{◌≡◌, ◌≤◌, [], IfOk, OnOk, IsTrue, length};
+ghost use Rattle.std.specs.Prelude.{◌≡◌, ◌≤◌, IfOk, OnOk, IsTrue, length};
 ghost use Rattle.shq_base.specs.Concept.{name};
 ghost use Rattle.shq_terms.specs.Uses.{axiom_uses_listed};
 ghost use Rattle.shq_nnf.specs.Counts.{has_counts_within};
 ghost use Rattle.shq_nnf.specs.Parts.{axiom_parts, axiom_has_counts_within};
-ghost use Rattle.axiom_sets.specs.Sets.{IsWithin};
 ghost use Rattle.row_cache.specs.Rows.{AreInLimit};
 ghost use Rattle.fact_specs.specs.Reading.{is_fact_listed};
 ghost use Rattle.refutation_rules.specs.Outcomes.{IsBranch};
@@ -12,8 +11,8 @@ ghost use Rattle.refutation_rules.specs.Outcomes.{IsBranch};
 use branch_facts::BranchFacts;
 use fact_specs::Fact;
 use refutation_rules::{NewNodes, NoMemory, Outcome, Rules};
-use refutation_tree::{Refutation, read_text};
-use shq_terms::{Axiom, Concept, Node, Ontology, Query};
+use refutation_tree::{CertFault, Line, Refutation, read_text};
+use shq_terms::{AddFault, Axiom, Concept, Node, Ontology, Query};
 use std::alloc::Global;
 use std::process::Abort;
 use std::test::Fail;
@@ -41,25 +40,14 @@ fn inclusion(alloc: Global) -> Result<Axiom, NoMemory>
     Ok(Axiom::SubClassOf(sub, class(2)))
 }
 
-// Three classes and two roles.
-fn names(alloc: Global) -> Result<Ontology, Fail>
-    ensures classes { IfOk result (λ o. length o.classes ≡ 3) }
-    ensures roles { IfOk result (λ o. length o.roles ≡ 2) }
-    ensures axioms { IfOk result (λ o. o.axioms ≡ []) }
-{
-    let mut ontology = Ontology::new(alloc);
-    ontology.add_class("A")?;
-    ontology.add_class("B")?;
-    ontology.add_class("C")?;
-    ontology.add_role("R")?;
-    ontology.add_role("S")?;
-    if ontology.class_count() != 3 || ontology.role_count() != 2 {
-        return Err(Fail::from(NoMemory));
+fn add_classes(ontology: &mut Ontology, names: &[&str]) -> Result<(), AddFault> {
+    for name in names {
+        ontology.add_class(name)?;
     }
-    Ok(ontology)
+    Ok(())
 }
 
-fn push(ontology: &mut Ontology, axiom: Axiom) -> Result<(), Fail>
+fn push(ontology: &mut Ontology, axiom: Axiom) -> Result<(), AddFault>
     requires classes { length ontology.old.classes ≡ 3 }
     requires roles { length ontology.old.roles ≡ 2 }
     requires within { AreInLimit ontology.old.axioms }
@@ -75,47 +63,57 @@ fn push(ontology: &mut Ontology, axiom: Axiom) -> Result<(), Fail>
 }
 
 // Role 0 is below role 1, which is transitive; what is at the end of an edge of role 1 is in class 2.
-fn ontology(alloc: Global) -> Result<Ontology, Fail>
-    ensures { IfOk result (λ o. AreInLimit o.axioms) }
+fn add_axioms(alloc: Global, ontology: &mut Ontology) -> Result<(), AddFault>
+    ensures { OnOk result (AreInLimit ontology.new.axioms) }
 {
-    let mut ontology = names(alloc)?;
-    push(&mut ontology, Axiom::SubRole(0, 1))?;
-    push(&mut ontology, Axiom::Transitive(1))?;
-    push(&mut ontology, inclusion(alloc)?)?;
-    push(&mut ontology, Axiom::Range(1, class(2)))?;
-    Ok(ontology)
+    if ontology.class_count() != 3 || ontology.role_count() != 2 || ontology.axiom_count() != 0 {
+        return Err(AddFault::Full);
+    }
+    push(ontology, Axiom::SubRole(0, 1))?;
+    push(ontology, Axiom::Transitive(1))?;
+    push(ontology, inclusion(alloc)?)?;
+    push(ontology, Axiom::Range(1, class(2)))
 }
 
-// A refutation with one line of a rule. Its concepts have the numbers 1 to 10 in the table of the rules too; the complement
-// of class 1 gets 11 there, and bottom 12.
-#[tactic(auto, using(crate::proofs::Within::within_count))]
-fn refutation(alloc: Global, ontology: &Ontology, rule: &'static str) -> Result<Refutation, Fail>
-    ensures { IfOk result (λ r. IsWithin (length ontology.now.axioms) r.axioms.members) }
+// Three classes, two roles and these axioms, for an ontology without any.
+fn fill(alloc: Global, ontology: &mut Ontology) -> Result<(), AddFault>
+    ensures { OnOk result (AreInLimit ontology.new.axioms) }
 {
-    let mut lines = Vec::new(alloc);
-    for line in [
-        "refutation",
-        "axioms 1 2 3 4",
-        "concept 1 name <A>",
-        "concept 2 name <B>",
-        "concept 3 and 1 2",
-        "concept 4 or 1 2",
-        "concept 5 all <S> 1",
-        "concept 6 some <R> 1",
-        "concept 7 least 2 <R> 1",
-        "concept 8 most 1 <S> 1",
-        "concept 9 not <A>",
-        "concept 10 name <C>",
-        rule,
-        "end",
-    ] {
-        lines.push(line.as_bytes())?;
+    add_classes(ontology, &["A", "B", "C"])?;
+    ontology.add_role("R")?;
+    ontology.add_role("S")?;
+    add_axioms(alloc, ontology)
+}
+
+fn push_lines<'a>(lines: &mut Vec<&'a [u8]>, texts: &[&'a str]) -> Result<(), NoMemory> {
+    for text in texts {
+        lines.push(text.as_bytes())?;
     }
-    let refutation = read_text(alloc, &lines, ontology)?;
-    if refutation.axioms_used().limit() != ontology.axiom_count() {
-        return Err(Fail::from(NoMemory));
-    }
-    Ok(refutation)
+    Ok(())
+}
+
+// The lines of a refutation with one line of a rule. Its concepts have the numbers 1 to 10 in the table of the rules too; the
+// complement of class 1 gets 11 there, and bottom 12.
+fn push_refutation<'a>(lines: &mut Vec<&'a [u8]>, rule: &'a str) -> Result<(), NoMemory> {
+    push_lines(
+        lines,
+        &[
+            "refutation",
+            "axioms 1 2 3 4",
+            "concept 1 name <A>",
+            "concept 2 name <B>",
+            "concept 3 and 1 2",
+            "concept 4 or 1 2",
+            "concept 5 all <S> 1",
+            "concept 6 some <R> 1",
+            "concept 7 least 2 <R> 1",
+            "concept 8 most 1 <S> 1",
+            "concept 9 not <A>",
+            "concept 10 name <C>",
+            rule,
+            "end",
+        ],
+    )
 }
 
 fn is_listed(fact: &Fact<u32>, len: u32) -> bool
@@ -149,18 +147,6 @@ fn know(branch: &mut BranchFacts, len: u32, node: u32) -> Result<(), NoMemory>
     branch.add_node(node)
 }
 
-// Nodes 0 to 3, of which nothing is known.
-fn nodes(alloc: Global, len: u32) -> Result<BranchFacts, NoMemory>
-    ensures { IfOk result (λ k. IsBranch len k) }
-{
-    let mut branch = BranchFacts::new(alloc);
-    know(&mut branch, len, 0)?;
-    know(&mut branch, len, 1)?;
-    know(&mut branch, len, 2)?;
-    know(&mut branch, len, 3)?;
-    Ok(branch)
-}
-
 // Knows several facts more.
 fn learn_all(branch: &mut BranchFacts, len: u32, facts: &[Fact<u32>]) -> Result<(), NoMemory>
     requires { IsBranch len branch.old }
@@ -172,14 +158,18 @@ fn learn_all(branch: &mut BranchFacts, len: u32, facts: &[Fact<u32>]) -> Result<
     Ok(())
 }
 
-// Node 0 is in the first eight concepts. An edge of role 0 leads from it to 1 and one of role 1 to 2, which are in class 0
-// and apart; 1 is in the complement of the class too, and 2 in bottom. Of node 3 nothing is known.
-fn branch(alloc: Global, len: u32) -> Result<BranchFacts, NoMemory>
-    ensures { IfOk result (λ k. IsBranch len k) }
+// Nodes 0 to 3. Node 0 is in the first eight concepts. An edge of role 0 leads from it to 1 and one of role 1 to 2, which are in
+// class 0 and apart; 1 is in the complement of the class too, and 2 in bottom. Of node 3 nothing is known.
+fn know_all(branch: &mut BranchFacts, len: u32) -> Result<(), NoMemory>
+    requires { IsBranch len branch.old }
+    ensures { OnOk result (IsBranch len branch.new) }
 {
-    let mut branch = nodes(alloc, len)?;
+    know(branch, len, 0)?;
+    know(branch, len, 1)?;
+    know(branch, len, 2)?;
+    know(branch, len, 3)?;
     learn_all(
-        &mut branch,
+        branch,
         len,
         &[
             Fact::Has(0, 1),
@@ -198,34 +188,23 @@ fn branch(alloc: Global, len: u32) -> Result<BranchFacts, NoMemory>
             Fact::Has(1, 9),
             Fact::Has(2, 12),
         ],
-    )?;
-    Ok(branch)
+    )
 }
 
-// That branch, or one that knows nothing.
+// Knows all of that, or nothing.
+fn begin(branch: &mut BranchFacts, len: u32, begun: bool) -> Result<(), NoMemory>
+    requires { IsBranch len branch.old }
+    ensures { OnOk result (IsBranch len branch.new) }
+{
+    if begun { know_all(branch, len) } else { Ok(()) }
+}
+
 fn known(alloc: Global, len: u32, begun: bool) -> Result<BranchFacts, NoMemory>
     ensures { IfOk result (λ k. IsBranch len k) }
 {
-    if begun {
-        branch(alloc, len)
-    } else {
-        Ok(BranchFacts::new(alloc))
-    }
-}
-
-// What the first line leaves of that branch, or of one that knows nothing.
-fn outcome(
-    alloc: Global,
-    rules: &mut Rules<'_>,
-    refutation: &Refutation,
-    begun: bool,
-) -> Result<Option<Outcome>, Fail> {
-    let lines = refutation.lines();
-    if lines.is_empty() {
-        return Err(Fail::from(NoMemory));
-    }
-    let branch = known(alloc, rules.len(), begun)?;
-    Ok(rules.outcome(&branch, &lines[0])?)
+    let mut branch = BranchFacts::new(alloc);
+    begin(&mut branch, len, begun)?;
+    Ok(branch)
 }
 
 fn told_of_nodes(alloc: Global, nodes: NewNodes) -> Result<String, NoMemory> {
@@ -239,106 +218,187 @@ fn told_of_nodes(alloc: Global, nodes: NewNodes) -> Result<String, NoMemory> {
     Ok(format!(in alloc; "{count} from {first} below {from} by {role} in {concept}")?)
 }
 
-fn told(alloc: Global, outcome: Option<Outcome>) -> Result<String, NoMemory> {
-    Ok(match outcome {
-        None => format!(in alloc; "refused")?,
-        Some(Outcome::Closed) => format!(in alloc; "closed")?,
-        Some(Outcome::Started(sub, not_sup)) => format!(in alloc; "started {sub} {not_sup}")?,
-        Some(Outcome::More(facts)) => format!(in alloc; "more {:?}", facts.as_slice())?,
-        Some(Outcome::Nodes(nodes)) => told_of_nodes(alloc, nodes)?,
-        Some(Outcome::Branches(facts)) => format!(in alloc; "branches {:?}", facts.as_slice())?,
-    })
+fn told_of_facts(alloc: Global, word: &str, facts: &[Fact<u32>]) -> Result<String, NoMemory> {
+    Ok(format!(in alloc; "{word} {facts:?}")?)
 }
 
-// What a line leaves of the branch, as text.
+fn told_of_start(alloc: Global, sub: u32, not_sup: u32) -> Result<String, NoMemory> {
+    Ok(format!(in alloc; "started {sub} {not_sup}")?)
+}
+
+fn told_word(alloc: Global, word: &str) -> Result<String, NoMemory> {
+    Ok(String::from_str(alloc, word)?)
+}
+
+fn told(alloc: Global, outcome: &Option<Outcome>) -> Result<String, NoMemory> {
+    match outcome {
+        None => told_word(alloc, "refused"),
+        Some(Outcome::Closed) => told_word(alloc, "closed"),
+        Some(Outcome::Started(sub, not_sup)) => told_of_start(alloc, *sub, *not_sup),
+        Some(Outcome::More(facts)) => told_of_facts(alloc, "more", facts.as_slice()),
+        Some(Outcome::Nodes(nodes)) => told_of_nodes(alloc, *nodes),
+        Some(Outcome::Branches(facts)) => told_of_facts(alloc, "branches", facts.as_slice()),
+    }
+}
+
+// What the first line leaves of a branch, as text.
+fn left_of(
+    alloc: Global,
+    rules: &mut Rules<'_>,
+    branch: &BranchFacts,
+    lines: &[Line],
+) -> Result<String, NoMemory>
+    requires { IsBranch (length rules.old.table) branch.now }
+{
+    if lines.is_empty() {
+        return Err(NoMemory);
+    }
+    let outcome = rules.outcome(branch, &lines[0])?;
+    told(alloc, &outcome)
+}
+
+// What the first line leaves of that branch, or of one that knows nothing.
+fn outcome(
+    alloc: Global,
+    rules: &mut Rules<'_>,
+    lines: &[Line],
+    begun: bool,
+) -> Result<String, NoMemory> {
+    let branch = known(alloc, rules.len(), begun)?;
+    left_of(alloc, rules, &branch, lines)
+}
+
+// The same, by rules that are made for it.
+#[tactic(auto, using(crate::proofs::Within::within_count))]
 fn left_by(
     alloc: Global,
     ontology: &Ontology,
+    query: &Query,
+    refutation: &Refutation,
     begun: bool,
-    line: &'static str,
-) -> Result<String, Fail>
+) -> Result<String, NoMemory>
+    requires within { AreInLimit ontology.now.axioms }
+    requires sub { IsTrue (has_counts_within 100 query.now.sub) }
+    requires sup { IsTrue (has_counts_within 100 query.now.sup) }
+{
+    if refutation.axioms_used().limit() != ontology.axiom_count() {
+        return Err(NoMemory);
+    }
+    let mut rules = Rules::new(alloc, ontology, query, refutation)?;
+    outcome(alloc, &mut rules, refutation.lines(), begun)
+}
+
+// The same, for the query whether what is in class 0 is in class 1.
+fn left_for(
+    alloc: Global,
+    ontology: &Ontology,
+    refutation: &Refutation,
+    begun: bool,
+) -> Result<String, NoMemory>
     requires { AreInLimit ontology.now.axioms }
 {
     let query = Query {
         sub: class(0),
         sup: class(1),
     };
-    let refutation = refutation(alloc, ontology, line)?;
-    let mut rules = Rules::new(alloc, ontology, &query, &refutation)?;
-    Ok(told(alloc, outcome(alloc, &mut rules, &refutation, begun)?)?)
+    left_by(alloc, ontology, &query, refutation, begun)
 }
 
-// Each line leaves what stands beside it.
+fn read_lines(alloc: Global, rule: &str, ontology: &Ontology) -> Result<Refutation, CertFault> {
+    let mut lines = Vec::new(alloc);
+    push_refutation(&mut lines, rule)?;
+    read_text(alloc, &lines, ontology)
+}
+
+// Whether a branch has facts, a line, and what it leaves.
+type Case = (bool, &'static str, &'static str);
+
+fn assert_told(rt: &impl Abort, told: &str, (_, line, wanted): &Case) {
+    assert!(rt; told == *wanted, "{line}: {told}");
+}
+
+fn check_read(
+    rt: &impl Abort,
+    alloc: Global,
+    ontology: &Ontology,
+    refutation: &Refutation,
+    case: &Case,
+) -> Result<(), NoMemory>
+    requires { AreInLimit ontology.now.axioms }
+{
+    let told = left_for(alloc, ontology, refutation, case.0)?;
+    assert_told(rt, told.as_str(), case);
+    Ok(())
+}
+
+fn check(rt: &impl Abort, alloc: Global, ontology: &Ontology, case: &Case) -> Result<(), CertFault>
+    requires { AreInLimit ontology.now.axioms }
+{
+    let refutation = read_lines(alloc, case.1, ontology)?;
+    check_read(rt, alloc, ontology, &refutation, case)?;
+    Ok(())
+}
+
 fn check_each(
     rt: &impl Abort,
     alloc: Global,
-    begun: bool,
-    lines: &[(&'static str, &'static str)],
-) -> Result<(), Fail> {
-    let ontology = ontology(alloc)?;
-    for (line, wanted) in lines {
-        let told = left_by(alloc, &ontology, begun, *line)?;
-        assert_eq!(rt; told.as_str(), *wanted, "{line}");
+    ontology: &Ontology,
+    cases: &[Case],
+) -> Result<(), CertFault>
+    requires { AreInLimit ontology.now.axioms }
+{
+    for case in cases {
+        check(rt, alloc, ontology, case)?;
     }
     Ok(())
 }
 
-#[test]
-fn lines_begin(rt: HostRuntime) -> Result<(), Fail> {
-    check_each(
-        &rt,
-        rt.alloc(),
-        false,
-        &[("start", "started 1 11"), ("bottom 0", "refused")],
-    )
+fn check_lines(rt: &impl Abort, alloc: Global, ontology: &Ontology) -> Result<(), CertFault>
+    requires { AreInLimit ontology.now.axioms }
+{
+    let cases = &[
+        (false, "start", "started 1 11"),
+        (false, "bottom 0", "refused"),
+        (true, "start", "refused"),
+        (true, "and 0 3", "more [Has(0, 1), Has(0, 2)]"),
+        (true, "and 1 3", "refused"),
+        (true, "or 0 4", "branches [Has(0, 1), Has(0, 2)]"),
+        (true, "or 0 3", "refused"),
+        (true, "row 0 3 1 1 2", "more [Has(0, 10)]"),
+        (true, "row 1 3 1 1 2", "refused"),
+        (true, "choose 3 1", "branches [Has(3, 1), Has(3, 9)]"),
+        (true, "choose 4 1", "refused"),
+        (true, "pair 0 3", "branches [Same(0, 3), Apart(0, 3)]"),
+        (true, "pair 0 4", "refused"),
+        (true, "bottom 2", "closed"),
+        (true, "bottom 1", "refused"),
+        (true, "clash 1 1", "closed"),
+        (true, "clash 2 1", "refused"),
+        (true, "all 0 1 5", "more [Has(1, 1)]"),
+        (true, "all 0 3 5", "refused"),
+        (true, "carry 0 2 <S> 5", "more [Has(2, 5)]"),
+        (true, "carry 0 1 <R> 5", "refused"),
+        (true, "range 0 1 4", "more [Has(1, 10)]"),
+        (true, "range 0 3 4", "refused"),
+        (true, "some 0 4 6", "1 from 4 below 0 by 0 in 1"),
+        (true, "some 0 3 6", "refused"),
+        (true, "least 0 4 7", "2 from 4 below 0 by 0 in 1"),
+        (true, "least 0 3 7", "refused"),
+        (true, "least 0 4294967295 7", "refused"),
+        (true, "most 0 8 1 2", "closed"),
+        (true, "most 0 8 1 1", "refused"),
+    ];
+    check_each(rt, alloc, ontology, cases)
+}
+
+fn check_filled(rt: &impl Abort, alloc: Global, ontology: &mut Ontology) -> Result<(), Fail> {
+    fill(alloc, ontology)?;
+    check_lines(rt, alloc, ontology)?;
+    Ok(())
 }
 
 #[test]
-fn lines_of_one_node(rt: HostRuntime) -> Result<(), Fail> {
-    check_each(
-        &rt,
-        rt.alloc(),
-        true,
-        &[
-            ("start", "refused"),
-            ("and 0 3", "more [Has(0, 1), Has(0, 2)]"),
-            ("and 1 3", "refused"),
-            ("or 0 4", "branches [Has(0, 1), Has(0, 2)]"),
-            ("or 0 3", "refused"),
-            ("row 0 3 1 1 2", "more [Has(0, 10)]"),
-            ("row 1 3 1 1 2", "refused"),
-            ("choose 3 1", "branches [Has(3, 1), Has(3, 9)]"),
-            ("choose 4 1", "refused"),
-            ("pair 0 3", "branches [Same(0, 3), Apart(0, 3)]"),
-            ("pair 0 4", "refused"),
-            ("bottom 2", "closed"),
-            ("bottom 1", "refused"),
-            ("clash 1 1", "closed"),
-            ("clash 2 1", "refused"),
-        ],
-    )
-}
-
-#[test]
-fn lines_of_successors(rt: HostRuntime) -> Result<(), Fail> {
-    check_each(
-        &rt,
-        rt.alloc(),
-        true,
-        &[
-            ("all 0 1 5", "more [Has(1, 1)]"),
-            ("all 0 3 5", "refused"),
-            ("carry 0 2 <S> 5", "more [Has(2, 5)]"),
-            ("carry 0 1 <R> 5", "refused"),
-            ("range 0 1 4", "more [Has(1, 10)]"),
-            ("range 0 3 4", "refused"),
-            ("some 0 4 6", "1 from 4 below 0 by 0 in 1"),
-            ("some 0 3 6", "refused"),
-            ("least 0 4 7", "2 from 4 below 0 by 0 in 1"),
-            ("least 0 3 7", "refused"),
-            ("least 0 4294967295 7", "refused"),
-            ("most 0 8 1 2", "closed"),
-            ("most 0 8 1 1", "refused"),
-        ],
-    )
+fn lines_leave_what_stands_beside_them(rt: HostRuntime) -> Result<(), Fail> {
+    let mut ontology = Ontology::new(rt.alloc());
+    check_filled(&rt, rt.alloc(), &mut ontology)
 }

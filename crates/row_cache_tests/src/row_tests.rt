@@ -1,5 +1,5 @@
 // Rows that were worked out by hand.
-ghost use Rattle.std.specs.Prelude.{◌≡◌, ◌≤◌, IfOk, IsTrue, length};
+ghost use Rattle.std.specs.Prelude.{◌≡◌, ◌≤◌, IfOk, OnOk, IsTrue, length};
 ghost use Rattle.shq_base.specs.Concept.{name};
 ghost use Rattle.shq_terms.specs.Uses.{axiom_uses_listed};
 ghost use Rattle.shq_nnf.specs.Parts.{axiom_parts, axiom_has_counts_within};
@@ -9,12 +9,13 @@ ghost use Rattle.row_cache.specs.Rows.{AreInLimit};
 use axiom_sets::AxiomSet;
 use row_cache::{CachedRange, CachedRow, NoMemory, RowCache};
 use shq_nnf::{Concepts, Shape};
-use shq_terms::{Axiom, Concept, ConceptList, Node, Ontology};
+use shq_terms::{AddFault, Axiom, Concept, ConceptList, Node, Ontology};
 use std::alloc::Global;
+use std::process::Abort;
 use std::test::Fail;
 
 // The axioms of the tests, over classes 0 to 2 and role 0.
-#[derive(Clone, Copy, Debug, PartialEq, Eq)]
+#[derive(Clone, Copy)]
 enum Kind {
     // What is in 0 and in 1 and has a successor in 0 is in 2.
     Inclusion,
@@ -77,39 +78,37 @@ fn axiom_of(alloc: Global, kind: Kind) -> Result<Axiom, NoMemory>
     }
 }
 
-fn names(alloc: Global) -> Result<Ontology, Fail>
-    ensures { IfOk result (λ o. length o.axioms ≡ 0) }
-{
-    let mut ontology = Ontology::new(alloc);
-    ontology.add_class("A")?;
-    ontology.add_class("B")?;
-    ontology.add_class("C")?;
-    ontology.add_role("r")?;
-    Ok(ontology)
+fn add_classes(ontology: &mut Ontology, names: &[&str]) -> Result<(), AddFault> {
+    for name in names {
+        ontology.add_class(name)?;
+    }
+    Ok(())
 }
 
-fn with_axiom(mut ontology: Ontology, axiom: Axiom) -> Result<Ontology, Fail>
-    requires classes { length ontology.classes ≡ 3 }
-    requires roles { length ontology.roles ≡ 1 }
-    requires axioms { length ontology.axioms ≡ 0 }
+fn add_first(ontology: &mut Ontology, axiom: Axiom) -> Result<(), AddFault>
+    requires classes { length ontology.old.classes ≡ 3 }
+    requires roles { length ontology.old.roles ≡ 1 }
+    requires axioms { length ontology.old.axioms ≡ 0 }
     requires uses { IsTrue (axiom_uses_listed 3 1 «axiom») }
     requires counts { IsTrue (axiom_has_counts_within 100 «axiom») }
     requires parts { length (axiom_parts «axiom») ≤ 500000 }
-    ensures { IfOk result (λ o. AreInLimit o.axioms) }
+    ensures { OnOk result (AreInLimit ontology.new.axioms) }
 {
     ontology.add_axiom(axiom, 1)?;
-    Ok(ontology)
+    Ok(())
 }
 
-fn ontology_of(alloc: Global, kind: Kind) -> Result<Ontology, Fail>
-    ensures { IfOk result (λ o. AreInLimit o.axioms) }
+// The names of the tests, and the axiom.
+fn fill(alloc: Global, ontology: &mut Ontology, kind: Kind) -> Result<(), AddFault>
+    ensures { OnOk result (AreInLimit ontology.new.axioms) }
 {
-    let ontology = names(alloc)?;
-    if ontology.class_count() != 3 || ontology.role_count() != 1 {
-        return Err(Fail::from(NoMemory));
+    add_classes(ontology, &["A", "B", "C"])?;
+    ontology.add_role("r")?;
+    if ontology.class_count() != 3 || ontology.role_count() != 1 || ontology.axiom_count() != 0 {
+        return Err(AddFault::Full);
     }
     let axiom = axiom_of(alloc, kind)?;
-    with_axiom(ontology, axiom)
+    add_first(ontology, axiom)
 }
 
 // All axioms of the ontology, or none.
@@ -127,24 +126,6 @@ fn named_of(alloc: Global, ontology: &Ontology, named: bool) -> Result<AxiomSet,
     Ok(set)
 }
 
-// The shapes that the rows of the tests are made of, with the numbers 1 to 8.
-fn table(alloc: Global) -> Result<Concepts, NoMemory> {
-    let mut concepts = Concepts::new(alloc)?;
-    for shape in [
-        Shape::Name(0),
-        Shape::Name(1),
-        Shape::SomeOf(0, 1),
-        Shape::Name(2),
-        Shape::NotName(0),
-        Shape::NotName(1),
-        Shape::AllOf(0, 5),
-        Shape::NotName(2),
-    ] {
-        put(&mut concepts, shape)?;
-    }
-    Ok(concepts)
-}
-
 // Puts a shape of the kinds that these tests use. One that may not be put counts as out of memory.
 fn put(concepts: &mut Concepts, shape: Shape<'_>) -> Result<u32, NoMemory> {
     match shape {
@@ -156,184 +137,214 @@ fn put(concepts: &mut Concepts, shape: Shape<'_>) -> Result<u32, NoMemory> {
     }
 }
 
-// Whether the row has these premises and a concept of this shape.
-fn is_wanted(concepts: &Concepts, row: &CachedRow, premises: &[u32], shape: Shape<'_>) -> bool {
-    row.premises.items() == premises
-        && row.concept < concepts.len()
-        && concepts.shape(row.concept) == shape
+fn put_each(concepts: &mut Concepts, shapes: &[Shape<'_>]) -> Result<(), NoMemory> {
+    for shape in shapes {
+        put(concepts, *shape)?;
+    }
+    Ok(())
 }
 
-// Whether the row is as it should be, or there is none where none should be.
-fn is_right(
+// The shapes that the rows of the tests are made of, with the numbers 1 to 8.
+fn put_shapes(concepts: &mut Concepts) -> Result<(), NoMemory> {
+    put_each(
+        concepts,
+        &[
+            Shape::Name(0),
+            Shape::Name(1),
+            Shape::SomeOf(0, 1),
+            Shape::Name(2),
+            Shape::NotName(0),
+            Shape::NotName(1),
+            Shape::AllOf(0, 5),
+            Shape::NotName(2),
+        ],
+    )
+}
+
+fn table(alloc: Global) -> Result<Concepts, NoMemory> {
+    let mut concepts = Concepts::new(alloc)?;
+    put_shapes(&mut concepts)?;
+    Ok(concepts)
+}
+
+// The row as text: its premises and its concept's shape.
+fn told_row(
+    alloc: Global,
     concepts: &Concepts,
     row: &Option<CachedRow>,
-    wanted: Option<(&[u32], Shape<'_>)>,
-) -> bool {
-    match (row, wanted) {
-        (Some(row), Some((premises, shape))) => is_wanted(concepts, row, premises, shape),
-        (None, None) => true,
-        _ => false,
+) -> Result<String, NoMemory> {
+    match row {
+        Some(row) if row.concept < concepts.len() => {
+            let premises = row.premises.items();
+            let shape = concepts.shape(row.concept);
+            Ok(format!(in alloc; "{premises:?} {shape:?}")?)
+        }
+        Some(_) => Ok(String::from_str(alloc, "a concept of no table")?),
+        None => Ok(String::new(alloc)),
     }
 }
 
-// Whether the row that is told is as it should be.
-fn tells(
-    rows: &mut RowCache<'_>,
-    numbers: (u32, u32),
-    positions: &[u32],
-    wanted: Option<(&[u32], Shape<'_>)>,
-) -> Result<bool, NoMemory> {
-    let row = rows.inclusion_row(numbers.0, numbers.1, positions)?;
-    Ok(is_right(rows.concepts(), &row, wanted))
+// The row of a range as text: its role and its concept's number.
+fn told_range(alloc: Global, row: Option<CachedRange>) -> Result<String, NoMemory> {
+    match row {
+        Some(CachedRange { role, concept }) => Ok(format!(in alloc; "{role} {concept}")?),
+        None => Ok(String::new(alloc)),
+    }
 }
 
-fn ask_row(
+// The number of an axiom and that of a part, or none for the row of a range; the positions of the premises; and what is told, which
+// is nothing where there is no row.
+type Case = (u32, Option<u32>, &'static [u32], &'static str);
+
+fn told(alloc: Global, rows: &mut RowCache<'_>, case: &Case) -> Result<String, NoMemory> {
+    let (number, part, positions, _) = case;
+    match part {
+        Some(part) => {
+            let row = rows.inclusion_row(*number, *part, positions)?;
+            told_row(alloc, rows.concepts(), &row)
+        }
+        None => told_range(alloc, rows.range_row(*number)?),
+    }
+}
+
+fn check_rows(
+    rt: &impl Abort,
     alloc: Global,
-    kind: Kind,
-    named: bool,
-    numbers: (u32, u32),
-    positions: &[u32],
-    wanted: Option<(&[u32], Shape<'_>)>,
-) -> Result<bool, Fail> {
-    let ontology = ontology_of(alloc, kind)?;
-    let named = named_of(alloc, &ontology, named)?;
-    let mut rows = RowCache::new(alloc, &ontology, &named, table(alloc)?);
-    Ok(tells(&mut rows, numbers, positions, wanted)?)
-}
-
-#[test]
-fn rows_of_inclusions(rt: HostRuntime) -> Result<(), Fail> {
-    let cases: [(Kind, bool, (u32, u32), &[u32], Option<(&[u32], Shape<'_>)>); 17] = [
-        (
-            Kind::Inclusion,
-            true,
-            (1, 1),
-            &[],
-            Some((&[], Shape::Or(&[5, 6, 7, 4]))),
-        ),
-        (
-            Kind::Inclusion,
-            true,
-            (1, 1),
-            &[1],
-            Some((&[1], Shape::Or(&[6, 7, 4]))),
-        ),
-        (
-            Kind::Inclusion,
-            true,
-            (1, 1),
-            &[2],
-            Some((&[2], Shape::Or(&[5, 7, 4]))),
-        ),
-        (
-            Kind::Inclusion,
-            true,
-            (1, 1),
-            &[1, 2],
-            Some((&[1, 2], Shape::Or(&[7, 4]))),
-        ),
-        (Kind::Inclusion, true, (1, 1), &[2, 1], None),
-        (Kind::Inclusion, true, (1, 1), &[1, 1], None),
-        (Kind::Inclusion, true, (1, 1), &[0], None),
-        (Kind::Inclusion, true, (1, 1), &[3], None),
-        (Kind::Inclusion, true, (1, 1), &[4], None),
-        (Kind::Inclusion, true, (1, 0), &[], None),
-        (Kind::Inclusion, true, (1, 2), &[], None),
-        (Kind::Inclusion, true, (0, 1), &[], None),
-        (Kind::Inclusion, true, (2, 1), &[], None),
-        (Kind::Inclusion, false, (1, 1), &[], None),
-        (Kind::Range, true, (1, 1), &[], None),
-        (
-            Kind::Disjoint,
-            true,
-            (1, 2),
-            &[],
-            Some((&[], Shape::Or(&[5, 8]))),
-        ),
-        (
-            Kind::Disjoint,
-            true,
-            (1, 3),
-            &[1],
-            Some((&[2], Shape::NotName(2))),
-        ),
-    ];
-    for (kind, named, numbers, positions, wanted) in cases {
-        assert!(rt;
-            ask_row(rt.alloc(), kind, named, numbers, positions, wanted)?,
-            "{kind:?} {numbers:?} {positions:?}"
-        );
+    rows: &mut RowCache<'_>,
+    cases: &[Case],
+) -> Result<(), NoMemory> {
+    for case in cases {
+        let told = told(alloc, rows, case)?;
+        assert!(rt; told.as_str() == case.3, "{told}");
     }
     Ok(())
 }
 
-// One table is asked for rows of two parts in turn, for the same positions and for others.
-fn ask_in_turn(rows: &mut RowCache<'_>) -> Result<bool, NoMemory> {
-    let cases: [(u32, &[u32], Option<(&[u32], Shape<'_>)>); 7] = [
-        (3, &[1], Some((&[2], Shape::NotName(2)))),
-        (3, &[], Some((&[], Shape::Or(&[6, 8])))),
-        (2, &[], Some((&[], Shape::Or(&[5, 8])))),
-        (3, &[], Some((&[], Shape::Or(&[6, 8])))),
-        (3, &[2], None),
-        (3, &[1], Some((&[2], Shape::NotName(2)))),
-        (2, &[1], Some((&[1], Shape::NotName(2)))),
-    ];
-    let mut right = true;
-    for (part, positions, wanted) in cases {
-        let told = tells(rows, (1, part), positions, wanted)?;
-        right = right && told;
-    }
-    Ok(right)
+// Asks one table for rows in turn.
+fn check_table(
+    rt: &impl Abort,
+    alloc: Global,
+    ontology: &Ontology,
+    named: &AxiomSet,
+    cases: &[Case],
+) -> Result<(), NoMemory>
+    requires within { AreInLimit ontology.now.axioms }
+    requires numbers { IsWithin (length ontology.now.axioms) named.now.members }
+{
+    let mut rows = RowCache::new(alloc, ontology, named, table(alloc)?);
+    check_rows(rt, alloc, &mut rows, cases)
 }
 
-#[test]
-fn rows_in_turn(rt: HostRuntime) -> Result<(), Fail> {
-    let ontology = ontology_of(rt.alloc(), Kind::Disjoint)?;
-    let named = named_of(rt.alloc(), &ontology, true)?;
-    let mut rows = RowCache::new(rt.alloc(), &ontology, &named, table(rt.alloc())?);
-    assert!(rt; ask_in_turn(&mut rows)?);
+// The same of an ontology, which gets one axiom that the set of the rows names or does not.
+fn check_filled(
+    rt: &impl Abort,
+    alloc: Global,
+    ontology: &mut Ontology,
+    kind: Kind,
+    is_named: bool,
+    cases: &[Case],
+) -> Result<(), AddFault> {
+    fill(alloc, ontology, kind)?;
+    let named = named_of(alloc, ontology, is_named)?;
+    check_table(rt, alloc, ontology, &named, cases)?;
     Ok(())
 }
 
-fn tell_range(
-    rows: &mut RowCache<'_>,
-    number: u32,
-) -> Result<(Option<CachedRange>, Option<CachedRange>), NoMemory> {
-    let first = rows.range_row(number)?;
-    let second = rows.range_row(number)?;
-    Ok((first, second))
-}
-
-// What is told the first time and the second time.
-fn ask_range(
+fn check(
+    rt: &impl Abort,
     alloc: Global,
     kind: Kind,
-    named: bool,
-    number: u32,
-) -> Result<(Option<CachedRange>, Option<CachedRange>), Fail> {
-    let ontology = ontology_of(alloc, kind)?;
-    let named = named_of(alloc, &ontology, named)?;
-    let mut rows = RowCache::new(alloc, &ontology, &named, table(alloc)?);
-    Ok(tell_range(&mut rows, number)?)
+    is_named: bool,
+    cases: &[Case],
+) -> Result<(), AddFault> {
+    let mut ontology = Ontology::new(alloc);
+    check_filled(rt, alloc, &mut ontology, kind, is_named, cases)
+}
+
+// Asks a table for each row that was asked for nothing before.
+fn check_first(
+    rt: &impl Abort,
+    alloc: Global,
+    kind: Kind,
+    is_named: bool,
+    cases: &[Case],
+) -> Result<(), AddFault> {
+    for case in cases {
+        check(rt, alloc, kind, is_named, &[*case])?;
+    }
+    Ok(())
+}
+
+fn check_inclusions(rt: &impl Abort, alloc: Global) -> Result<(), AddFault> {
+    let cases: &[Case] = &[
+        (1, Some(1), &[], "[] Or([5, 6, 7, 4])"),
+        (1, Some(1), &[1], "[1] Or([6, 7, 4])"),
+        (1, Some(1), &[2], "[2] Or([5, 7, 4])"),
+        (1, Some(1), &[1, 2], "[1, 2] Or([7, 4])"),
+        (1, Some(1), &[2, 1], ""),
+        (1, Some(1), &[1, 1], ""),
+        (1, Some(1), &[0], ""),
+        (1, Some(1), &[3], ""),
+        (1, Some(1), &[4], ""),
+        (1, Some(0), &[], ""),
+        (1, Some(2), &[], ""),
+        (0, Some(1), &[], ""),
+        (2, Some(1), &[], ""),
+    ];
+    check_first(rt, alloc, Kind::Inclusion, true, cases)
+}
+
+// The rows of two parts in turn, for the same positions and for others.
+fn check_in_turn(rt: &impl Abort, alloc: Global) -> Result<(), AddFault> {
+    let cases: &[Case] = &[
+        (1, Some(3), &[1], "[2] NotName(2)"),
+        (1, Some(3), &[], "[] Or([6, 8])"),
+        (1, Some(2), &[], "[] Or([5, 8])"),
+        (1, Some(3), &[], "[] Or([6, 8])"),
+        (1, Some(3), &[2], ""),
+        (1, Some(3), &[1], "[2] NotName(2)"),
+        (1, Some(2), &[1], "[1] NotName(2)"),
+    ];
+    check(rt, alloc, Kind::Disjoint, true, cases)
+}
+
+// Axioms with one row or none.
+fn check_single(rt: &impl Abort, alloc: Global) -> Result<(), AddFault> {
+    let none: &[Case] = &[(1, Some(1), &[], "")];
+    check(rt, alloc, Kind::Inclusion, false, none)?;
+    check(rt, alloc, Kind::Range, true, none)?;
+    let disjoint: &[Case] = &[
+        (1, Some(2), &[], "[] Or([5, 8])"),
+        (1, Some(3), &[1], "[2] NotName(2)"),
+    ];
+    check_first(rt, alloc, Kind::Disjoint, true, disjoint)
+}
+
+// Rows of ranges, the first time and the second time.
+fn check_ranges(rt: &impl Abort, alloc: Global) -> Result<(), AddFault> {
+    let cases: &[(Kind, bool, u32, &'static str)] = &[
+        (Kind::Range, true, 1, "0 4"),
+        (Kind::Range, false, 1, ""),
+        (Kind::Range, true, 0, ""),
+        (Kind::Range, true, 2, ""),
+        (Kind::Domain, true, 1, ""),
+    ];
+    for (kind, is_named, number, wanted) in cases {
+        let case: Case = (*number, None, &[], *wanted);
+        check(rt, alloc, *kind, *is_named, &[case, case])?;
+    }
+    Ok(())
+}
+
+fn check_all(rt: &impl Abort, alloc: Global) -> Result<(), AddFault> {
+    check_inclusions(rt, alloc)?;
+    check_single(rt, alloc)?;
+    check_in_turn(rt, alloc)?;
+    check_ranges(rt, alloc)
 }
 
 #[test]
-fn rows_of_ranges(rt: HostRuntime) -> Result<(), Fail> {
-    let row = CachedRange {
-        role: 0,
-        concept: 4,
-    };
-    for (kind, named, number, wanted) in [
-        (Kind::Range, true, 1, Some(row)),
-        (Kind::Range, false, 1, None),
-        (Kind::Range, true, 0, None),
-        (Kind::Range, true, 2, None),
-        (Kind::Domain, true, 1, None),
-    ] {
-        assert_eq!(rt;
-            ask_range(rt.alloc(), kind, named, number)?,
-            (wanted, wanted)
-        );
-    }
+fn rows_of_axioms(rt: HostRuntime) -> Result<(), Fail> {
+    check_all(&rt, rt.alloc())?;
     Ok(())
 }
