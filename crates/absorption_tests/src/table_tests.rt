@@ -9,12 +9,12 @@ ghost use Rattle.row_cache.specs.Rows.{AreInLimit};
 use absorption::{NoMemory, Row, RowTable, Trigger};
 use axiom_sets::AxiomSet;
 use shq_nnf::{Concepts, Shape};
-use shq_terms::{Axiom, Concept, ConceptList, Node, Ontology};
+use shq_terms::{AddFault, Axiom, Concept, ConceptList, Node, Ontology};
 use std::alloc::Global;
 use std::test::Fail;
 
 // The axioms of the tests, over classes 0 to 2 and role 0.
-#[derive(Clone, Copy, Debug, PartialEq, Eq)]
+#[derive(Clone, Copy)]
 enum Kind {
     // What is in 0 and in 1 and has a successor in 0 is in 2.
     TwoNames,
@@ -33,7 +33,7 @@ enum Kind {
 }
 
 // A place of a table.
-#[derive(Clone, Copy, Debug, PartialEq, Eq)]
+#[derive(Clone, Copy)]
 enum Place {
     Class(u32),
     Role(u32),
@@ -41,7 +41,7 @@ enum Place {
 }
 
 // What a row is to wait for, with the numbers of the names.
-#[derive(Clone, Copy, Debug, PartialEq, Eq)]
+#[derive(Clone, Copy)]
 enum Waits<'a> {
     Nothing,
     Names(&'a [u32], &'a [u32]),
@@ -115,19 +115,15 @@ fn axiom_of(alloc: Global, kind: Kind) -> Result<Axiom, NoMemory>
     }
 }
 
-fn names(alloc: Global) -> Result<Ontology, Fail>
-    ensures { IfOk result (λ o. length o.axioms ≡ 0) }
-{
-    let mut ontology = Ontology::new(alloc);
-    ontology.add_class("A")?;
-    ontology.add_class("B")?;
-    ontology.add_class("C")?;
-    ontology.add_role("r")?;
-    Ok(ontology)
+fn add_classes(ontology: &mut Ontology, names: &[&str]) -> Result<(), AddFault> {
+    for name in names {
+        ontology.add_class(name)?;
+    }
+    Ok(())
 }
 
 #[tactic(auto, using(crate::proofs::Limits::one_more))]
-fn add(ontology: &mut Ontology, axiom: Axiom) -> Result<(), Fail>
+fn add(ontology: &mut Ontology, axiom: Axiom) -> Result<(), AddFault>
     requires within { AreInLimit ontology.old.axioms }
     requires classes { length ontology.old.classes ≡ 3 }
     requires roles { length ontology.old.roles ≡ 1 }
@@ -141,25 +137,30 @@ fn add(ontology: &mut Ontology, axiom: Axiom) -> Result<(), Fail>
 }
 
 // Puts the axiom last, if the names of the tests are there.
-fn add_kind(alloc: Global, ontology: &mut Ontology, kind: Kind) -> Result<(), Fail>
+fn add_kind(alloc: Global, ontology: &mut Ontology, kind: Kind) -> Result<(), AddFault>
     requires within { AreInLimit ontology.old.axioms }
     ensures within { OnOk result (AreInLimit ontology.new.axioms) }
 {
     if ontology.class_count() != 3 || ontology.role_count() != 1 {
-        return Err(Fail::from(NoMemory));
+        return Err(AddFault::Full);
     }
     let axiom = axiom_of(alloc, kind)?;
     add(ontology, axiom)
 }
 
-fn ontology_of(alloc: Global, kinds: &[Kind]) -> Result<Ontology, Fail>
-    ensures { IfOk result (λ o. AreInLimit o.axioms) }
+// The names of the tests, and these axioms, in an ontology without any.
+fn fill(alloc: Global, ontology: &mut Ontology, kinds: &[Kind]) -> Result<(), AddFault>
+    ensures { OnOk result (AreInLimit ontology.new.axioms) }
 {
-    let mut ontology = names(alloc)?;
-    for kind in kinds {
-        add_kind(alloc, &mut ontology, *kind)?;
+    add_classes(ontology, &["A", "B", "C"])?;
+    ontology.add_role("r")?;
+    if ontology.axiom_count() != 0 {
+        return Err(AddFault::Full);
     }
-    Ok(ontology)
+    for kind in kinds {
+        add_kind(alloc, ontology, *kind)?;
+    }
+    Ok(())
 }
 
 // The numbers of all axioms.
@@ -173,26 +174,6 @@ fn all_of(alloc: Global, ontology: &Ontology) -> Result<AxiomSet, NoMemory>
     Ok(set)
 }
 
-// The shapes that the rows of the tests are made of, with the numbers 1 to 10.
-fn concepts(alloc: Global) -> Result<Concepts, NoMemory> {
-    let mut concepts = Concepts::new(alloc)?;
-    for shape in [
-        Shape::Name(0),
-        Shape::Name(1),
-        Shape::SomeOf(0, 1),
-        Shape::Name(2),
-        Shape::NotName(0),
-        Shape::NotName(1),
-        Shape::AllOf(0, 5),
-        Shape::NotName(2),
-        Shape::Bottom,
-        Shape::AllOf(0, 9),
-    ] {
-        put(&mut concepts, shape)?;
-    }
-    Ok(concepts)
-}
-
 // Puts a shape of the kinds that these tests use. One that may not be put counts as out of memory.
 fn put(concepts: &mut Concepts, shape: Shape<'_>) -> Result<u32, NoMemory> {
     match shape {
@@ -202,6 +183,32 @@ fn put(concepts: &mut Concepts, shape: Shape<'_>) -> Result<u32, NoMemory> {
         }
         _ => Err(NoMemory),
     }
+}
+
+fn put_each(concepts: &mut Concepts, shapes: &[Shape<'_>]) -> Result<(), NoMemory> {
+    for shape in shapes {
+        put(concepts, *shape)?;
+    }
+    Ok(())
+}
+
+// The shapes that the rows of the tests are made of, with the numbers 1 to 10.
+fn put_shapes(concepts: &mut Concepts) -> Result<(), NoMemory> {
+    put_each(
+        concepts,
+        &[
+            Shape::Name(0),
+            Shape::Name(1),
+            Shape::SomeOf(0, 1),
+            Shape::Name(2),
+            Shape::NotName(0),
+            Shape::NotName(1),
+            Shape::AllOf(0, 5),
+            Shape::NotName(2),
+            Shape::Bottom,
+            Shape::AllOf(0, 9),
+        ],
+    )
 }
 
 fn rows_at(table: &RowTable, place: Place) -> &[Row] {
@@ -237,22 +244,6 @@ fn are_rows(rows: &[Row], wanted: &[(u32, u32)]) -> bool {
     right
 }
 
-// Whether the rows at the place are these, and the last waits as wanted and has this concept.
-fn ask(
-    alloc: Global,
-    kinds: &[Kind],
-    place: Place,
-    numbers: &[(u32, u32)],
-    wanted: Option<(Waits<'_>, Shape<'_>)>,
-) -> Result<bool, Fail> {
-    let ontology = ontology_of(alloc, kinds)?;
-    let set = all_of(alloc, &ontology)?;
-    let mut concepts = concepts(alloc)?;
-    let table = RowTable::build(alloc, &ontology, &set, &mut concepts)?;
-    let rows = rows_at(&table, place);
-    Ok(are_rows(rows, numbers) && last_is(&concepts, rows, wanted))
-}
-
 fn last_is(concepts: &Concepts, rows: &[Row], wanted: Option<(Waits<'_>, Shape<'_>)>) -> bool {
     match (rows.last(), wanted) {
         (Some(row), Some((waits, shape))) => {
@@ -263,81 +254,115 @@ fn last_is(concepts: &Concepts, rows: &[Row], wanted: Option<(Waits<'_>, Shape<'
     }
 }
 
+// Axioms, a place, the numbers of the axioms and parts of its rows, and for what the last of them waits and its concept.
+type Case<'a> = (
+    &'a [Kind],
+    Place,
+    &'a [(u32, u32)],
+    Option<(Waits<'a>, Shape<'a>)>,
+);
+
+// Whether the rows at the place are these, and the last waits as wanted and has this concept.
+fn has_rows(table: &RowTable, concepts: &Concepts, case: &Case<'_>) -> bool {
+    let (_, place, numbers, wanted) = case;
+    let rows = rows_at(table, *place);
+    are_rows(rows, numbers) && last_is(concepts, rows, *wanted)
+}
+
+fn ask_table(
+    alloc: Global,
+    ontology: &Ontology,
+    set: &AxiomSet,
+    concepts: &mut Concepts,
+    case: &Case<'_>,
+) -> Result<bool, NoMemory>
+    requires within { AreInLimit ontology.now.axioms }
+    requires numbers { IsWithin (length ontology.now.axioms) set.now.members }
+{
+    put_shapes(concepts)?;
+    let table = RowTable::build(alloc, ontology, set, concepts)?;
+    Ok(has_rows(&table, concepts, case))
+}
+
+fn ask_filled(alloc: Global, ontology: &mut Ontology, case: &Case<'_>) -> Result<bool, AddFault> {
+    fill(alloc, ontology, case.0)?;
+    let set = all_of(alloc, ontology)?;
+    let mut concepts = Concepts::new(alloc)?;
+    Ok(ask_table(alloc, ontology, &set, &mut concepts, case)?)
+}
+
+fn ask(alloc: Global, case: &Case<'_>) -> Result<bool, AddFault> {
+    let mut ontology = Ontology::new(alloc);
+    ask_filled(alloc, &mut ontology, case)
+}
+
+const CASES: &[Case<'static>] = &[
+    (
+        &[Kind::TwoNames],
+        Place::Class(0),
+        &[(1, 1)],
+        Some((Waits::Names(&[1, 2], &[1, 2]), Shape::Or(&[7, 4]))),
+    ),
+    (&[Kind::TwoNames], Place::Class(1), &[], None),
+    (&[Kind::TwoNames], Place::Role(0), &[], None),
+    (&[Kind::TwoNames], Place::Neither, &[], None),
+    (
+        &[Kind::OneName, Kind::TwoNames],
+        Place::Class(1),
+        &[(2, 1)],
+        Some((Waits::Names(&[1, 2], &[1, 2]), Shape::Or(&[7, 4]))),
+    ),
+    (
+        &[Kind::OneName, Kind::TwoNames],
+        Place::Class(0),
+        &[(1, 1)],
+        Some((Waits::Names(&[1], &[1]), Shape::Name(2))),
+    ),
+    (
+        &[Kind::Edge],
+        Place::Role(0),
+        &[(1, 1)],
+        Some((Waits::Edge(0), Shape::Or(&[7, 4]))),
+    ),
+    (
+        &[Kind::Edge, Kind::Domain],
+        Place::Role(0),
+        &[(1, 1), (2, 1)],
+        Some((Waits::Edge(0), Shape::Or(&[10, 4]))),
+    ),
+    (
+        &[Kind::Domain, Kind::Range],
+        Place::Role(0),
+        &[(1, 1), (2, 1)],
+        Some((Waits::End(0), Shape::Name(2))),
+    ),
+    (&[Kind::Range], Place::Role(1), &[], None),
+    (
+        &[Kind::Disjoint],
+        Place::Class(0),
+        &[(1, 1), (1, 2)],
+        Some((Waits::Names(&[1], &[1]), Shape::NotName(2))),
+    ),
+    (
+        &[Kind::Disjoint],
+        Place::Class(1),
+        &[(1, 3)],
+        Some((Waits::Names(&[1], &[2]), Shape::NotName(2))),
+    ),
+    (&[Kind::Disjoint], Place::Class(2), &[], None),
+    (
+        &[Kind::Range, Kind::Functional],
+        Place::Neither,
+        &[(2, 1)],
+        Some((Waits::Nothing, Shape::Max(1, 0, 0))),
+    ),
+    (&[], Place::Neither, &[], None),
+];
+
 #[test]
 fn rows_stand_where_they_wait(rt: HostRuntime) -> Result<(), Fail> {
-    let names = Waits::Names(&[1], &[1]);
-    let cases: [(
-        &[Kind],
-        Place,
-        &[(u32, u32)],
-        Option<(Waits<'_>, Shape<'_>)>,
-    ); 15] = [
-        (
-            &[Kind::TwoNames],
-            Place::Class(0),
-            &[(1, 1)],
-            Some((Waits::Names(&[1, 2], &[1, 2]), Shape::Or(&[7, 4]))),
-        ),
-        (&[Kind::TwoNames], Place::Class(1), &[], None),
-        (&[Kind::TwoNames], Place::Role(0), &[], None),
-        (&[Kind::TwoNames], Place::Neither, &[], None),
-        (
-            &[Kind::OneName, Kind::TwoNames],
-            Place::Class(1),
-            &[(2, 1)],
-            Some((Waits::Names(&[1, 2], &[1, 2]), Shape::Or(&[7, 4]))),
-        ),
-        (
-            &[Kind::OneName, Kind::TwoNames],
-            Place::Class(0),
-            &[(1, 1)],
-            Some((names, Shape::Name(2))),
-        ),
-        (
-            &[Kind::Edge],
-            Place::Role(0),
-            &[(1, 1)],
-            Some((Waits::Edge(0), Shape::Or(&[7, 4]))),
-        ),
-        (
-            &[Kind::Edge, Kind::Domain],
-            Place::Role(0),
-            &[(1, 1), (2, 1)],
-            Some((Waits::Edge(0), Shape::Or(&[10, 4]))),
-        ),
-        (
-            &[Kind::Domain, Kind::Range],
-            Place::Role(0),
-            &[(1, 1), (2, 1)],
-            Some((Waits::End(0), Shape::Name(2))),
-        ),
-        (&[Kind::Range], Place::Role(1), &[], None),
-        (
-            &[Kind::Disjoint],
-            Place::Class(0),
-            &[(1, 1), (1, 2)],
-            Some((names, Shape::NotName(2))),
-        ),
-        (
-            &[Kind::Disjoint],
-            Place::Class(1),
-            &[(1, 3)],
-            Some((Waits::Names(&[1], &[2]), Shape::NotName(2))),
-        ),
-        (&[Kind::Disjoint], Place::Class(2), &[], None),
-        (
-            &[Kind::Range, Kind::Functional],
-            Place::Neither,
-            &[(2, 1)],
-            Some((Waits::Nothing, Shape::Max(1, 0, 0))),
-        ),
-        (&[], Place::Neither, &[], None),
-    ];
-    for (kinds, place, numbers, wanted) in cases {
-        assert!(rt;
-            ask(rt.alloc(), kinds, place, numbers, wanted)?,
-            "{kinds:?} {place:?}"
-        );
+    for (place, case) in CASES.iter().enumerate() {
+        assert!(rt; ask(rt.alloc(), case)?, "case {place}");
     }
     Ok(())
 }

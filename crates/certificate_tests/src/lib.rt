@@ -7,3 +7,5 @@ mod line_tests;
 mod model_tests;
 #[cfg(test)]
 mod refutation_tests;
+#[cfg(test)]
+mod small_ontologies;

@@ -7,15 +7,39 @@ ghost use Rattle.shq_nnf.specs.Parts.{axiom_parts, axiom_has_counts_within};
 use shq_nnf::{Concepts, NoMemory, Part, Shape, part_count};
 use shq_terms::{Axiom, Concept, ConceptList, Node};
 use std::alloc::Global;
+use std::process::Abort;
 use std::test::Fail;
+
+fn put_all_of(concepts: &mut Concepts, role: u32, filler: u32) -> Result<u32, NoMemory> {
+    if filler >= concepts.len() {
+        return Err(NoMemory);
+    }
+    concepts.put(Shape::AllOf(role, filler))
+}
+
+fn put_min(concepts: &mut Concepts, count: u32, role: u32, filler: u32) -> Result<u32, NoMemory> {
+    if filler >= concepts.len() || count < 2 || count > 101 {
+        return Err(NoMemory);
+    }
+    concepts.put(Shape::Min(count, role, filler))
+}
+
+fn put_max(concepts: &mut Concepts, count: u32, role: u32, filler: u32) -> Result<u32, NoMemory> {
+    if filler >= concepts.len() || count < 1 || count > 100 {
+        return Err(NoMemory);
+    }
+    concepts.put(Shape::Max(count, role, filler))
+}
 
 // Puts a shape of the kinds that these tests use. One that may not be put counts as out of memory.
 fn put(concepts: &mut Concepts, shape: Shape<'_>) -> Result<u32, NoMemory> {
     match shape {
-        Shape::Bottom | Shape::Name(_) | Shape::NotName(_) => concepts.put(shape),
-        Shape::AllOf(_, filler) if filler < concepts.len() => concepts.put(shape),
-        Shape::Min(2..=101, _, filler) if filler < concepts.len() => concepts.put(shape),
-        Shape::Max(1..=100, _, filler) if filler < concepts.len() => concepts.put(shape),
+        Shape::Bottom => concepts.put(Shape::Bottom),
+        Shape::Name(class) => concepts.put(Shape::Name(class)),
+        Shape::NotName(class) => concepts.put(Shape::NotName(class)),
+        Shape::AllOf(role, filler) => put_all_of(concepts, role, filler),
+        Shape::Min(count, role, filler) => put_min(concepts, count, role, filler),
+        Shape::Max(count, role, filler) => put_max(concepts, count, role, filler),
         _ => Err(NoMemory),
     }
 }
@@ -50,59 +74,15 @@ fn successors(alloc: Global, exactly: bool, count: u32) -> Result<Concept, NoMem
     Ok(Concept { node })
 }
 
-#[test]
-fn equal_shapes_have_equal_numbers(rt: HostRuntime) -> Result<(), Fail> {
-    let mut concepts = Concepts::new(rt.alloc())?;
-    for (shape, number) in [
-        (Shape::Name(5), 1),
-        (Shape::Min(2, 0, 1), 2),
-        (Shape::Name(5), 1),
-        (Shape::Min(2, 1, 1), 3),
-    ] {
-        assert_eq!(rt; put(&mut concepts, shape)?, number);
-    }
-    assert_eq!(rt; concepts.len(), 4);
-    Ok(())
-}
-
-#[test]
-fn complements_of_cardinalities(rt: HostRuntime) -> Result<(), Fail> {
-    let mut concepts = Concepts::new(rt.alloc())?;
-    for (shape, opposite) in [
-        (Shape::Max(100, 0, 0), Shape::Min(101, 0, 0)),
-        (Shape::Max(1, 0, 0), Shape::Min(2, 0, 0)),
-        (Shape::Min(2, 0, 0), Shape::Max(1, 0, 0)),
-        (Shape::Min(101, 0, 0), Shape::Max(100, 0, 0)),
-        (Shape::NotName(5), Shape::Name(5)),
-    ] {
-        let number = put(&mut concepts, shape)?;
-        let other = complement(&mut concepts, number)?;
-        assert_eq!(rt; put(&mut concepts, opposite)?, other);
-    }
-    Ok(())
-}
-
-#[test]
-fn complement_of_exactly_one(rt: HostRuntime) -> Result<(), Fail> {
-    let mut concepts = Concepts::new(rt.alloc())?;
-    let not_class = put(&mut concepts, Shape::NotName(5))?;
-    let class = put(&mut concepts, Shape::Name(5))?;
-    let none = put(&mut concepts, Shape::AllOf(0, not_class))?;
-    let two = put(&mut concepts, Shape::Min(2, 0, class))?;
-    let one = concepts.intern(&successors(rt.alloc(), true, 1)?)?;
-    let other = concepts.negated(one)?;
-    assert_eq!(rt; concepts.shape(other), Shape::Or(&[none, two]));
-    Ok(())
-}
-
-#[test]
-fn complement_of_at_least_none(rt: HostRuntime) -> Result<(), Fail> {
-    let mut concepts = Concepts::new(rt.alloc())?;
-    let any = concepts.intern(&successors(rt.alloc(), false, 0)?)?;
-    assert_eq!(rt; any, 0);
-    let none = concepts.negated(any)?;
-    assert_eq!(rt; concepts.shape(none), Shape::Bottom);
-    Ok(())
+// The number of such successors.
+fn interned(
+    alloc: Global,
+    concepts: &mut Concepts,
+    exactly: bool,
+    count: u32,
+) -> Result<u32, NoMemory> {
+    let concept = successors(alloc, exactly, count.min(100))?;
+    concepts.intern(&concept)
 }
 
 // The union of two numbers.
@@ -115,21 +95,6 @@ fn union(concepts: &mut Concepts, first: u32, second: u32) -> Result<u32, NoMemo
     }
 }
 
-#[test]
-fn unions_are_opened(rt: HostRuntime) -> Result<(), Fail> {
-    let mut concepts = Concepts::new(rt.alloc())?;
-    for (class, number) in [(5, 1), (6, 2), (7, 3)] {
-        assert_eq!(rt; put(&mut concepts, Shape::Name(class))?, number);
-    }
-    assert_eq!(rt; put(&mut concepts, Shape::Bottom)?, 4);
-    for (first, second, number) in [(1, 2, 5), (5, 3, 6), (4, 5, 5), (3, 0, 0), (4, 4, 4)] {
-        assert_eq!(rt; union(&mut concepts, first, second)?, number);
-    }
-    let whole = union(&mut concepts, 5, 3)?;
-    assert_eq!(rt; members(&concepts, whole), [1, 2, 3].as_slice());
-    Ok(())
-}
-
 // The members of a union.
 fn members(concepts: &Concepts, concept: u32) -> &[u32] {
     if concept >= concepts.len() {
@@ -139,6 +104,93 @@ fn members(concepts: &Concepts, concept: u32) -> &[u32] {
         Shape::Or(parts) => parts,
         _ => &[],
     }
+}
+
+fn is_bottom(concepts: &Concepts, concept: u32) -> bool {
+    concept < concepts.len() && concepts.shape(concept) == Shape::Bottom
+}
+
+fn put_all(
+    rt: &impl Abort,
+    concepts: &mut Concepts,
+    table: &[(Shape<'_>, u32)],
+) -> Result<(), NoMemory> {
+    for (shape, number) in table {
+        assert_eq!(rt; put(concepts, *shape)?, *number);
+    }
+    Ok(())
+}
+
+fn test_numbers(rt: &impl Abort, concepts: &mut Concepts) -> Result<(), NoMemory> {
+    let table = [
+        (Shape::Name(5), 1),
+        (Shape::Min(2, 0, 1), 2),
+        (Shape::Name(5), 1),
+        (Shape::Min(2, 1, 1), 3),
+    ];
+    put_all(rt, concepts, &table)?;
+    assert_eq!(rt; concepts.len(), 4);
+    Ok(())
+}
+
+fn test_cardinalities(rt: &impl Abort, concepts: &mut Concepts) -> Result<(), NoMemory> {
+    for (shape, opposite) in [
+        (Shape::Max(100, 0, 0), Shape::Min(101, 0, 0)),
+        (Shape::Max(1, 0, 0), Shape::Min(2, 0, 0)),
+        (Shape::Min(2, 0, 0), Shape::Max(1, 0, 0)),
+        (Shape::Min(101, 0, 0), Shape::Max(100, 0, 0)),
+        (Shape::NotName(5), Shape::Name(5)),
+    ]
+    .iter()
+    {
+        let number = put(concepts, *shape)?;
+        let other = complement(concepts, number)?;
+        assert_eq!(rt; put(concepts, *opposite)?, other);
+    }
+    Ok(())
+}
+
+fn test_exactly_one(
+    rt: &impl Abort,
+    alloc: Global,
+    concepts: &mut Concepts,
+) -> Result<(), NoMemory> {
+    let not_class = put(concepts, Shape::NotName(5))?;
+    let class = put(concepts, Shape::Name(5))?;
+    let none = put(concepts, Shape::AllOf(0, not_class))?;
+    let two = put(concepts, Shape::Min(2, 0, class))?;
+    let one = interned(alloc, concepts, true, 1)?;
+    let other = complement(concepts, one)?;
+    assert_eq!(rt; members(concepts, other), [none, two].as_slice());
+    Ok(())
+}
+
+fn test_at_least_none(
+    rt: &impl Abort,
+    alloc: Global,
+    concepts: &mut Concepts,
+) -> Result<(), NoMemory> {
+    let any = interned(alloc, concepts, false, 0)?;
+    assert_eq!(rt; any, 0);
+    let none = complement(concepts, any)?;
+    assert!(rt; is_bottom(concepts, none));
+    Ok(())
+}
+
+fn test_unions(rt: &impl Abort, concepts: &mut Concepts) -> Result<(), NoMemory> {
+    let table = [
+        (Shape::Name(5), 1),
+        (Shape::Name(6), 2),
+        (Shape::Name(7), 3),
+        (Shape::Bottom, 4),
+    ];
+    put_all(rt, concepts, &table)?;
+    for (first, second, number) in [(1, 2, 5), (5, 3, 6), (4, 5, 5), (3, 0, 0), (4, 4, 4)].iter() {
+        assert_eq!(rt; union(concepts, *first, *second)?, *number);
+    }
+    let whole = union(concepts, 5, 3)?;
+    assert_eq!(rt; members(concepts, whole), [1, 2, 3].as_slice());
+    Ok(())
 }
 
 // The class 9 is the disjoint union of the classes 0, 1 and 2.
@@ -191,30 +243,45 @@ fn sides_of(
     Ok(sides(&part))
 }
 
-#[test]
-fn counts_parts(rt: HostRuntime) -> Result<(), Fail> {
-    let whole = split(rt.alloc())?;
-    assert_eq!(rt; part_count(&whole), 7);
-    assert_eq!(rt; part_count(&Axiom::Transitive(0)), 0);
-    Ok(())
+// How many parts that axiom has.
+fn split_count(alloc: Global) -> Result<u32, NoMemory> {
+    let whole = split(alloc)?;
+    Ok(part_count(&whole))
 }
 
-#[test]
-fn parts_of_a_disjoint_union(rt: HostRuntime) -> Result<(), Fail> {
-    let mut concepts = Concepts::new(rt.alloc())?;
-    for (shape, number) in [
+fn transitive_count() -> u32 {
+    part_count(&Axiom::Transitive(0))
+}
+
+fn test_parts(rt: &impl Abort, alloc: Global, concepts: &mut Concepts) -> Result<(), NoMemory> {
+    let table = [
         (Shape::Name(9), 1),
         (Shape::Name(0), 2),
         (Shape::Name(1), 3),
         (Shape::NotName(2), 4),
-    ] {
-        assert_eq!(rt; put(&mut concepts, shape)?, number);
+    ];
+    put_all(rt, concepts, &table)?;
+    for (number, left, right) in [(2, 2, 1), (6, 2, 4), (7, 3, 4)].iter() {
+        let sides = split_sides(concepts, alloc, *number)?;
+        assert!(rt; sides == Some((*left, *right)));
     }
-    for (number, left, right) in [(2, 2, 1), (6, 2, 4), (7, 3, 4)] {
-        assert_eq!(rt;
-            split_sides(&mut concepts, rt.alloc(), number)?,
-            Some((left, right))
-        );
-    }
+    Ok(())
+}
+
+#[test]
+fn numbers_and_complements(rt: HostRuntime) -> Result<(), Fail> {
+    test_numbers(&rt, &mut Concepts::new(rt.alloc())?)?;
+    test_cardinalities(&rt, &mut Concepts::new(rt.alloc())?)?;
+    test_exactly_one(&rt, rt.alloc(), &mut Concepts::new(rt.alloc())?)?;
+    test_at_least_none(&rt, rt.alloc(), &mut Concepts::new(rt.alloc())?)?;
+    Ok(())
+}
+
+#[test]
+fn unions_and_parts(rt: HostRuntime) -> Result<(), Fail> {
+    test_unions(&rt, &mut Concepts::new(rt.alloc())?)?;
+    test_parts(&rt, rt.alloc(), &mut Concepts::new(rt.alloc())?)?;
+    assert_eq!(rt; split_count(rt.alloc())?, 7);
+    assert_eq!(rt; transitive_count(), 0);
     Ok(())
 }

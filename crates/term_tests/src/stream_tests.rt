@@ -1,8 +1,11 @@
 // Whole inputs and outputs in pieces, and faults in mid-stream.
 
 use shq_io::{MemSink, MemSource, ReadEnd, StdSink, StdSource, WriteFailed, read_all, write_whole};
+use shq_terms::NoMemory;
+use std::alloc::Global;
 use std::io;
 use std::io::{ErrorKind, Read, Write};
+use std::process::Abort;
 use std::test::Fail;
 
 // A stream that moves one byte at a call, and fails at its third call.
@@ -59,90 +62,130 @@ impl Write for Unflushed {
     }
 }
 
-#[test]
-fn reads_from_memory(rt: HostRuntime) -> Result<(), Fail> {
-    let alloc = rt.alloc();
-    let long = vec![in alloc; 7u8; 5000]?;
-    let short: &[u8] = b"abc";
-    // The bytes, the step, the call that fails, the limit, and what is answered: a read offers room for 4,096 bytes,
-    // so that 5,000 bytes come in two reads, and the third is told the end.
-    let table: [(&[u8], u32, u32, u32, Result<usize, ReadEnd>); 10] = [
-        (short, 1, 9, 3, Ok(3)),
-        (short, 9, 9, 9, Ok(3)),
-        (short, 1, 9, 2, Err(ReadEnd::TooLong)),
-        (short, 1, 2, 9, Err(ReadEnd::Fault)),
-        (short, 1, 1, 0, Err(ReadEnd::Fault)),
-        (b"", 1, 9, 0, Ok(0)),
-        (&long, 9999, 3, 5000, Err(ReadEnd::Fault)),
-        (&long, 9999, 4, 5000, Ok(5000)),
-        (&long, 9999, 3, 4999, Err(ReadEnd::TooLong)),
-        (&long, 9999, 2, 4095, Err(ReadEnd::TooLong)),
-    ];
-    for (bytes, step, failing, limit, wanted) in table {
-        let mut source = MemSource::new(alloc, bytes, step.max(1), &[failing])?;
-        match read_all(alloc, &mut source, limit) {
-            Ok(read) => {
-                assert_eq!(rt; Ok(read.len()), wanted, "limit {limit}");
-                assert_eq!(rt; read.as_slice(), bytes, "limit {limit}");
-            }
-            Err(end) => assert_eq!(rt; Err(end), wanted, "limit {limit}"),
-        }
+// Whether so many bytes were read, and which, or why not.
+fn is_read_so(
+    read: &Result<Vec<u8>, ReadEnd>,
+    bytes: &[u8],
+    wanted: Result<usize, ReadEnd>,
+) -> bool {
+    match read {
+        Ok(read) => wanted == Ok(read.len()) && read.as_slice() == bytes,
+        Err(end) => wanted == Err(*end),
+    }
+}
+
+// Reads from memory in pieces of a step, where one call fails.
+fn read(
+    alloc: Global,
+    bytes: &[u8],
+    step: u32,
+    failing: u32,
+    limit: u32,
+) -> Result<Result<Vec<u8>, ReadEnd>, NoMemory> {
+    let mut source = MemSource::new(alloc, bytes, step.max(1), &[failing])?;
+    Ok(read_all(alloc, &mut source, limit))
+}
+
+// The bytes, the step, the call that fails, the limit, and what is answered.
+const SHORT: [(&[u8], u32, u32, u32, Result<usize, ReadEnd>); 6] = [
+    (b"abc", 1, 9, 3, Ok(3)),
+    (b"abc", 9, 9, 9, Ok(3)),
+    (b"abc", 1, 9, 2, Err(ReadEnd::TooLong)),
+    (b"abc", 1, 2, 9, Err(ReadEnd::Fault)),
+    (b"abc", 1, 1, 0, Err(ReadEnd::Fault)),
+    (b"", 1, 9, 0, Ok(0)),
+];
+
+// The same of 5,000 bytes in one step. A read offers room for 4,096 bytes, so that they come in two reads, and the third is
+// told the end.
+const LONG: [(u32, u32, Result<usize, ReadEnd>); 4] = [
+    (3, 5000, Err(ReadEnd::Fault)),
+    (4, 5000, Ok(5000)),
+    (3, 4999, Err(ReadEnd::TooLong)),
+    (2, 4095, Err(ReadEnd::TooLong)),
+];
+
+fn test_long(rt: &impl Abort, alloc: Global, long: &[u8]) -> Result<(), NoMemory> {
+    for (failing, limit, wanted) in LONG.iter() {
+        let read = read(alloc, long, 9999, *failing, *limit)?;
+        assert!(rt; is_read_so(&read, long, *wanted), "limit {limit}");
     }
     Ok(())
 }
 
-#[test]
-fn writes_to_memory(rt: HostRuntime) -> Result<(), Fail> {
-    let alloc = rt.alloc();
-    // The room, the step, the call that fails, what is answered and what was taken.
-    let table: [(u32, u32, u32, Result<(), WriteFailed>, &[u8]); 5] = [
-        (5, 2, 9, Ok(()), b"hello"),
-        (9, 9, 2, Ok(()), b"hello"),
-        (9, 2, 2, Err(WriteFailed), b"he"),
-        (3, 2, 9, Err(WriteFailed), b"hel"),
-        (0, 1, 9, Err(WriteFailed), b""),
-    ];
-    for (room, step, failing, wanted, taken) in table {
-        let mut sink = MemSink::new(alloc, room, step.max(1), &[failing])?;
-        assert_eq!(rt; write_whole(&mut sink, b"hello"), wanted, "room {room}");
-        assert_eq!(rt; sink.taken(), taken, "room {room}");
+fn test_short(rt: &impl Abort, alloc: Global) -> Result<(), NoMemory> {
+    for (bytes, step, failing, limit, wanted) in SHORT.iter() {
+        let read = read(alloc, bytes, *step, *failing, *limit)?;
+        assert!(rt; is_read_so(&read, bytes, *wanted), "limit {limit}");
     }
     Ok(())
 }
 
-#[test]
-fn reads_from_a_reader(rt: HostRuntime) -> Result<(), Fail> {
-    let alloc = rt.alloc();
-    let long = vec![in alloc; 7u8; 5000]?;
-    let read = read_all(alloc, &mut StdSource::new(long.as_slice()), 5000)?;
-    assert_eq!(rt; read.as_slice(), long.as_slice());
-    let longer = read_all(alloc, &mut StdSource::new(long.as_slice()), 4999);
-    assert_eq!(rt; longer.map(|bytes| bytes.len()), Err(ReadEnd::TooLong));
-    let failed = read_all(alloc, &mut StdSource::new(Failing { calls: 0 }), 9);
-    assert_eq!(rt; failed.map(|bytes| bytes.len()), Err(ReadEnd::Fault));
-    Ok(())
+fn test_readers(rt: &impl Abort, alloc: Global, long: &[u8]) {
+    let read = read_all(alloc, &mut StdSource::new(long), 5000);
+    assert!(rt; is_read_so(&read, long, Ok(5000)));
+    let read = read_all(alloc, &mut StdSource::new(long), 4999);
+    assert!(rt; is_read_so(&read, long, Err(ReadEnd::TooLong)));
+    let read = read_all(alloc, &mut StdSource::new(Failing { calls: 0 }), 9);
+    assert!(rt; is_read_so(&read, long, Err(ReadEnd::Fault)));
 }
 
 #[test]
-fn writes_to_a_writer(rt: HostRuntime) -> Result<(), Fail> {
-    let mut written = Vec::new(rt.alloc());
-    assert_eq!(rt;
-        write_whole(&mut StdSink::new(&mut written), b"hello"),
-        Ok(())
-    );
+fn reads_whole_inputs(rt: HostRuntime) -> Result<(), Fail> {
+    let long = vec![in rt.alloc(); 7u8; 5000]?;
+    test_short(&rt, rt.alloc())?;
+    test_long(&rt, rt.alloc(), &long)?;
+    test_readers(&rt, rt.alloc(), &long);
+    Ok(())
+}
+
+// The room, the step, the call that fails, what is answered and what was taken.
+const WRITTEN: [(u32, u32, u32, Result<(), WriteFailed>, &[u8]); 5] = [
+    (5, 2, 9, Ok(()), b"hello"),
+    (9, 9, 2, Ok(()), b"hello"),
+    (9, 2, 2, Err(WriteFailed), b"he"),
+    (3, 2, 9, Err(WriteFailed), b"hel"),
+    (0, 1, 9, Err(WriteFailed), b""),
+];
+
+fn is_written_so(
+    sink: &mut MemSink,
+    text: &[u8],
+    wanted: Result<(), WriteFailed>,
+    taken: &[u8],
+) -> bool {
+    write_whole(sink, text) == wanted && sink.taken() == taken
+}
+
+fn test_memory(rt: &impl Abort, alloc: Global, text: &[u8]) -> Result<(), NoMemory> {
+    for (room, step, failing, wanted, taken) in WRITTEN.iter() {
+        let mut sink = MemSink::new(alloc, *room, (*step).max(1), &[*failing])?;
+        assert!(rt;
+            is_written_so(&mut sink, text, *wanted, taken),
+            "room {room}"
+        );
+    }
+    Ok(())
+}
+
+fn write<W: Write + Drop>(inner: W, text: &[u8]) -> Result<(), WriteFailed> {
+    write_whole(&mut StdSink::new(inner), text)
+}
+
+fn test_writers(rt: &impl Abort, written: &mut Vec<u8>, text: &[u8]) {
+    assert_eq!(rt; write(&mut *written, text), Ok(()));
     assert_eq!(rt; written.as_slice(), b"hello".as_slice());
     let mut full = [0u8; 3];
-    assert_eq!(rt;
-        write_whole(&mut StdSink::new(&mut full[..]), b"hello"),
-        Err(WriteFailed)
-    );
+    assert_eq!(rt; write(&mut full[..], text), Err(WriteFailed));
     assert_eq!(rt; full.as_slice(), b"hel".as_slice());
     // A sink flushes after each write, so that a flush that fails is told at once.
-    assert_eq!(rt;
-        write_whole(&mut StdSink::new(Unflushed), b"hello"),
-        Err(WriteFailed)
-    );
-    let mut failing = StdSink::new(Failing { calls: 0 });
-    assert_eq!(rt; write_whole(&mut failing, b"hello"), Err(WriteFailed));
+    assert_eq!(rt; write(Unflushed, text), Err(WriteFailed));
+    assert_eq!(rt; write(Failing { calls: 0 }, text), Err(WriteFailed));
+}
+
+#[test]
+fn writes_whole_outputs(rt: HostRuntime) -> Result<(), Fail> {
+    test_memory(&rt, rt.alloc(), b"hello")?;
+    test_writers(&rt, &mut Vec::new(rt.alloc()), b"hello");
     Ok(())
 }
