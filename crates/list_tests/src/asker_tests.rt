@@ -1,0 +1,131 @@
+// One search over objects of different kinds that answer about the same sets.
+ghost use Rattle.std.specs.Prelude.{◌≡◌, [], IfOk};
+ghost use Rattle.std.specs.List.{All};
+ghost use Rattle.ontology_limits.specs.Limits.{IsInLimit};
+
+use axiom_sets::AxiomSet;
+use hitting_set_tree::enumerate;
+use module_extract::module;
+use ofn_reader::{Refusal, read_ontology, read_query};
+use query_asker::Asker;
+use repair_list::repairs;
+use run_log::RunLog;
+use set_questions::{Entail, SetOracle};
+use shq_oracle::Oracle;
+use shq_terms::{Ontology, Query};
+use std::alloc::Global;
+use std::test::Fail;
+
+const DOCUMENT: &[u8] = b"Prefix(:=<e:>)Ontology(
+SubClassOf(:A :B1)SubClassOf(:B1 :D)SubClassOf(:A :B2)SubClassOf(:B2 :D)
+SubClassOf(:A :B3)SubClassOf(:B3 :D)SubClassOf(:D :C))";
+
+// The smallest sets of its seven axioms from which the query follows.
+const SETS: [[u32; 3]; 3] = [[1, 2, 7], [3, 4, 7], [5, 6, 7]];
+
+/// What is found, with a bit for each member of a set.
+#[derive(Drop, Debug, PartialEq)]
+struct Lists {
+    finished: bool,
+    justs: Vec<u64>,
+    repairs: Vec<u64>,
+}
+
+fn masks_of(alloc: Global, sets: &[AxiomSet]) -> Result<Vec<u64>, Fail> {
+    let mut masks = Vec::new(alloc);
+    for set in sets {
+        let mut mask = 0_u64;
+        for number in set.numbers() {
+            mask |= 1_u64.wrapping_shl(number);
+        }
+        masks.push(mask)?;
+    }
+    Ok(masks)
+}
+
+// What is found over an object.
+fn lists_of<E: Entail>(alloc: Global, entail: &mut E) -> Result<Lists, Fail>
+    requires { (E.meaning entail.old).taken ≡ [] }
+{
+    let found = enumerate(alloc, entail)?;
+    let cuts = repairs(alloc, &found)?;
+    Ok(Lists {
+        finished: found.finished,
+        justs: masks_of(alloc, &found.justs)?,
+        repairs: masks_of(alloc, &cuts)?,
+    })
+}
+
+// Over sets in memory.
+fn by_sets(alloc: Global) -> Result<Lists, Fail> {
+    let sets = sets_of(alloc, &SETS)?;
+    lists_of(alloc, &mut SetOracle::new(alloc, 7, sets, 1000))
+}
+
+fn sets_of(alloc: Global, members: &[[u32; 3]]) -> Result<Vec<AxiomSet>, Fail>
+    ensures { IfOk result (λ v. All (λ s. s.limit ≡ 7) v.items) }
+{
+    let mut sets = Vec::new(alloc);
+    for numbers in members {
+        sets.push(set_of(alloc, numbers)?)?;
+    }
+    Ok(sets)
+}
+
+fn set_of(alloc: Global, numbers: &[u32; 3]) -> Result<AxiomSet, Fail>
+    ensures { IfOk result (λ s. s.limit ≡ 7) }
+{
+    let mut set = AxiomSet::empty(alloc, 7)?;
+    put(&mut set, numbers[0]);
+    put(&mut set, numbers[1]);
+    put(&mut set, numbers[2]);
+    Ok(set)
+}
+
+// Puts a number in that may be a member.
+fn put(set: &mut AxiomSet, number: u32)
+    ensures { set.new.limit ≡ set.old.limit }
+{
+    if number >= 1 && number <= set.limit() {
+        set.put(number);
+    }
+}
+
+// Over an asker among all axioms.
+fn by_all(alloc: Global, ontology: &Ontology, query: &Query) -> Result<Lists, Fail>
+    requires { IsInLimit ontology.now query.now }
+{
+    let oracle = Oracle::new(alloc, ontology, 1000, RunLog::new(alloc));
+    lists_of(alloc, &mut Asker::new(alloc, oracle, query))
+}
+
+// Over an asker among the axioms of the local module.
+fn by_module(alloc: Global, ontology: &Ontology, query: &Query) -> Result<Lists, Fail>
+    requires { IsInLimit ontology.now query.now }
+{
+    let module = module(alloc, ontology, query)?;
+    let oracle = Oracle::new(alloc, ontology, 1000, RunLog::new(alloc));
+    let mut asker = Asker::within(alloc, oracle, query, module);
+    lists_of(alloc, &mut asker)
+}
+
+// The document, and a query on it.
+fn read(alloc: Global) -> Result<(Ontology, Query), Refusal>
+    ensures { IfOk result (λ r. IsInLimit r.0 r.1) }
+{
+    let (mut ontology, context, _) = read_ontology(alloc, DOCUMENT)?;
+    let query = read_query(alloc, "SubClassOf(:A :C)", &mut ontology, &context)?;
+    drop(context);
+    Ok((ontology, query))
+}
+
+#[test]
+fn objects_of_one_meaning_have_equal_lists(rt: HostRuntime) -> Result<(), Fail> {
+    let alloc = rt.alloc();
+    let (ontology, query) = read(alloc)?;
+    let wanted = by_sets(alloc)?;
+    assert!(rt; wanted.finished);
+    assert_eq!(rt; by_all(alloc, &ontology, &query)?, wanted);
+    assert_eq!(rt; by_module(alloc, &ontology, &query)?, wanted);
+    Ok(())
+}

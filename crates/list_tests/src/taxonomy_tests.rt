@@ -1,0 +1,103 @@
+// Taxonomies compared with the answers about all pairs of their classes.
+
+use crate::relation::relation_of;
+use crate::runs::{document, run_on};
+use ontology_jobs::Status;
+use std::test::Fail;
+
+// The class names in the order of the list, and the axioms.
+const ONTOLOGIES: [(&[&str], &str); 20] = [
+    (
+        &["A", "B", "C", "D", "E"],
+        "SubClassOf(:A :B)\nSubClassOf(:A :C)\nSubClassOf(:B :D)\nSubClassOf(:C :D)\nSubClassOf(:D :E)",
+    ),
+    (
+        &["C", "A", "B"],
+        "Declaration(Class(:C))\nDeclaration(Class(:A))\nSubClassOf(:A :B)\nSubClassOf(:B :C)\nSubClassOf(:A :C)",
+    ),
+    (
+        &["A", "B", "C", "D", "E"],
+        "SubClassOf(:A :B)\nSubClassOf(:B :C)\nSubClassOf(:C :A)\nSubClassOf(:D :B)\nSubClassOf(:C :E)",
+    ),
+    (
+        &["A", "B", "C", "D"],
+        "ObjectPropertyDomain(:R :A)\nSubClassOf(:B ObjectSomeValuesFrom(:R :C))\nSubClassOf(ObjectSomeValuesFrom(:R :C) :D)",
+    ),
+    (
+        &["A", "C", "B", "D", "E"],
+        "SubObjectPropertyOf(:S :R)\nEquivalentClasses(:A ObjectSomeValuesFrom(:R :C))\nEquivalentClasses(:B ObjectSomeValuesFrom(:S :C))\nObjectPropertyRange(:R :D)\nSubClassOf(ObjectSomeValuesFrom(:R :D) :E)",
+    ),
+    (
+        &["A", "C", "B", "D"],
+        "EquivalentClasses(:A ObjectMinCardinality(1 :R :C))\nEquivalentClasses(:B ObjectMinCardinality(2 :R :C))\nEquivalentClasses(:D ObjectMinCardinality(3 :R :C))",
+    ),
+    (
+        &["A", "B", "C"],
+        "EquivalentClasses(:A ObjectExactCardinality(1 :R))\nEquivalentClasses(:B ObjectIntersectionOf(ObjectSomeValuesFrom(:R owl:Thing) ObjectMaxCardinality(1 :R)))\nEquivalentClasses(:C ObjectMaxCardinality(1 :R))",
+    ),
+    (
+        &["A", "B", "C", "D", "E"],
+        "FunctionalObjectProperty(:R)\nSubClassOf(:A ObjectSomeValuesFrom(:R :B))\nSubClassOf(:A ObjectSomeValuesFrom(:R :C))\nSubClassOf(ObjectSomeValuesFrom(:R ObjectIntersectionOf(:B :C)) :D)\nSubClassOf(:E ObjectMinCardinality(2 :R))",
+    ),
+    (
+        &["A", "B", "C", "D"],
+        "TransitiveObjectProperty(:R)\nSubClassOf(:A ObjectSomeValuesFrom(:R :B))\nSubClassOf(:B ObjectSomeValuesFrom(:R :C))\nSubClassOf(ObjectSomeValuesFrom(:R :C) :D)",
+    ),
+    (
+        &["A", "B", "C", "D"],
+        "TransitiveObjectProperty(:R)\nSubObjectPropertyOf(:S :R)\nSubClassOf(:A ObjectSomeValuesFrom(:S ObjectSomeValuesFrom(:S :B)))\nSubClassOf(:A ObjectAllValuesFrom(:R ObjectComplementOf(:B)))\nSubClassOf(:C :A)\nSubClassOf(:B :D)",
+    ),
+    (
+        &["A", "B", "C", "D"],
+        "SubClassOf(:A ObjectUnionOf(:B :C))\nSubClassOf(:B :D)\nSubClassOf(:C :D)",
+    ),
+    (
+        &["A", "B", "C", "D", "E"],
+        "EquivalentClasses(:A ObjectUnionOf(:B :C))\nEquivalentClasses(:D ObjectUnionOf(:C :B))\nDisjointClasses(:B :C)\nSubClassOf(:E :A)\nSubClassOf(:E ObjectComplementOf(:B))",
+    ),
+    (
+        &["A", "B", "C", "D"],
+        "DisjointUnion(:A :B :C)\nSubClassOf(:D :A)\nDisjointClasses(:D :B)\nSubClassOf(:C :D)",
+    ),
+    (
+        &["A", "B", "C", "D", "E"],
+        "DisjointClasses(:A :B)\nSubClassOf(:C :A)\nSubClassOf(:C :B)\nSubClassOf(:D :C)\nSubClassOf(:A :E)",
+    ),
+    (
+        &["A", "B"],
+        "SubClassOf(owl:Thing :A)\nSubClassOf(:A :B)\nDisjointClasses(:A :B)",
+    ),
+    (
+        &["A", "B"],
+        "SubClassOf(owl:Thing ObjectSomeValuesFrom(:R :A))\nSubClassOf(:A owl:Nothing)\nSubClassOf(:B :A)",
+    ),
+    (
+        &["A", "B", "C", "D"],
+        "EquivalentClasses(:A owl:Thing)\nSubClassOf(:B :C)\nSubClassOf(:A :D)",
+    ),
+    (
+        &["A", "B", "C", "D"],
+        "SubClassOf(owl:Thing ObjectUnionOf(:A :B))\nSubClassOf(:A :C)\nSubClassOf(:B :C)\nSubClassOf(:D :A)",
+    ),
+    (
+        &["A", "B", "C", "D", "E"],
+        "EquivalentClasses(:A ObjectComplementOf(:B))\nSubClassOf(:C :A)\nSubClassOf(:D :B)\nEquivalentClasses(:E ObjectComplementOf(:A))",
+    ),
+    (
+        &["A", "B", "C", "D"],
+        "EquivalentClasses(:A ObjectSomeValuesFrom(:R :A))\nSubClassOf(:B ObjectSomeValuesFrom(:R :B))\nSubClassOf(:B ObjectAllValuesFrom(:R :C))\nEquivalentClasses(:D ObjectAllValuesFrom(:R :C))",
+    ),
+];
+
+#[test]
+fn agrees_with_all_pairs(rt: HostRuntime) -> Result<(), Fail> {
+    for (names, axioms) in ONTOLOGIES {
+        let document = document(rt.alloc(), axioms)?;
+        let relation = relation_of(rt.alloc(), document.as_str(), names)?;
+        let text = relation.text(rt.alloc())?;
+        let (status, sink) = run_on(rt.alloc(), &["classify"], document.as_bytes())?;
+        assert_eq!(rt; status, Status::Done);
+        assert!(rt; sink.taken() == text.as_bytes(), "{text}");
+    }
+    Ok(())
+}
