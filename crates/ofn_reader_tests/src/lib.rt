@@ -4,9 +4,13 @@
 #[cfg(test)]
 mod document_tests;
 #[cfg(test)]
+mod documents;
+#[cfg(test)]
 mod expression_tests;
 #[cfg(test)]
-mod limit_tests;
+mod query_tests;
+#[cfg(test)]
+mod refusal_tests;
 #[cfg(test)]
 mod rewriting_tests;
 #[cfg(test)]
