@@ -7,6 +7,8 @@ mod chain_tests;
 #[cfg(test)]
 mod ring_tests;
 #[cfg(test)]
+mod row_tests;
+#[cfg(test)]
 mod runs;
 #[cfg(test)]
 mod tree_tests;

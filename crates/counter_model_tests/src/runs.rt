@@ -10,6 +10,7 @@ use std::test::Fail;
 struct Answer {
     status: Status,
     sink: MemSink,
+    spent: u64,
 }
 
 // Runs the words on an input.
@@ -22,7 +23,11 @@ fn run_on(alloc: Global, words: [&str; 2], input: &[u8]) -> Result<Answer, Fail>
     let mut sink = MemSink::new(alloc, 1 << 16, 4096, &[])?;
     let mut log = RunLog::new(alloc);
     let status = run(alloc, &own, &mut source, &mut sink, &mut log);
-    Ok(Answer { status, sink })
+    Ok(Answer {
+        status,
+        sink,
+        spent: log.spent(),
+    })
 }
 
 // A document with these axioms.
@@ -76,4 +81,11 @@ pub(crate) fn is_refuted(
     let text = answer.sink.taken();
     let accepted = is_accepted(alloc, words, document.as_str(), text)?;
     Ok(answer.status == Status::Done && text.starts_with(beginning.as_bytes()) && accepted)
+}
+
+/// How many steps the question of these words takes.
+pub(crate) fn steps_of(alloc: Global, axioms: &str, words: [&str; 2]) -> Result<u64, Fail> {
+    let document = document(alloc, axioms)?;
+    let answer = run_on(alloc, words, document.as_bytes())?;
+    Ok(answer.spent)
 }
