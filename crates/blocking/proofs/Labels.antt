@@ -2,24 +2,21 @@
 use Rattle.std.proofs.Common.{◌≡◌, ℕ, ◌+◌, ◌/◌, ◌%◌, ◌<◌, zero, suc, get_or, take, length, ◌||◌, Bool, true, false, eqb, List, [], ◌∷◌, ◌++◌, refl, ap, sym, ◌∙◌, inl, inr, eq-eqb}
 use Rattle.std.specs.List.{list_any, list_all}
 use Rattle.std.specs.FinSet as set
-use Rattle.std.proofs.lemmas.Bool.{or_cases, and_parts, eqb-true}
+use Rattle.std.proofs.lemmas.Bool.{or_cases, and_parts, eqb-true, or_right}
 use Rattle.lane_sieve.specs.Sets.{NumberSet, number_set}
 use Rattle.std.specs.Int.{bit_at}
 use Rattle.std.proofs.lemmas.List.{take_more}
 use Rattle.std.proofs.lemmas.Nat.Bits.{bit_at-zero}
-use Rattle.lane_sieve.proofs.Bits.{bool_same, has_bit-is, contains-number_set, contains_insert}
+use Rattle.lane_sieve.proofs.Bits.{has_bit-is, contains-number_set, contains_insert}
 use Rattle.fact_specs.proofs.Joined.{any-snoc}
 use Rattle.std.proofs.Math.Bool.{or_comm}
+use Rattle.shq_base.proofs.Bools.{same_truth}
 use Rattle.fact_specs.proofs.State.{eqb-comm}
 use Rattle.fact_specs.specs.declared.Fact.{Fact}
 use Rattle.fact_specs.specs.State.{has, label}
 use Rattle.fact_specs.specs.Listed.{IsLabel}
 use Rattle.fact_specs.proofs.State.{any-label}
 use Rattle.blocking.specs.Followed.{IsPrintOf}
-
-or_later : (a b : Bool) → b ≡ true → (a || b) ≡ true
-or_later true b h = refl
-or_later false b h = h
 
 abbrev pub is_in : ℕ → List ℕ → Bool
 is_in c cs = list_any (λ d. eqb d c) cs
@@ -33,19 +30,19 @@ all_at p c (d ∷ cs) h m =
 
 pub all_from : (p : ℕ → Bool) (cs : List ℕ) → ((c : ℕ) → is_in c cs ≡ true → p c ≡ true) → list_all p cs ≡ true
 all_from p [] h = refl
-all_from p (d ∷ cs) h = rw (h d (rw (eq-eqb d d refl) refl)) (all_from p cs (λ c m. h c (or_later (eqb d c) (is_in c cs) m)))
+all_from p (d ∷ cs) h = rw (h d (rw (eq-eqb d d refl) refl)) (all_from p cs (λ c m. h c (or_right (eqb d c) (is_in c cs) m)))
 
 -- ---- lists with the same numbers
 
 module _ (cs ds : List ℕ) (same : (c : ℕ) → is_in c cs ≡ is_in c ds) where
   pub same_all : (p : ℕ → Bool) → list_all p cs ≡ list_all p ds
-  same_all p = bool_same (list_all p cs) (list_all p ds) (λ h. all_from p ds (λ c m. all_at p c cs h (same c ∙ m))) (λ h. all_from p cs (λ c m. all_at p c ds h (sym (same c) ∙ m)))
+  same_all p = same_truth (list_all p cs) (list_all p ds) (λ h. all_from p ds (λ c m. all_at p c cs h (same c ∙ m))) (λ h. all_from p cs (λ c m. all_at p c ds h (sym (same c) ∙ m)))
 
 pub any_at : (q : ℕ → Bool) (c : ℕ) (cs : List ℕ) → is_in c cs ≡ true → q c ≡ true → list_any q cs ≡ true
 any_at q c [] m h = cc
 any_at q c (d ∷ cs) m h = elim (or_cases (eqb d c) (is_in c cs) m) [
   | inl here ↦ ap (λ (b : Bool). b || list_any q cs) (ap q (eqb-true d c here) ∙ h)
-  | inr later ↦ or_later (q d) (list_any q cs) (any_at q c cs later h)
+  | inr later ↦ or_right (q d) (list_any q cs) (any_at q c cs later h)
 ]
 
 -- a number that passes, where one does
@@ -53,13 +50,13 @@ any_some : (q : ℕ → Bool) (cs : List ℕ) → list_any q cs ≡ true → (c 
 any_some q [] h = cc
 any_some q (d ∷ cs) h = elim (or_cases (q d) (list_any q cs) h) [
   | inl here ↦ (d, rw (eq-eqb d d refl) refl, here)
-  | inr later ↦ let more = any_some q cs later in (more.0, or_later (eqb d more.0) (is_in more.0 cs) more.1, more.2)
+  | inr later ↦ let more = any_some q cs later in (more.0, or_right (eqb d more.0) (is_in more.0 cs) more.1, more.2)
 ]
 
 module _ (cs ds : List ℕ) (same : (c : ℕ) → is_in c cs ≡ is_in c ds) where
   pub same_any : (q : ℕ → Bool) → list_any q cs ≡ list_any q ds
   same_any q =
-      bool_same (list_any q cs) (list_any q ds)
+      same_truth (list_any q cs) (list_any q ds)
       (λ h. let one = any_some q cs h in any_at q one.0 ds (sym (same one.0) ∙ one.1) one.2)
       (λ h. let one = any_some q ds h in any_at q one.0 cs (same one.0 ∙ one.1) one.2)
 

@@ -2,8 +2,10 @@
 use Rattle.std.proofs.Common.{◌≡◌, ℕ, ◌&&◌, ◌||◌, min, max, Bool, true, false, List, [], ◌∷◌, ◌++◌, Option, Some, None, refl, ap, sym, subst, ◌∙◌, inl, inr, arith}
 use Rattle.std.specs.Prelude.{◌==◌, if◌then◌else◌}
 use Rattle.std.specs.List.{list_any}
-use Rattle.std.proofs.lemmas.Bool.{cases_eq, cases_lt, cases_Bool, or_cases, and_parts, eqb-true, eq-eqb, ne_eqb}
+use Rattle.std.proofs.lemmas.Bool.{cases_eq, cases_lt, cases_Bool, or_cases, and_parts, eqb-true, eq-eqb, ne_eqb, or_left, or_right, and_from}
 use Rattle.std.proofs.lemmas.List.Folds.{list_any-append}
+use Rattle.std.proofs.Math.Bool.{or-false, or_assoc, and_assoc}
+use Rattle.shq_base.proofs.Bools.{same_truth, or_exchange}
 use Rattle.fact_specs.specs.State.{gives_concept, gives_edge, gives_apart, is_given, has_edge, are_apart}
 use Rattle.fact_specs.proofs.State.{eqb-comm}
 use Rattle.fact_specs.specs.declared.Fact.{Fact}
@@ -18,35 +20,8 @@ use Rattle.branch_facts.proofs.Reps.{merged_is, merged_one, when_equal, unless_e
 
 -- ---- tests
 
-either_way : (a b : Bool) → (a ≡ true → b ≡ true) → (b ≡ true → a ≡ true) → a ≡ b
-either_way true b f g = sym (f refl)
-either_way false true f g = g refl
-either_way false false f g = refl
-
-left_true : (a b : Bool) → a ≡ true → (a || b) ≡ true
-left_true a b h = rw h refl
-
-right_true : (a b : Bool) → b ≡ true → (a || b) ≡ true
-right_true true b h = refl
-right_true false b h = h
-
-or_false : (a : Bool) → (a || false) ≡ a
-or_false true = refl
-or_false false = refl
-
-or_assoc : (a b c : Bool) → ((a || b) || c) ≡ (a || (b || c))
-or_assoc true b c = refl
-or_assoc false b c = refl
-
-and_assoc : (a b c : Bool) → ((a && b) && c) ≡ (a && (b && c))
-and_assoc true b c = refl
-and_assoc false b c = refl
-
-both_true : (a b : Bool) → a ≡ true → b ≡ true → (a && b) ≡ true
-both_true a b g h = rw (g, h) refl
-
 any-snoc : {X : Type 0} (p : X → Bool) (xs : List X) (x : X) → list_any p (xs ++ x ∷ []) ≡ (list_any p xs || p x)
-any-snoc p xs x = list_any-append p xs (x ∷ []) ∙ ap (λ (b : Bool). list_any p xs || b) (or_false (p x))
+any-snoc p xs x = list_any-append p xs (x ∷ []) ∙ ap (λ (b : Bool). list_any p xs || b) (or-false (p x))
 
 -- an element of a list that passes a test
 pub record IsFound {X : Type 0} (p : X → Bool) (xs : List X) : Type 0 where
@@ -57,8 +32,8 @@ pub record IsFound {X : Type 0} (p : X → Bool) (xs : List X) : Type 0 where
 found : {X : Type 0} (p : X → Bool) (xs : List X) → list_any p xs ≡ true → IsFound p xs
 found p [] h = cc
 found p (x ∷ xs) h = elim (or_cases (p x) (list_any p xs) h) [
-  | inl here ↦ record { item = x; stands = λ q e. left_true (q x) (list_any q xs) e; passes = here }
-  | inr later ↦ let f = found p xs later in record { item = f.item; stands = λ q e. right_true (q x) (list_any q xs) (f.stands q e); passes = f.passes }
+  | inl here ↦ record { item = x; stands = λ q e. or_left (q x) (list_any q xs) e; passes = here }
+  | inr later ↦ let f = found p xs later in record { item = f.item; stands = λ q e. or_right (q x) (list_any q xs) (f.stands q e); passes = f.passes }
 ]
 
 -- ---- facts that are the same
@@ -78,9 +53,9 @@ same_true (Apart x y) (Has v d) h = cc
 same_true (Apart x y) (Edge s v w) h = cc
 
 same_itself : (f : Seen) → is_same f f ≡ true
-same_itself (Has x c) = both_true (x == x) (c == c) (eq-eqb x x refl) (eq-eqb c c refl)
-same_itself (Edge r x y) = both_true (r == r) (x == x && y == y) (eq-eqb r r refl) (both_true (x == x) (y == y) (eq-eqb x x refl) (eq-eqb y y refl))
-same_itself (Apart x y) = both_true (x == x) (y == y) (eq-eqb x x refl) (eq-eqb y y refl)
+same_itself (Has x c) = and_from (x == x) (c == c) (eq-eqb x x refl) (eq-eqb c c refl)
+same_itself (Edge r x y) = and_from (r == r) (x == x && y == y) (eq-eqb r r refl) (and_from (x == x) (y == y) (eq-eqb x x refl) (eq-eqb y y refl))
+same_itself (Apart x y) = and_from (x == x) (y == y) (eq-eqb x x refl) (eq-eqb y y refl)
 
 true_same : (f g : Seen) → f ≡ g → is_same f g ≡ true
 true_same f g e = subst (λ h. is_same f h ≡ true) e (same_itself f)
@@ -94,7 +69,7 @@ with_seen_has : (seen : List Seen) (f g : Seen) → is_seen (with_seen seen f) g
 with_seen_has seen f g = elim (cases_Bool (is_seen seen f)) [
   | inl there ↦
       ap (λ (b : Bool). is_seen (if b then seen else seen ++ f ∷ []) g) there
-      ∙ either_way (is_seen seen g) (is_seen seen g || is_same g f) (left_true (is_seen seen g) (is_same g f))
+      ∙ same_truth (is_seen seen g) (is_seen seen g || is_same g f) (or_left (is_seen seen g) (is_same g f))
       (λ h. elim (or_cases (is_seen seen g) (is_same g f) h) [ inl before ↦ before | inr here ↦ subst (λ k. is_seen seen k ≡ true) (sym (same_true g f here)) there ])
   | inr absent ↦ ap (λ (b : Bool). is_seen (if b then seen else seen ++ f ∷ []) g) absent ∙ seen-snoc seen f g
 ]
@@ -108,10 +83,10 @@ copied_one_has high low seen f g = by (mentions high f)
   where
     by : (b : Bool) → is_seen (if b then with_seen seen (seen_renamed high low f) else seen) g ≡ (is_seen seen g || (b && is_same g (seen_renamed high low f)))
     by true = with_seen_has seen (seen_renamed high low f) g
-    by false = sym (or_false (is_seen seen g))
+    by false = sym (or-false (is_seen seen g))
 
 copied_has : (high low : ℕ) (fs seen : List Seen) (g : Seen) → is_seen (copied high low fs seen) g ≡ (is_seen seen g || list_any (adds high low g) fs)
-copied_has high low [] seen g = sym (or_false (is_seen seen g))
+copied_has high low [] seen g = sym (or-false (is_seen seen g))
 copied_has high low (f ∷ fs) seen g =
     copied_has high low fs (copied_one high low seen f) g
     ∙ ap (λ (b : Bool). b || list_any (adds high low g) fs) (copied_one_has high low seen f g)
@@ -250,13 +225,13 @@ module _ (m : ℕ → ℕ) (twice : (x : ℕ) → m (m x) ≡ m x) (high low : �
           | inl mentioned ↦
               let s = found (is_same was.before) seen kept in
               let is : was.before ≡ s.item = same_true was.before s.item s.passes in
-              let added : adds high low g was.before ≡ true = both_true (mentions high was.before) (is_same g (seen_renamed high low was.before)) mentioned (true_same g (seen_renamed high low was.before) (sym was.becomes)) in
-              right_true (is_seen seen g) (list_any (adds high low g) seen) (s.stands (adds high low g) (subst (λ k. adds high low g k ≡ true) is added))
-          | inr unmentioned ↦ left_true (is_seen seen g) (list_any (adds high low g) seen) (subst (λ k. is_seen seen k ≡ true) (sym (unmentioned_stays was.before unmentioned) ∙ was.becomes) kept)
+              let added : adds high low g was.before ≡ true = and_from (mentions high was.before) (is_same g (seen_renamed high low was.before)) mentioned (true_same g (seen_renamed high low was.before) (sym was.becomes)) in
+              or_right (is_seen seen g) (list_any (adds high low g) seen) (s.stands (adds high low g) (subst (λ k. adds high low g k ≡ true) is added))
+          | inr unmentioned ↦ or_left (is_seen seen g) (list_any (adds high low g) seen) (subst (λ k. is_seen seen k ≡ true) (sym (unmentioned_stays was.before unmentioned) ∙ was.becomes) kept)
         ]
 
     linked_found : is_seen (copied high low seen seen) g ≡ list_any (is_placed after_link g) fs
-    linked_found = copied_has high low seen seen g ∙ either_way (is_seen seen g || list_any (adds high low g) seen) (list_any (is_placed after_link g) fs) one_way other_way
+    linked_found = copied_has high low seen seen g ∙ same_truth (is_seen seen g || list_any (adds high low g) seen) (list_any (is_placed after_link g) fs) one_way other_way
 
 -- ---- all facts
 
@@ -264,7 +239,7 @@ index_of_same : (fs : List (Fact ℕ)) (v w : ℕ) → index_of (fs ++ F.Same v 
 index_of_same fs v w = index_of-snoc fs (F.Same v w) ∙ ap (λ (m : ℕ → ℕ). index_joined (index_of fs) (m v) (m w)) (reached fs)
 
 nothing_placed : (m : ℕ → ℕ) (fs : List (Fact ℕ)) (v w : ℕ) (g : Seen) → list_any (is_placed m g) (fs ++ F.Same v w ∷ []) ≡ list_any (is_placed m g) fs
-nothing_placed m fs v w g = any-snoc (is_placed m g) fs (F.Same v w) ∙ or_false (list_any (is_placed m g) fs)
+nothing_placed m fs v w g = any-snoc (is_placed m g) fs (F.Same v w) ∙ or-false (list_any (is_placed m g) fs)
 
 max_fixed : (m : ℕ → ℕ) (y z : ℕ) → m y ≡ y → m z ≡ z → (m (max y z) ≡ max y z) × (m (min y z) ≡ min y z)
 max_fixed m y z p q = elim (cases_lt y z) [
@@ -330,16 +305,9 @@ apart_is m a b (F.Edge r y z) = refl
 apart_is m a b (F.Apart y z) = λ i. (eqb-comm a (m y) i && eqb-comm b (m z) i) || (eqb-comm b (m y) i && eqb-comm a (m z) i)
 apart_is m a b (F.Same y z) = refl
 
-swapped : (p q r s : Bool) → ((p || q) || (r || s)) ≡ ((p || r) || (q || s))
-swapped true q r s = refl
-swapped false true true s = refl
-swapped false true false s = refl
-swapped false false true s = refl
-swapped false false false s = refl
-
 any_either : {X : Type 0} (p q : X → Bool) (xs : List X) → (list_any p xs || list_any q xs) ≡ list_any (λ x. p x || q x) xs
 any_either p q [] = refl
-any_either p q (x ∷ xs) = swapped (p x) (list_any p xs) (q x) (list_any q xs) ∙ ap (λ (b : Bool). (p x || q x) || b) (any_either p q xs)
+any_either p q (x ∷ xs) = or_exchange (p x) (list_any p xs) (q x) (list_any q xs) ∙ ap (λ (b : Bool). (p x || q x) || b) (any_either p q xs)
 
 -- the index of the facts, and the representatives by its links
 module _ (fs : List (Fact ℕ)) (i : Index) (is : i ≡ index_of fs) where

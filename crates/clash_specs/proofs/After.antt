@@ -1,7 +1,8 @@
 -- What facts say after one fact more that joins no nodes.
-use Rattle.std.proofs.Common.{◌≡◌, ℕ, ◌+◌, ◌&&◌, ◌||◌, max, eqb, Bool, true, false, List, [], ◌∷◌, ◌++◌, refl, ap, ◌∙◌, cond}
+use Rattle.std.proofs.Common.{◌≡◌, ℕ, ◌+◌, ◌&&◌, ◌||◌, max, eqb, Bool, true, false, List, [], ◌∷◌, ◌++◌, refl, ap, ◌∙◌, cond, sym}
 use Rattle.std.specs.List.{list_any, list_all, range_with_len, filter, All}
 use Rattle.std.proofs.lemmas.List.Elements.{All-head, All-tail}
+use Rattle.std.proofs.Math.Bool.{or-false, or_assoc}
 use Rattle.fact_specs.specs.declared.Fact.{Fact}
 use Rattle.fact_specs.specs.declared.Fact.TheVariants.{Has, Edge, Apart, Same}
 use Rattle.fact_specs.specs.Joins.{rep}
@@ -11,16 +12,8 @@ use Rattle.tableau_specs.proofs.TreeShaped.{reps-snoc}
 
 -- ---- tests of lists
 
-pub or_none : (a : Bool) → (a || false) ≡ a
-or_none true = refl
-or_none false = refl
-
-pub or_assoc : (a b c : Bool) → (a || (b || c)) ≡ ((a || b) || c)
-or_assoc true b c = refl
-or_assoc false b c = refl
-
 pub any-snoc : {X : Type 0} (p : X → Bool) (xs : List X) (x : X) → list_any p (xs ++ x ∷ []) ≡ (list_any p xs || p x)
-any-snoc p [] x = or_none (p x)
+any-snoc p [] x = or-false (p x)
 any-snoc p (y ∷ xs) x = elim (p y) as (λ b. (b || list_any p (xs ++ x ∷ [])) ≡ ((b || list_any p xs) || p x)) [ true ↦ refl | false ↦ any-snoc p xs x ]
 
 -- the elements that pass two tests, where the second test may be another one for those that pass the first
@@ -82,18 +75,18 @@ module _ (fs : List (Fact ℕ)) (x d : ℕ) where
     edges = λ roles y z.
         ap (λ (m : ℕ → ℕ). list_any (gives_edge roles m (m y) (m z)) after) reps_has
         ∙ any-snoc (gives_edge roles (rep fs) (rep fs y) (rep fs z)) fs (Has x d)
-        ∙ or_none (has_edge fs roles y z);
+        ∙ or-false (has_edge fs roles y z);
     aparts = λ y z.
         ap (λ (m : ℕ → ℕ). list_any (gives_apart m (m y) (m z)) after) reps_has
         ∙ any-snoc (gives_apart (rep fs) (rep fs y) (rep fs z)) fs (Has x d)
-        ∙ or_none (are_apart fs y z);
+        ∙ or-false (are_apart fs y z);
   }
 
   pub has-has : (y c : ℕ) → has after y c ≡ (has fs y c || (eqb (rep fs x) (rep fs y) && eqb d c))
   has-has y c =
       ap (λ (m : ℕ → ℕ). eqb c 0 || list_any (gives_concept (λ e. eqb e c) m (m y)) after) reps_has
       ∙ ap (λ (b : Bool). eqb c 0 || b) (any-snoc (gives_concept (λ e. eqb e c) (rep fs) (rep fs y)) fs (Has x d))
-      ∙ or_assoc (eqb c 0) (list_any (gives_concept (λ e. eqb e c) (rep fs) (rep fs y)) fs) (eqb (rep fs x) (rep fs y) && eqb d c)
+      ∙ sym (or_assoc (eqb c 0) (list_any (gives_concept (λ e. eqb e c) (rep fs) (rep fs y)) fs) (eqb (rep fs x) (rep fs y) && eqb d c))
 
 -- pairs of nodes of a kind are apart as before
 module _ (fs fs' : List (Fact ℕ)) (P : ℕ → Type 0) (same : (a b : ℕ) → P a → P b → are_apart fs' a b ≡ are_apart fs a b) where

@@ -3,6 +3,7 @@ use Rattle.std.proofs.Common.{◌≡◌, ℕ, ◌<◌, ◌≤◌, ◌&&◌, eqb,
 use Rattle.std.specs.List.{list_any, list_all}
 use Rattle.std.proofs.lemmas.Bool.{ltb-true, ne_eqb, and_parts}
 use Rattle.std.proofs.lemmas.Bool.Decides.{nat_tests}
+use Rattle.std.proofs.Math.Bool.{and-false}
 use Rattle.fact_specs.specs.declared.Fact.{Fact}
 use Rattle.fact_specs.specs.declared.Fact.TheVariants.{Has, Edge, Apart, Same}
 use Rattle.fact_specs.specs.Joins.{rep_from, rep_after, merged}
@@ -53,15 +54,11 @@ no_concept m n z kind (Edge r v w ∷ fs) falls h le = no_concept m n z kind fs 
 no_concept m n z kind (Apart v w ∷ fs) falls h le = no_concept m n z kind fs falls (and_parts (ltb v n && ltb w n) (list_all (speaks_below n) fs) h).1 le
 no_concept m n z kind (Same v w ∷ fs) falls h le = no_concept m n z kind fs falls (and_parts (ltb v n && ltb w n) (list_all (speaks_below n) fs) h).1 le
 
-pub and_none : (a : Bool) → (a && false) ≡ false
-and_none true = refl
-and_none false = refl
-
 pub no_edge_from : (m : ℕ → ℕ) (n z to : ℕ) (roles : ℕ → Bool) (fs : List (Fact ℕ)) → Falls m → list_all (speaks_below n) fs ≡ true → n ≤ z → list_any (gives_edge roles m z to) fs ≡ false
 no_edge_from m n z to roles [] falls h le = refl
 no_edge_from m n z to roles (Edge r v w ∷ fs) falls h le =
     let t = and_parts (ltb v n && ltb w n) (list_all (speaks_below n) fs) h in
-    rw (unlike m falls v n z (two_below v w n t.0).0 le, and_none (roles r)) (no_edge_from m n z to roles fs falls t.1 le)
+    rw (unlike m falls v n z (two_below v w n t.0).0 le, and-false (roles r)) (no_edge_from m n z to roles fs falls t.1 le)
 no_edge_from m n z to roles (Has v c ∷ fs) falls h le = no_edge_from m n z to roles fs falls (and_parts (ltb v n) (list_all (speaks_below n) fs) h).1 le
 no_edge_from m n z to roles (Apart v w ∷ fs) falls h le = no_edge_from m n z to roles fs falls (and_parts (ltb v n && ltb w n) (list_all (speaks_below n) fs) h).1 le
 no_edge_from m n z to roles (Same v w ∷ fs) falls h le = no_edge_from m n z to roles fs falls (and_parts (ltb v n && ltb w n) (list_all (speaks_below n) fs) h).1 le
@@ -70,7 +67,7 @@ pub no_edge_to : (m : ℕ → ℕ) (n z from : ℕ) (roles : ℕ → Bool) (fs :
 no_edge_to m n z from roles [] falls h le = refl
 no_edge_to m n z from roles (Edge r v w ∷ fs) falls h le =
     let t = and_parts (ltb v n && ltb w n) (list_all (speaks_below n) fs) h in
-    rw (unlike m falls w n z (two_below v w n t.0).1 le, and_none (roles r && eqb (m v) from)) (no_edge_to m n z from roles fs falls t.1 le)
+    rw (unlike m falls w n z (two_below v w n t.0).1 le, and-false (roles r && eqb (m v) from)) (no_edge_to m n z from roles fs falls t.1 le)
 no_edge_to m n z from roles (Has v c ∷ fs) falls h le = no_edge_to m n z from roles fs falls (and_parts (ltb v n) (list_all (speaks_below n) fs) h).1 le
 no_edge_to m n z from roles (Apart v w ∷ fs) falls h le = no_edge_to m n z from roles fs falls (and_parts (ltb v n && ltb w n) (list_all (speaks_below n) fs) h).1 le
 no_edge_to m n z from roles (Same v w ∷ fs) falls h le = no_edge_to m n z from roles fs falls (and_parts (ltb v n && ltb w n) (list_all (speaks_below n) fs) h).1 le

@@ -4,8 +4,8 @@ use Rattle.std.specs.Prelude.{◌↔◌}
 use Rattle.std.specs.List.{list_any, list_all, range_with_len, filter, All}
 use Rattle.std.proofs.lemmas.Bool.{eqb-true, or_cases, cases_Bool, cases_lt, ne_eqb, and_parts, or_right}
 use Rattle.std.proofs.lemmas.List.{append-nil}
-use Rattle.clash_specs.proofs.After.{or_none}
 use Rattle.std.proofs.lemmas.List.Elements.{filter-append, All-head, All-tail, All-weaker}
+use Rattle.std.proofs.Math.Bool.{or-false, and-false}
 use Rattle.shape_specs.specs.Shape.{Shape, shape_of}
 use Rattle.shape_specs.specs.Shape.Shape.{top, bottom, name, not_name, at_most}
 use Rattle.fact_specs.specs.declared.Fact.{Fact}
@@ -17,7 +17,7 @@ use Rattle.tableau_specs.specs.Clash.IsPlainClash.{plain_bottom, plain_names, pl
 use Rattle.tableau_specs.proofs.PlainClash.{successor_is_node, filled_are_successors}
 use Rattle.clash_specs.specs.Near.{speak_of_nodes, IsOverrun, ClashesByNew}
 use Rattle.clash_specs.specs.Near.ClashesByNew.{new_bottom, new_overrun}
-use Rattle.clash_specs.proofs.Bare.{own_rep, and_none, no_concept, no_edge_from, no_edge_to}
+use Rattle.clash_specs.proofs.Bare.{own_rep, no_concept, no_edge_from, no_edge_to}
 use Rattle.clash_specs.proofs.Grown.{in_run, before_run, from_run, IsGrown, is_grown}
 use Rattle.clash_specs.proofs.Moved.{overrun_at}
 
@@ -90,7 +90,7 @@ module _ (below : ℕ → ℕ → Bool) (table : List Shape) (fs : List (Fact �
   top_alone : (y c : ℕ) → first ≤ y → has fs y c ≡ eqb c 0
   top_alone y c le =
       ap (λ (b : Bool). eqb c 0 || b) (ap (λ (a : ℕ). list_any (gives_concept (λ d. eqb d c) (rep fs) a) fs) (alone y le) ∙ no_concept (rep fs) first y (λ d. eqb d c) fs (rep-le fs) speak le)
-      ∙ or_none (eqb c 0)
+      ∙ or-false (eqb c 0)
 
   source : (y c : ℕ) → has after y c ≡ true → Source y c
   source y c h = elim (or_cases (has fs y c) (in_run (rep fs y) first n && eqb e c) (sym (grown.holds y c) ∙ h)) [
@@ -120,8 +120,8 @@ module _ (below : ℕ → ℕ → Bool) (table : List Shape) (fs : List (Fact �
       let out = before_run (rep fs z) first n (omega (arith, rep-le fs z, lt)) in
       let edge : has_edge after (λ r. below r t) y z ≡ has_edge fs (λ r. below r t) y z =
       grown.edges (λ r. below r t) y z ∙ ap (λ (b : Bool). has_edge fs (λ r. below r t) y z || ((below s t && eqb (rep fs x) (rep fs y)) && b)) out
-      ∙ ap (λ (b : Bool). has_edge fs (λ r. below r t) y z || b) (and_none (below s t && eqb (rep fs x) (rep fs y))) ∙ or_none (has_edge fs (λ r. below r t) y z) in
-      let holds : has after z d ≡ has fs z d = grown.holds z d ∙ ap (λ (b : Bool). has fs z d || (b && eqb e d)) out ∙ or_none (has fs z d) in
+      ∙ ap (λ (b : Bool). has_edge fs (λ r. below r t) y z || b) (and-false (below s t && eqb (rep fs x) (rep fs y))) ∙ or-false (has_edge fs (λ r. below r t) y z) in
+      let holds : has after z d ≡ has fs z d = grown.holds z d ∙ ap (λ (b : Bool). has fs z d || (b && eqb e d)) out ∙ or-false (has fs z d) in
       (λ i. (eqb (grown.reps i z) z && edge i) && holds i)
 
   new_fits : (y t d z : ℕ) → is_near y t d ≡ false → first ≤ z → fits after y t d z ≡ false
@@ -159,8 +159,8 @@ module _ (below : ℕ → ℕ → Bool) (table : List Shape) (fs : List (Fact �
       let edge : has_edge after (λ r. below r t) y z ≡ false =
       grown.edges (λ r. below r t) y z
       ∙ (λ i. edge_gone z t y le i || ((below s t && other y le i) && in_run (rep fs z) first n))
-      ∙ ap (λ (b : Bool). b && in_run (rep fs z) first n) (and_none (below s t)) in
-      (λ i. (eqb (rep after z) z && edge i) && has after z d) ∙ ap (λ (b : Bool). b && has after z d) (and_none (eqb (rep after z) z)))
+      ∙ ap (λ (b : Bool). b && in_run (rep fs z) first n) (and-false (below s t)) in
+      (λ i. (eqb (rep after z) z && edge i) && has after z d) ∙ ap (λ (b : Bool). b && has after z d) (and-false (eqb (rep after z) z)))
 
   -- older nodes are apart as before
   all_before : (y : ℕ) (ys : List ℕ) → y < first → All (λ z. z < first) ys → list_all (are_apart after y) ys ≡ list_all (are_apart fs y) ys

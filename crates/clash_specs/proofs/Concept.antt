@@ -2,6 +2,7 @@
 use Rattle.std.proofs.Common.{◌≡◌, ℕ, ◌<◌, ◌&&◌, ◌||◌, ◌⊎◌, eqb, Bool, true, false, List, [], ◌∷◌, ◌++◌, length, refl, ap, ◌∙◌, sym, subst, inl, inr, eq-eqb}
 use Rattle.std.proofs.lemmas.Bool.{eqb-true, or_cases, cases_Bool, and_parts, or_right}
 use Rattle.std.specs.Prelude.{◌↔◌}
+use Rattle.std.proofs.Math.Bool.{or-false}
 use Rattle.shape_specs.specs.Shape.{Shape, shape_of}
 use Rattle.shape_specs.specs.Shape.Shape.{bottom, name, not_name}
 use Rattle.fact_specs.specs.declared.Fact.{Fact}
@@ -12,7 +13,7 @@ use Rattle.tableau_specs.specs.Clash.{filled_successors, IsPlainClash}
 use Rattle.tableau_specs.specs.Clash.IsPlainClash.{plain_bottom, plain_names, plain_most}
 use Rattle.clash_specs.specs.Near.{IsOverrun, ClashesBy}
 use Rattle.clash_specs.specs.Near.ClashesBy.{by_bottom, by_name, by_complement, by_most, by_filler}
-use Rattle.clash_specs.proofs.After.{or_none, IsAlike, filled_alike, all_apart_alike, has_alike, has-has}
+use Rattle.clash_specs.proofs.After.{IsAlike, filled_alike, all_apart_alike, has_alike, has-has}
 use Rattle.clash_specs.proofs.Moved.{has_at, edge_to, overrun_at}
 
 module _ (below : ℕ → ℕ → Bool) (table : List Shape) (fs : List (Fact ℕ)) (x d : ℕ) where
@@ -44,7 +45,7 @@ module _ (below : ℕ → ℕ → Bool) (table : List Shape) (fs : List (Fact �
             let t = and_parts (eqb (rep fs x) (rep fs z)) (eqb d e) new in
             let edge = edge_to fs (λ r. below r s) x z y (eqb-true (rep fs x) (rep fs z) t.0) ∙ (and_parts (eqb (rep fs z) z) (has_edge fs (λ r. below r s) y z) next).1 in
             (let k = rw (edge, t.1) at out in cc)
-      ]) ∙ or_none (has fs z e))
+      ]) ∙ or-false (has fs z e))
 
   module _ (none : ¬ IsPlainClash below table fs) where
     near_bottom : (y c : ℕ) → y < node_count fs → shape_of table c ≡ bottom → (has fs y c ≡ true) ⊎ ((rep fs x ≡ rep fs y) × (d ≡ c)) → ClashesBy below table after x d

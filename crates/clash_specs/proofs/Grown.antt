@@ -3,6 +3,7 @@ use Rattle.std.proofs.Common.{◌≡◌, ℕ, zero, suc, ◌+◌, ◌<◌, ◌�
 use Rattle.std.specs.List.{list_any}
 use Rattle.std.proofs.lemmas.List.Folds.{list_any-append}
 use Rattle.std.proofs.lemmas.Bool.{ne_eqb, eqb-true, or_cases}
+use Rattle.std.proofs.Math.Bool.{or-false, or_assoc, and-false, and-or_distrib_right, and-or_distrib_left}
 use Rattle.fact_specs.specs.declared.Fact.{Fact}
 use Rattle.fact_specs.specs.declared.Fact.TheVariants.{Has, Edge, Apart, Same}
 use Rattle.fact_specs.specs.Joins.{rep, rep_from, rep_after}
@@ -10,8 +11,7 @@ use Rattle.fact_specs.specs.State.{node_count, gives_concept, gives_edge, gives_
 use Rattle.fact_specs.proofs.Joined.{rep-le}
 use Rattle.tableau_specs.proofs.TreeShaped.{count_pos}
 use Rattle.clash_specs.specs.Near.{speak_of_nodes}
-use Rattle.clash_specs.proofs.After.{or_none, or_assoc}
-use Rattle.clash_specs.proofs.Bare.{own_rep, and_none}
+use Rattle.clash_specs.proofs.Bare.{own_rep}
 
 -- whether a is one of the n nodes from `first` on
 abbrev pub in_run : ℕ → ℕ → ℕ → Bool
@@ -90,19 +90,7 @@ nothing_in_pairs p none first (suc n) =
 without_pairs : (p : Fact ℕ → Bool) → ((y z : ℕ) → p (Apart y z) ≡ false) → (x s e first n : ℕ) → list_any p (fresh_facts x s e first n) ≡ list_any p (new_nodes x s e first n)
 without_pairs p none x s e first n =
     list_any-append p (new_nodes x s e first n) (pairwise_apart first n)
-    ∙ ap (λ (b : Bool). list_any p (new_nodes x s e first n) || b) (nothing_in_pairs p none first n) ∙ or_none (list_any p (new_nodes x s e first n))
-
-or_and : (a b c : Bool) → ((a && c) || (b && c)) ≡ ((a || b) && c)
-or_and true true true = refl
-or_and true true false = refl
-or_and true false true = refl
-or_and true false false = refl
-or_and false true c = refl
-or_and false false c = refl
-
-and_or : (c a b : Bool) → ((c && a) || (c && b)) ≡ (c && (a || b))
-and_or true a b = refl
-and_or false a b = refl
+    ∙ ap (λ (b : Bool). list_any p (new_nodes x s e first n) || b) (nothing_in_pairs p none first n) ∙ or-false (list_any p (new_nodes x s e first n))
 
 -- nodes from `low` on are alone
 module _ (m : ℕ → ℕ) (low : ℕ) (alone : (z : ℕ) → low ≤ z → m z ≡ z) where
@@ -111,14 +99,14 @@ module _ (m : ℕ → ℕ) (low : ℕ) (alone : (z : ℕ) → low ≤ z → m z 
   new_concepts kind a x s e first (suc n) le =
       ap (λ (k : ℕ). (eqb k a && kind e) || list_any (gives_concept kind m a) (new_nodes x s e (first + 1) n)) (alone first le)
       ∙ ap (λ (b : Bool). (eqb first a && kind e) || b) (new_concepts kind a x s e (first + 1) n (omega (arith, le)))
-      ∙ or_and (eqb first a) (in_run a (first + 1) n) (kind e)
+      ∙ sym (and-or_distrib_right (eqb first a) (in_run a (first + 1) n) (kind e))
 
   new_edges : (roles : ℕ → Bool) (from to x s e first n : ℕ) → low ≤ first → list_any (gives_edge roles m from to) (new_nodes x s e first n) ≡ ((roles s && eqb (m x) from) && in_run to first n)
-  new_edges roles from to x s e first zero le = sym (and_none (roles s && eqb (m x) from))
+  new_edges roles from to x s e first zero le = sym (and-false (roles s && eqb (m x) from))
   new_edges roles from to x s e first (suc n) le =
       ap (λ (k : ℕ). (roles s && eqb (m x) from && eqb k to) || list_any (gives_edge roles m from to) (new_nodes x s e (first + 1) n)) (alone first le)
       ∙ ap (λ (b : Bool). (roles s && eqb (m x) from && eqb first to) || b) (new_edges roles from to x s e (first + 1) n (omega (arith, le)))
-      ∙ and_or (roles s && eqb (m x) from) (eqb first to) (in_run to (first + 1) n)
+      ∙ sym (and-or_distrib_left (roles s && eqb (m x) from) (eqb first to) (in_run to (first + 1) n))
 
   -- no two older nodes become apart
   older_apart : (a b y z n : ℕ) → a < low → b < low → low ≤ y → low ≤ z → list_any (gives_apart {C = ℕ} m a b) (apart_from y z n) ≡ false
@@ -165,7 +153,7 @@ is_grown fs x s e n h =
           ∙ ap (λ (b : Bool). eqb c 0 || b) (list_any-append (gives_concept kind m (m y)) fs new
           ∙ ap (λ (b : Bool). list_any (gives_concept kind m (m y)) fs || b) (without_pairs (gives_concept kind m (m y)) (λ v w. refl) x s e first n
           ∙ new_concepts m first alone kind (m y) x s e first n (omega arith)))
-          ∙ or_assoc (eqb c 0) (list_any (gives_concept kind m (m y)) fs) (in_run (m y) first n && eqb e c);
+          ∙ sym (or_assoc (eqb c 0) (list_any (gives_concept kind m (m y)) fs) (in_run (m y) first n && eqb e c));
       edges = λ roles y z.
           ap (λ (k : ℕ → ℕ). list_any (gives_edge roles k (k y) (k z)) (fs ++ new)) reps
           ∙ list_any-append (gives_edge roles m (m y) (m z)) fs new
@@ -180,5 +168,5 @@ is_grown fs x s e n h =
           (list_any-append (gives_apart m (m y) (m z)) (new_nodes x s e first n) (pairwise_apart first n)
           ∙ ap (λ (b : Bool). b || list_any (gives_apart {C = ℕ} m (m y) (m z)) (pairwise_apart first n)) (nodes_not_apart m first alone (m y) (m z) x s e first n)
           ∙ older_pairs m first alone (m y) (m z) first n la lb (omega arith))
-          ∙ or_none (are_apart fs y z);
+          ∙ or-false (are_apart fs y z);
     }

@@ -3,12 +3,14 @@ use Rattle.std.proofs.Common.{◌≡◌, ℕ, ◌+◌, ◌&&◌, ◌||◌, ◌�
 use Rattle.std.specs.List.{list_any}
 use Rattle.std.proofs.lemmas.Bool.{eqb-true, or_cases, and_parts, or_right}
 use Rattle.std.proofs.lemmas.Bool.Decides.{nat_tests}
+use Rattle.std.proofs.Math.Bool.{or-false}
+use Rattle.shq_base.proofs.Bools.{or_exchange}
 use Rattle.fact_specs.specs.declared.Fact.{Fact}
 use Rattle.fact_specs.specs.declared.Fact.TheVariants.{Has, Edge, Apart, Same}
 use Rattle.fact_specs.specs.Joins.{rep, merged}
 use Rattle.fact_specs.specs.State.{node_count, gives_concept, gives_edge, gives_apart, has, has_edge, are_apart}
 use Rattle.tableau_specs.proofs.TreeShaped.{reps-snoc}
-use Rattle.clash_specs.proofs.After.{or_none, any-snoc}
+use Rattle.clash_specs.proofs.After.{any-snoc}
 
 -- ---- numbers
 
@@ -38,16 +40,9 @@ any_mono p q imp (x ∷ xs) h = elim (or_cases (p x) (list_any p xs) h) [
   | inr later ↦ or_right (q x) (list_any q xs) (any_mono p q imp xs later)
 ]
 
-or_swap : (a b c d : Bool) → ((a || b) || (c || d)) ≡ ((a || c) || (b || d))
-or_swap true b c d = refl
-or_swap false true true d = refl
-or_swap false true false d = refl
-or_swap false false true d = refl
-or_swap false false false d = refl
-
 pub any_split : {X : Type 0} (p q r : X → Bool) → ((x : X) → p x ≡ true → (q x || r x) ≡ true) → (xs : List X) → list_any p xs ≡ true → (list_any q xs || list_any r xs) ≡ true
 any_split p q r imp [] h = cc
-any_split p q r imp (x ∷ xs) h = or_swap (q x) (list_any q xs) (r x) (list_any r xs) ∙ elim (or_cases (p x) (list_any p xs) h) [
+any_split p q r imp (x ∷ xs) h = or_exchange (q x) (list_any q xs) (r x) (list_any r xs) ∙ elim (or_cases (p x) (list_any p xs) h) [
   | inl here ↦ rw (imp x here) refl
   | inr later ↦ or_right (q x || r x) (list_any q xs || list_any r xs) (any_split p q r imp xs later)
 ]
@@ -83,15 +78,15 @@ module _ (fs : List (Fact ℕ)) (y z : ℕ) where
   joined_has : (v e : ℕ) → has joined v e ≡ (eqb e 0 || list_any (gives_concept (λ d. eqb d e) M (M v)) fs)
   joined_has v e =
       ap (λ (r : ℕ → ℕ). eqb e 0 || list_any (gives_concept (λ d. eqb d e) r (r v)) joined) reps
-      ∙ ap (λ (b : Bool). eqb e 0 || b) (any-snoc (gives_concept (λ d. eqb d e) M (M v)) fs (Same y z) ∙ or_none (list_any (gives_concept (λ d. eqb d e) M (M v)) fs))
+      ∙ ap (λ (b : Bool). eqb e 0 || b) (any-snoc (gives_concept (λ d. eqb d e) M (M v)) fs (Same y z) ∙ or-false (list_any (gives_concept (λ d. eqb d e) M (M v)) fs))
 
   joined_edge : (roles : ℕ → Bool) (v w : ℕ) → has_edge joined roles v w ≡ list_any (gives_edge roles M (M v) (M w)) fs
   joined_edge roles v w =
-      ap (λ (r : ℕ → ℕ). list_any (gives_edge roles r (r v) (r w)) joined) reps ∙ any-snoc (gives_edge roles M (M v) (M w)) fs (Same y z) ∙ or_none (list_any (gives_edge roles M (M v) (M w)) fs)
+      ap (λ (r : ℕ → ℕ). list_any (gives_edge roles r (r v) (r w)) joined) reps ∙ any-snoc (gives_edge roles M (M v) (M w)) fs (Same y z) ∙ or-false (list_any (gives_edge roles M (M v) (M w)) fs)
 
   joined_apart : (v w : ℕ) → are_apart joined v w ≡ list_any (gives_apart M (M v) (M w)) fs
   joined_apart v w =
-      ap (λ (r : ℕ → ℕ). list_any (gives_apart r (r v) (r w)) joined) reps ∙ any-snoc (gives_apart M (M v) (M w)) fs (Same y z) ∙ or_none (list_any (gives_apart M (M v) (M w)) fs)
+      ap (λ (r : ℕ → ℕ). list_any (gives_apart r (r v) (r w)) joined) reps ∙ any-snoc (gives_apart M (M v) (M w)) fs (Same y z) ∙ or-false (list_any (gives_apart M (M v) (M w)) fs)
 
   -- ---- away from the two nothing changes
 

@@ -3,6 +3,7 @@ use Rattle.std.proofs.Common.{◌≡◌, ℕ, ◌+◌, ◌<◌, ◌&&◌, ◌||�
 use Rattle.std.specs.Prelude.{◌↔◌}
 use Rattle.std.specs.List.{list_any, filter, range_with_len}
 use Rattle.std.proofs.lemmas.Bool.{eqb-true, or_cases, cases_Bool, and_parts}
+use Rattle.std.proofs.Math.Bool.{or-false}
 use Rattle.shape_specs.specs.Shape.{Shape}
 use Rattle.fact_specs.specs.declared.Fact.{Fact}
 use Rattle.fact_specs.specs.declared.Fact.TheVariants.{Has, Edge, Apart, Same}
@@ -15,7 +16,7 @@ use Rattle.tableau_specs.proofs.PlainClash.{filled_are_filled}
 use Rattle.tableau_specs.proofs.TreeShaped.{reps-snoc}
 use Rattle.clash_specs.specs.Near.{ClashesByApart}
 use Rattle.clash_specs.specs.Near.ClashesByApart.{apart_overrun}
-use Rattle.clash_specs.proofs.After.{or_none, any-snoc, all_apart_same}
+use Rattle.clash_specs.proofs.After.{any-snoc, all_apart_same}
 use Rattle.clash_specs.proofs.Moved.{has_at, edge_to}
 
 count-apart : (fs : List (Fact ℕ)) (x y : ℕ) → node_count (fs ++ Apart x y ∷ []) ≡ node_count fs
@@ -35,11 +36,11 @@ module _ (below : ℕ → ℕ → Bool) (table : List Shape) (fs : List (Fact �
   holds : (x c : ℕ) → has after x c ≡ has fs x c
   holds x c =
       ap (λ (m : ℕ → ℕ). eqb c 0 || list_any (gives_concept (λ e. eqb e c) m (m x)) after) reps
-      ∙ ap (λ (b : Bool). eqb c 0 || b) (any-snoc (gives_concept (λ e. eqb e c) (rep fs) (rep fs x)) fs (Apart y z) ∙ or_none (list_any (gives_concept (λ e. eqb e c) (rep fs) (rep fs x)) fs))
+      ∙ ap (λ (b : Bool). eqb c 0 || b) (any-snoc (gives_concept (λ e. eqb e c) (rep fs) (rep fs x)) fs (Apart y z) ∙ or-false (list_any (gives_concept (λ e. eqb e c) (rep fs) (rep fs x)) fs))
 
   edges : (roles : ℕ → Bool) (x v : ℕ) → has_edge after roles x v ≡ has_edge fs roles x v
   edges roles x v =
-      ap (λ (m : ℕ → ℕ). list_any (gives_edge roles m (m x) (m v)) after) reps ∙ any-snoc (gives_edge roles (rep fs) (rep fs x) (rep fs v)) fs (Apart y z) ∙ or_none (has_edge fs roles x v)
+      ap (λ (m : ℕ → ℕ). list_any (gives_edge roles m (m x) (m v)) after) reps ∙ any-snoc (gives_edge roles (rep fs) (rep fs x) (rep fs v)) fs (Apart y z) ∙ or-false (has_edge fs roles x v)
 
   fits_same : (x s e : ℕ) → filled_successors below after x s e ≡ filled_successors below fs x s e
   fits_same x s e = λ i. filter (λ v. holds v e i) (filter (λ v. eqb (reps i v) v && edges (λ r. below r s) x v i) (range_with_len 0 (count-apart fs y z i)))
@@ -58,7 +59,7 @@ module _ (below : ℕ → ℕ → Bool) (table : List Shape) (fs : List (Fact �
 
     apart_before : (a b : ℕ) → FilledSuccessor below fs x s e a → FilledSuccessor below fs x s e b → are_apart after a b ≡ are_apart fs a b
     apart_before a b ha hb = apart_is a b ∙ elim (cases_Bool (gives_apart {C = ℕ} (rep fs) (rep fs a) (rep fs b) (Apart y z))) [
-      | inr out ↦ rw out (or_none (are_apart fs a b))
+      | inr out ↦ rw out (or-false (are_apart fs a b))
       | inl hit ↦ elim (or_cases (eqb (rep fs y) (rep fs a) && eqb (rep fs z) (rep fs b)) (eqb (rep fs y) (rep fs b) && eqb (rep fs z) (rep fs a)) hit) [
         | inl t ↦
             let u = and_parts (eqb (rep fs y) (rep fs a)) (eqb (rep fs z) (rep fs b)) t in

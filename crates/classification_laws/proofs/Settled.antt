@@ -1,8 +1,9 @@
 -- Where each pair is settled, the classification is done.
-use Rattle.std.proofs.Common.{◌≡◌, ◌⊎◌, ℕ, ◌+◌, ◌<◌, ◌&&◌, ◌||◌, not, Bool, true, false, List, length, refl, sym, subst, arith, inl, inr}
+use Rattle.std.proofs.Common.{◌≡◌, ◌⊎◌, ℕ, ◌+◌, ◌<◌, ◌||◌, not, true, List, length, sym, subst, arith, inl, inr}
 use Rattle.std.proofs.lemmas.Bool.{or_cases}
 use Rattle.std.proofs.lemmas.List.Elements.{All-contains}
 use Rattle.shq_base.specs.Concept.{Concept}
+use Rattle.shq_base.proofs.Bools.{none_outside}
 use Rattle.shq_terms.specs.Listed.{Listed}
 use Rattle.shq_terms.specs.declared.axioms.Axiom.{Axiom}
 use Rattle.shq_meaning.specs.Truth.{holds as has_element, Entails}
@@ -23,14 +24,8 @@ use Rattle.classification_laws.specs.Mirrors.{Mirrors}
 use Rattle.classification_laws.proofs.Chains.{then_chain}
 use Rattle.classification_laws.proofs.InLimit.{HasNumber, has_number}
 
--- what is part of a part is part
-between : (a b c : Bool) → (a && not b) ≡ false → (b && not c) ≡ false → (a && not c) ≡ false
-between false b c h k = refl
-between true true c h k = k
-between true false c h k = cc
-
 pub part_of_part : (axioms : List Axiom) (x y z : Concept) → Entails axioms (record { sub = x; sup = y }) → Entails axioms (record { sub = y; sup = z }) → Entails axioms (record { sub = x; sup = z })
-part_of_part axioms x y z h k i some meets v lt = between (has_element i x v) (has_element i y v) (has_element i z v) (h i some meets v lt) (k i some meets v lt)
+part_of_part axioms x y z h k i some meets v lt = none_outside (has_element i x v) (has_element i y v) (has_element i z v) (h i some meets v lt) (k i some meets v lt)
 
 module _ (o : Listed) (budget : ℕ) (log : List Entry) (honest : IsClassificationLog o budget log) where
   -- what is ruled out does not follow

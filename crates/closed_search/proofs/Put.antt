@@ -4,7 +4,8 @@ use Rattle.std.specs.List.{list_any}
 use Rattle.std.specs.Ordering.{nat_cmp}
 use Rattle.std.specs.Cmp.{nat_cmp_total, nat_eq_equiv, unsigned_tied}
 use Rattle.std.specs.FinSet as sets
-use Rattle.std.proofs.lemmas.Bool.{cases_Bool, eqb-true, and_from, le-leb, lt-ltb}
+use Rattle.std.proofs.lemmas.Bool.{cases_Bool, eqb-true, and_from, le-leb, lt-ltb, and_right}
+use Rattle.std.proofs.Math.Bool.{or_comm}
 use Rattle.lane_sieve.specs.Sets.{NumberSet}
 use Rattle.lane_sieve.proofs.Ranges.{any-passing}
 use Rattle.axiom_sets.specs.Sets.{Limited, IsWithin, member_list}
@@ -22,25 +23,15 @@ or_false : (a b : Bool) → b ≡ false → a ≡ (a || b)
 or_false true b h = refl
 or_false false b h = sym h
 
-and_none : (a b : Bool) → b ≡ false → (a && b) ≡ false
-and_none true b h = h
-and_none false b h = refl
-
-or_turns : (a b : Bool) → (a || b) ≡ (b || a)
-or_turns true true = refl
-or_turns true false = refl
-or_turns false true = refl
-or_turns false false = refl
-
 -- a member is put in
 pub put_in : (members old : NumberSet) (n : ℕ) → sets.contains members n ≡ true → IsPut members (λ k. eqb n k) old (sets.insert old n)
 put_in members old n member k =
-    sets.contains-insert nat_cmp_total old n k ∙ ap (λ (b : Bool). b || sets.contains old k) (unsigned_tied k n ∙ nat_eq_equiv.symm k n) ∙ or_turns (eqb n k) (sets.contains old k)
+    sets.contains-insert nat_cmp_total old n k ∙ ap (λ (b : Bool). b || sets.contains old k) (unsigned_tied k n ∙ nat_eq_equiv.symm k n) ∙ or_comm (eqb n k) (sets.contains old k)
     ∙ ap (λ (b : Bool). sets.contains old k || b) (same (cases_Bool (eqb n k)))
   where
     same : (eqb n k ≡ true) ⊎ (eqb n k ≡ false) → eqb n k ≡ (sets.contains members k && eqb n k)
     same (inl e) = e ∙ sym (ap (λ (b : Bool). b && eqb n k) (ap (sets.contains members) (sym (eqb-true n k e)) ∙ member) ∙ e)
-    same (inr e) = e ∙ sym (and_none (sets.contains members k) (eqb n k) e)
+    same (inr e) = e ∙ sym (and_right (sets.contains members k) (eqb n k) e)
 
 -- what is no member changes nothing
 pub not_put : (members old : NumberSet) (n : ℕ) → sets.contains members n ≡ false → IsPut members (λ k. eqb n k) old old
@@ -48,11 +39,11 @@ not_put members old n none k = or_false (sets.contains old k) (sets.contains mem
   where
     no : (eqb n k ≡ true) ⊎ (eqb n k ≡ false) → (sets.contains members k && eqb n k) ≡ false
     no (inl e) = ap (λ (b : Bool). b && eqb n k) (ap (sets.contains members) (sym (eqb-true n k e)) ∙ none)
-    no (inr e) = and_none (sets.contains members k) (eqb n k) e
+    no (inr e) = and_right (sets.contains members k) (eqb n k) e
 
 -- where the test fails, nothing changes
 pub none_put : (members : NumberSet) (test : ℕ → Bool) (old : NumberSet) → ((k : ℕ) → test k ≡ false) → IsPut members test old old
-none_put members test old none k = or_false (sets.contains old k) (sets.contains members k && test k) (and_none (sets.contains members k) (test k) (none k))
+none_put members test old none k = or_false (sets.contains old k) (sets.contains members k && test k) (and_right (sets.contains members k) (test k) (none k))
 
 -- the same test
 pub put_by : (members : NumberSet) (test other : ℕ → Bool) (old new : NumberSet) → ((k : ℕ) → test k ≡ other k) → IsPut members test old new → IsPut members other old new
@@ -77,7 +68,7 @@ putting_more members asks items old now next rest x rest' h e put k =
 pub put_all : {X : Type 0} → (members : NumberSet) (asks : ℕ → X → Bool) (items : List X) (old now : NumberSet) (rest : List X) → IsPutting members asks items old now rest → rest ≡ [] → ArePut members asks items old now
 put_all members asks items old now rest h e k =
     let s = sets.contains members k in
-    or_false (sets.contains now k) (s && list_any (asks k) rest) (and_none s (list_any (asks k) rest) (ap (list_any (asks k)) e)) ∙ h k
+    or_false (sets.contains now k) (s && list_any (asks k) rest) (and_right s (list_any (asks k) rest) (ap (list_any (asks k)) e)) ∙ h k
 
 -- ---- all of them
 

@@ -5,7 +5,8 @@ use Rattle.std.specs.List.{list_any}
 use Rattle.std.specs.Cmp.{nat_cmp_total}
 use Rattle.std.proofs.lemmas.List.{take_more}
 use Rattle.std.specs.FinSet as set
-use Rattle.std.proofs.lemmas.Bool.{cases_Bool, cases_eq, eqb-true, eq-eqb, ne_eqb, and_parts, or_cases, or_left, or_right}
+use Rattle.std.proofs.lemmas.Bool.{cases_Bool, cases_eq, eqb-true, eq-eqb, ne_eqb, and_parts, or_cases, or_left, or_right, and_from}
+use Rattle.shq_base.proofs.Bools.{or_weaker}
 use Rattle.lane_sieve.specs.Sets.{NumberSet}
 use Rattle.fact_specs.specs.declared.Fact.{Fact}
 use Rattle.fact_specs.specs.declared.Fact.TheVariants.{Has, Edge, Apart, Same}
@@ -18,7 +19,7 @@ use Rattle.completion_tree.specs.declared.tree.Entry.TheVariants.{Fact as Ground
 use Rattle.completion_tree.specs.Trail.{facts_in}
 use Rattle.fact_specs.specs.State.{is_so}
 use Rattle.fact_tree.specs.Told.{gives, IsAlone}
-use Rattle.fact_tree.proofs.Agreeing.{both, either_on, any-on, concept_on, edge_on, apart_on}
+use Rattle.fact_tree.proofs.Agreeing.{any-on, concept_on, edge_on, apart_on}
 use Rattle.completion_tree.specs.Marks.{facts_within, first_node, second_node, is_join, is_top, is_joining, AreWithin, SomeWithin, passes, marks_at}
 
 -- ---- facts within marks
@@ -122,8 +123,8 @@ join_is fs a b y z any at other (Same v w) h =
       | inr turned ↦ (λ e. other (sym (eqb-true w y (and_parts (v == z) (w == y) turned).1) ∙ sym e ∙ eqb-true v z (and_parts (v == z) (w == y) turned).0))
     ] in
     elim at [
-      | inl e ↦ both (rep fs v == a || rep fs v == b) (not (v == w)) (or_left (rep fs v == a) (rep fs v == b) (eq-eqb (rep fs v) a (same ∙ e))) (ap not (ne_eqb v w two))
-      | inr e ↦ both (rep fs v == a || rep fs v == b) (not (v == w)) (or_right (rep fs v == a) (rep fs v == b) (eq-eqb (rep fs v) b (same ∙ e))) (ap not (ne_eqb v w two))
+      | inl e ↦ and_from (rep fs v == a || rep fs v == b) (not (v == w)) (or_left (rep fs v == a) (rep fs v == b) (eq-eqb (rep fs v) a (same ∙ e))) (ap not (ne_eqb v w two))
+      | inr e ↦ and_from (rep fs v == a || rep fs v == b) (not (v == w)) (or_right (rep fs v == a) (rep fs v == b) (eq-eqb (rep fs v) b (same ∙ e))) (ap not (ne_eqb v w two))
     ]
 
 same_test : (m n : ℕ → ℕ) (a : ℕ) → ((x : ℕ) → m x ≡ a → n x ≡ a) → (x : ℕ) → (m x == a) ≡ true → (n x == a) ≡ true
@@ -147,7 +148,7 @@ holds-within es u (Has x c) some are h =
     let m : ℕ → ℕ = rep (facts_in es) in
     let n : ℕ → ℕ = rep (facts_within u es) in
     let at = agree es u (m x) (m x) are (m x) (inl refl) in
-    either_on (c == 0) (list_any (gives m (Has x c)) (facts_in es)) (c == 0) (list_any (gives n (Has x c)) (facts_within u es)) (λ e. e)
+    or_weaker (c == 0) (list_any (gives m (Has x c)) (facts_in es)) (c == 0) (list_any (gives n (Has x c)) (facts_within u es)) (λ e. e)
     (λ any. any-on (gives m (Has x c)) (gives n (Has x c)) (concept_on m n x c (λ v e. at v e ∙ sym (at x refl))) (facts_within u es) (some any)) h
 holds-within es u (Edge r x y) some are h =
     let m : ℕ → ℕ = rep (facts_in es) in
@@ -222,7 +223,7 @@ no_join m a b y z at-a at-b same h =
     no_both false e h = cc
 
 joins_itself : (y z : ℕ) → joins {C = ℕ} y z (Same y z) ≡ true
-joins_itself y z = or_left (y == y && z == z) (y == z && z == y) (both (y == y) (z == z) (eq-eqb y y refl) (eq-eqb z z refl))
+joins_itself y z = or_left (y == y && z == z) (y == z && z == y) (and_from (y == y) (z == z) (eq-eqb y y refl) (eq-eqb z z refl))
 
 none_within : (m : ℕ → ℕ) (a b : ℕ) (u : NumberSet) → ((v : ℕ) → m v ≡ a → v ≡ a) → ((v : ℕ) → m v ≡ b → v ≡ b) → (es : List Entry) → ((y z : ℕ) → list_any (joins y z) (facts_in es) ≡ true → m y ≡ m z) → AreWithin (is_join m a b) u es
 none_within m a b u at-a at-b [] h = tt

@@ -1,11 +1,12 @@
 -- What axioms within the limits give to a search is allowed, and the rules keep it so: their parts and the rows of these, and
 -- the roles above those that are listed.
-use Rattle.std.proofs.Common.{◌≡◌, ℕ, zero, suc, ◌+◌, ◌-◌, ◌<◌, ◌&&◌, ◌||◌, eqb, ltb, Bool, true, false, cond, List, [], ◌∷◌, ◌++◌, map, Some, None, refl, ap, ◌∙◌, sym, subst, arith, inl, inr}
+use Rattle.std.proofs.Common.{◌≡◌, ℕ, zero, suc, ◌+◌, ◌-◌, ◌<◌, ◌&&◌, eqb, ltb, Bool, true, false, cond, List, [], ◌∷◌, ◌++◌, map, Some, None, refl, ap, ◌∙◌, sym, subst, arith, inl, inr}
 use Rattle.std.specs.List.{list_any, list_all, find, slice_get, Contains}
 use Rattle.std.specs.Option.{option_map}
 use Rattle.std.proofs.lemmas.Bool.{cases_Bool, and_parts, and_from, or_cases, eqb-true, ltb-true, lt-ltb, false≢true}
 use Rattle.std.proofs.lemmas.List.Folds.{list_all-append, list_any-append}
 use Rattle.shq_base.specs.Concept.{Concept, top, union, some_of, at_most, complement, parts_of}
+use Rattle.shq_base.proofs.Bools.{or_only}
 use Rattle.shq_terms.specs.Uses.{uses_listed, parts_use_listed, axiom_uses_listed, all_use_listed}
 use Rattle.shq_terms.specs.declared.axioms.Axiom.{Axiom}
 use Rattle.shq_terms.specs.declared.axioms.Axiom.TheVariants.{SubClassOf, EquivalentClasses, DisjointClasses, DisjointUnion, SubRole, EquivalentRoles, Domain, Range, Functional, Transitive}
@@ -25,10 +26,6 @@ use Rattle.refutation_truth.specs.Theory.{parts_in, parts_at, numbered_parts, na
 use Rattle.tableau_specs.specs.KeptKinds.{IsKept}
 use Rattle.counter_models.proofs.Nodes.{all_in}
 use Rattle.counter_models.proofs.Allowed.{IsAllowed, AreAllowed, to_parts, allowed_parts_of, allowed_append, allowed_conjuncts_in, allowed_or, used_parts, counted_parts, allowed_normal, allowed_negated}
-
-only : (b : Bool) → (b || false) ≡ true → b ≡ true
-only true h = refl
-only false h = h
 
 some_if : (b : Bool) (x t : Concept) → cond b (Some x) None ≡ Some t → x ≡ t
 some_if true x t h = cc
@@ -188,15 +185,15 @@ module _ (classes roles : ℕ) (p : ℕ → Bool) where
   step_listed : (a : Axiom) (r s : ℕ) → axiom_uses_listed classes roles a ≡ true → leads (role_part a) r s ≡ true → s < roles
   step_listed (SubRole lower upper) r s h l =
       let t = and_parts (ltb lower roles) (ltb upper roles) h in
-      let e = and_parts (eqb lower r) (eqb upper s) (only (eqb lower r && eqb upper s) l) in
+      let e = and_parts (eqb lower r) (eqb upper s) (or_only (eqb lower r && eqb upper s) l) in
       omega (arith, ltb-true upper roles t.1, eqb-true upper s e.1)
   step_listed (EquivalentRoles rs) r s h l =
-      let e = and_parts (among rs r) (among rs s) (only (among rs r && among rs s) l) in
+      let e = and_parts (among rs r) (among rs s) (or_only (among rs r && among rs s) l) in
       ltb-true s roles (all_in (λ x. ltb x roles) rs s h e.1)
   step_listed _ r s h l = cc
 
   transitive_listed : (a : Axiom) (t : ℕ) → axiom_uses_listed classes roles a ≡ true → is_transitive (role_part a) t ≡ true → t < roles
-  transitive_listed (Transitive r) t h l = omega (arith, ltb-true r roles h, eqb-true r t (only (eqb r t) l))
+  transitive_listed (Transitive r) t h l = omega (arith, ltb-true r roles h, eqb-true r t (or_only (eqb r t) l))
   transitive_listed (SubRole lower upper) t h l = cc
   transitive_listed (EquivalentRoles rs) t h l = cc
   transitive_listed _ t h l = cc

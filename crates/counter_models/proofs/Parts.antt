@@ -15,10 +15,10 @@ use Rattle.shape_specs.specs.Rows.Trigger.{always, names, edge, end_of}
 use Rattle.shq_meaning.specs.Below.{all_below, count_below}
 use Rattle.shq_meaning.specs.Truth.{Interpretation, implies, holds}
 use Rattle.shq_meaning.proofs.Members.{member_passes}
+use Rattle.shq_meaning.proofs.Implied.{implies_from}
 use Rattle.shq_nnf.specs.Meeting.{meets_part}
 use Rattle.refutation_truth.proofs.Below.{all_from, picks}
 use Rattle.refutation_truth.proofs.Models.{found}
-use Rattle.refutation_truth.proofs.Lines.{implies_from}
 use Rattle.fact_specs.specs.declared.Fact.{Fact}
 use Rattle.fact_specs.specs.State.{node_count, has, has_edge}
 use Rattle.tableau_specs.specs.declared.Item.{Item}

@@ -12,9 +12,9 @@ use Rattle.shape_specs.proofs.Unique.{tree_of_shape}
 use Rattle.shq_meaning.specs.Below.{count_below}
 use Rattle.shq_meaning.specs.Truth.{Interpretation, implies, holds, hold_all, hold_any}
 use Rattle.shq_meaning.proofs.Members.{member_passes}
+use Rattle.shq_meaning.proofs.Implied.{implies_from}
 use Rattle.shq_nnf.proofs.Truth.{negated_truth}
 use Rattle.refutation_truth.proofs.Below.{all_from}
-use Rattle.refutation_truth.proofs.Lines.{implies_from}
 use Rattle.fact_specs.specs.declared.Fact.{Fact}
 use Rattle.fact_specs.specs.declared.Fact.TheVariants.{Has}
 use Rattle.fact_specs.specs.State.{node_count, has, label, is_successor, all_apart}

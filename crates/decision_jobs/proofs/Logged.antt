@@ -1,11 +1,12 @@
 -- The log of one question is honest.
-use Rattle.std.proofs.Common.{◌≡◌, ℕ, zero, suc, ◌+◌, ◌≤◌, Bool, true, false, ◌||◌, List, [], ◌∷◌, ◌++◌, length, Some, None, refl, ap, sym, ◌∙◌, subst, arith}
+use Rattle.std.proofs.Common.{◌≡◌, ℕ, zero, suc, ◌+◌, ◌≤◌, true, false, List, [], ◌∷◌, ◌++◌, length, Some, None, refl, ap, sym, ◌∙◌, subst, arith}
 use Rattle.std.specs.Prelude.{slice_get}
 use Rattle.std.specs.List.{list_any}
 use Rattle.std.proofs.lemmas.List.Elements.{All-cons}
 use Rattle.std.specs.Prelude.{IfOk, Result, Ok, Err}
 use Rattle.axiom_sets.specs.Sets.{Limited, IsFull}
 use Rattle.shq_base.specs.declared.memory.NoMemory.{NoMemory}
+use Rattle.shq_base.proofs.Bools.{or_only}
 use Rattle.shq_terms.specs.Listed.{Listed}
 use Rattle.shq_terms.specs.declared.axioms.Query.{Query as Asked}
 use Rattle.run_log.specs.declared.entry.Entry.{Entry}
@@ -37,10 +38,6 @@ only_last : (x e : Entry) (place : ℕ) → slice_get (x ∷ []) place ≡ Some 
 only_last x e zero found = refl
 only_last x e (suc place) found = absurd (cc found)
 
-one_spent : (b : Bool) → (b || false) ≡ true → b ≡ true
-one_spent true h = refl
-one_spent false h = h
-
 module _ (o : Listed) (s : Limited) (q : Asked) (budget : ℕ) (d : Decision) where
   -- one test of all axioms, behind nothing
   pub whole_logged : (log more : List Entry) → log ≡ [] → IsWhole o s → AppendsTest o s q log more d → spent_of more ≤ budget → LeavesNothing (record { ontology = o; budget = budget; log = more }) d → IsLogged o q budget d more
@@ -50,7 +47,7 @@ module _ (o : Listed) (s : Limited) (q : Asked) (budget : ℕ) (d : Decision) wh
       let each : EachIsHonest o (x ∷ []) = All-cons (IsHonestEntry o) x [] test.honest (λ k e less. absurd (omega (arith, less))) in
       let ends : EndsWhenSpent budget (x ∷ []) = record {
         is_last = λ place e found spent. only_last x e place found;
-        is_whole = λ some. sym (ap spent_of is) ∙ nothing_left (record { ontology = o; budget = budget; log = more }) d test.ended test.matches left (one_spent (ended_spent test.ended) some);
+        is_whole = λ some. sym (ap spent_of is) ∙ nothing_left (record { ontology = o; budget = budget; log = more }) d test.ended test.matches left (or_only (ended_spent test.ended) some);
       } in
       record {
         honest = record {

@@ -9,6 +9,8 @@ use Rattle.std.specs.FinSet as sets
 use Rattle.std.proofs.lemmas.Bool.{cases_eq, cases_lt, cases_Bool, eq-eqb, ne_eqb, eqb-true, and_parts, or_left}
 use Rattle.std.proofs.lemmas.List.Sorted.{list_any-IsPermutation}
 use Rattle.std.proofs.lemmas.Map.Keys.{sorted_from_strictly_increasing, below_from_sorted}
+use Rattle.std.proofs.Math.Bool.{or-false, or_comm, or_self_left}
+use Rattle.shq_base.proofs.Bools.{or_absorbs}
 use Rattle.lane_sieve.specs.Sets.{NumberSet}
 use Rattle.dependency_sets.specs.Marks.{marks_set, is_mark, AreUnited, IsGreatest}
 
@@ -24,10 +26,6 @@ marks-nil = same (marks_set []) sets.empty (λ k. contains-marks [] k ∙ sym (s
 
 tied : (q k : ℕ) → eq_by_cmp nat_cmp q k ≡ (k == q)
 tied q k = unsigned_tied q k ∙ nat_eq_equiv.symm q k
-
-or_false : (b : Bool) → (b || false) ≡ b
-or_false true = refl
-or_false false = refl
 
 pub one-marks : (mark : ℕ) → marks_set (mark ∷ []) ≡ sets.insert sets.empty mark
 one-marks mark = same (marks_set (mark ∷ [])) (sets.insert sets.empty mark)
@@ -48,38 +46,23 @@ part_has (x ∷ xs) ys all k h =
       | inr other ↦ part_has xs ys parts.1 k (sym (ap (λ (b : Bool). b || is_mark xs k) (ne_eqb x k other)) ∙ h)
     ]
 
-or_part : (a b : Bool) → (b ≡ true → a ≡ true) → (a || b) ≡ a
-or_part true b h = refl
-or_part false true h = sym (h refl)
-or_part false false h = refl
-
-or_turned : (a b : Bool) → (a || b) ≡ (b || a)
-or_turned true true = refl
-or_turned true false = refl
-or_turned false true = refl
-or_turned false false = refl
-
 -- the union with a part of it
 pub union_part : (xs ys : List ℕ) → list_all (is_mark xs) ys ≡ true → marks_set xs ≡ sets.union (marks_set xs) (marks_set ys)
-union_part xs ys all = union-marks xs ys xs (λ k. sym (or_part (is_mark xs k) (is_mark ys k) (part_has ys xs all k)))
+union_part xs ys all = union-marks xs ys xs (λ k. sym (or_absorbs (is_mark xs k) (is_mark ys k) (part_has ys xs all k)))
 
 pub union_whole : (xs ys : List ℕ) → list_all (is_mark ys) xs ≡ true → marks_set ys ≡ sets.union (marks_set xs) (marks_set ys)
-union_whole xs ys all = union-marks xs ys ys (λ k. sym (or_turned (is_mark xs k) (is_mark ys k) ∙ or_part (is_mark ys k) (is_mark xs k) (part_has xs ys all k)))
+union_whole xs ys all = union-marks xs ys ys (λ k. sym (or_comm (is_mark xs k) (is_mark ys k) ∙ or_absorbs (is_mark ys k) (is_mark xs k) (part_has xs ys all k)))
 
 any-append : (p : ℕ → Bool) (xs ys : List ℕ) → list_any p (xs ++ ys) ≡ (list_any p xs || list_any p ys)
 any-append p [] ys = refl
 any-append p (x ∷ xs) ys = elim (p x) as (λ b. (b || list_any p (xs ++ ys)) ≡ ((b || list_any p xs) || list_any p ys)) [ true ↦ refl | false ↦ any-append p xs ys ]
-
-or_twice : (a b : Bool) → (a || b) ≡ (a || (a || b))
-or_twice true b = refl
-or_twice false b = refl
 
 any-dedup_from : (p : ℕ → Bool) (x : ℕ) (xs : List ℕ) → list_any p (dedup_from nat_eq x xs) ≡ (p x || list_any p xs)
 any-dedup_from p x [] = refl
 any-dedup_from p x (y ∷ ys) = elim (cases_eq y x) [
   | inl e ↦
       ap (λ (b : Bool). list_any p (cond b (dedup_from nat_eq x ys) (x ∷ dedup_from nat_eq y ys))) (eq-eqb y x e) ∙ any-dedup_from p x ys
-      ∙ or_twice (p x) (list_any p ys) ∙ ap (λ (n : ℕ). p x || (p n || list_any p ys)) (sym e)
+      ∙ sym (or_self_left (p x) (list_any p ys)) ∙ ap (λ (n : ℕ). p x || (p n || list_any p ys)) (sym e)
   | inr other ↦
       ap (λ (b : Bool). list_any p (cond b (dedup_from nat_eq x ys) (x ∷ dedup_from nat_eq y ys))) (ne_eqb y x other) ∙ ap (λ (b : Bool). p x || b) (any-dedup_from p y ys)
 ]

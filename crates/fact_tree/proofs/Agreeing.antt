@@ -1,9 +1,10 @@
 -- What facts give where nodes with one representative keep having one.
-use Rattle.std.proofs.Common.{◌≡◌, ℕ, Bool, true, false, List, [], ◌∷◌, ◌++◌, append_assoc, refl, ap, sym, ◌∙◌}
-use Rattle.std.specs.Prelude.{◌==◌, ◌&&◌, ◌||◌}
+use Rattle.std.proofs.Common.{◌≡◌, ℕ, Bool, true, List, [], ◌∷◌, ◌++◌, append_assoc, ap, sym, ◌∙◌}
+use Rattle.std.specs.Prelude.{◌==◌, ◌&&◌}
 use Rattle.std.specs.List.{list_any}
-use Rattle.std.proofs.lemmas.Bool.{eqb-true, eq-eqb, or_left, or_right}
+use Rattle.std.proofs.lemmas.Bool.{eqb-true, eq-eqb, or_left, and_from}
 use Rattle.std.proofs.lemmas.List.{append-nil}
+use Rattle.shq_base.proofs.Bools.{or_weaker, and_weaker}
 use Rattle.fact_specs.specs.declared.Fact.{Fact}
 use Rattle.fact_specs.specs.declared.Fact.TheVariants.{Has, Edge, Apart, Same}
 use Rattle.fact_specs.specs.Joins.{rep}
@@ -12,25 +13,13 @@ use Rattle.fact_tree.specs.Told.{gives}
 use Rattle.fact_tree.specs.Laws.{FactsStay}
 use Rattle.fact_tree.proofs.Content.{any-append}
 
-pub both : (a b : Bool) → a ≡ true → b ≡ true → (a && b) ≡ true
-both true b h k = k
-both false b h k = cc
-
-pub either_on : (a b c d : Bool) → (a ≡ true → c ≡ true) → (b ≡ true → d ≡ true) → (a || b) ≡ true → (c || d) ≡ true
-either_on true b c d f g h = or_left c d (f refl)
-either_on false b c d f g h = or_right c d (g h)
-
-pub pairs_on : (a b c d : Bool) → (a ≡ true → c ≡ true) → (b ≡ true → d ≡ true) → (a && b) ≡ true → (c && d) ≡ true
-pairs_on true b c d f g h = both c d (f refl) (g h)
-pairs_on false b c d f g h = cc
-
 pub any-on : (p q : Fact ℕ → Bool) → ((f : Fact ℕ) → p f ≡ true → q f ≡ true) → (fs : List (Fact ℕ)) → list_any p fs ≡ true → list_any q fs ≡ true
 any-on p q on [] h = h
-any-on p q on (f ∷ fs) h = either_on (p f) (list_any p fs) (q f) (list_any q fs) (on f) (any-on p q on fs) h
+any-on p q on (f ∷ fs) h = or_weaker (p f) (list_any p fs) (q f) (list_any q fs) (on f) (any-on p q on fs) h
 
 -- where n agrees with m at the nodes with these representatives, a fact that gives by m gives by n
 pub concept_on : (m n : ℕ → ℕ) (x c : ℕ) → ((v : ℕ) → m v ≡ m x → n v ≡ n x) → (f : Fact ℕ) → gives m (Has x c) f ≡ true → gives n (Has x c) f ≡ true
-concept_on m n x c agree (Has y d) h = pairs_on (m y == m x) (d == c) (n y == n x) (d == c) (λ e. eq-eqb (n y) (n x) (agree y (eqb-true (m y) (m x) e))) (λ e. e) h
+concept_on m n x c agree (Has y d) h = and_weaker (m y == m x) (d == c) (n y == n x) (d == c) (λ e. eq-eqb (n y) (n x) (agree y (eqb-true (m y) (m x) e))) (λ e. e) h
 concept_on m n x c agree (Edge r v w) h = cc
 concept_on m n x c agree (Apart v w) h = cc
 concept_on m n x c agree (Same v w) h = cc
@@ -40,16 +29,16 @@ test_on m n x agree v e = eq-eqb (n v) (n x) (agree v (eqb-true (m v) (m x) e))
 
 pub edge_on : (m n : ℕ → ℕ) (r x y : ℕ) → ((v : ℕ) → m v ≡ m x → n v ≡ n x) → ((v : ℕ) → m v ≡ m y → n v ≡ n y) → (f : Fact ℕ) → gives m (Edge r x y) f ≡ true → gives n (Edge r x y) f ≡ true
 edge_on m n r x y ax ay (Edge s v w) h =
-    pairs_on (s == r && m v == m x) (m w == m y) (s == r && n v == n x) (n w == n y) (pairs_on (s == r) (m v == m x) (s == r) (n v == n x) (λ e. e) (test_on m n x ax v)) (test_on m n y ay w) h
+    and_weaker (s == r && m v == m x) (m w == m y) (s == r && n v == n x) (n w == n y) (and_weaker (s == r) (m v == m x) (s == r) (n v == n x) (λ e. e) (test_on m n x ax v)) (test_on m n y ay w) h
 edge_on m n r x y ax ay (Has v d) h = cc
 edge_on m n r x y ax ay (Apart v w) h = cc
 edge_on m n r x y ax ay (Same v w) h = cc
 
 pub apart_on : (m n : ℕ → ℕ) (x y : ℕ) → ((v : ℕ) → m v ≡ m x → n v ≡ n x) → ((v : ℕ) → m v ≡ m y → n v ≡ n y) → (f : Fact ℕ) → gives m (Apart x y) f ≡ true → gives n (Apart x y) f ≡ true
 apart_on m n x y ax ay (Apart v w) h =
-    either_on (m v == m x && m w == m y) (m v == m y && m w == m x) (n v == n x && n w == n y) (n v == n y && n w == n x)
-    (pairs_on (m v == m x) (m w == m y) (n v == n x) (n w == n y) (test_on m n x ax v) (test_on m n y ay w))
-    (pairs_on (m v == m y) (m w == m x) (n v == n y) (n w == n x) (test_on m n y ay v) (test_on m n x ax w)) h
+    or_weaker (m v == m x && m w == m y) (m v == m y && m w == m x) (n v == n x && n w == n y) (n v == n y && n w == n x)
+    (and_weaker (m v == m x) (m w == m y) (n v == n x) (n w == n y) (test_on m n x ax v) (test_on m n y ay w))
+    (and_weaker (m v == m y) (m w == m x) (n v == n y) (n w == n x) (test_on m n y ay v) (test_on m n x ax w)) h
 apart_on m n x y ax ay (Has v d) h = cc
 apart_on m n x y ax ay (Edge s v w) h = cc
 apart_on m n x y ax ay (Same v w) h = cc
@@ -71,7 +60,7 @@ gives_more fs new q on any = in_front (gives (rep (fs ++ new)) q) fs new (any-on
 
 pub facts-stay : FactsStay
 facts-stay fs new (Has x c) h =
-    either_on (c == 0) (list_any (gives (rep fs) (Has x c)) fs) (c == 0) (list_any (gives (rep (fs ++ new)) (Has x c)) (fs ++ new)) (λ e. e)
+    or_weaker (c == 0) (list_any (gives (rep fs) (Has x c)) fs) (c == 0) (list_any (gives (rep (fs ++ new)) (Has x c)) (fs ++ new)) (λ e. e)
     (gives_more fs new (Has x c) (concept_on (rep fs) (rep (fs ++ new)) x c (λ v. same-more fs new v x))) h
 facts-stay fs new (Edge r x y) h = gives_more fs new (Edge r x y) (edge_on (rep fs) (rep (fs ++ new)) r x y (λ v. same-more fs new v x) (λ v. same-more fs new v y)) h
 facts-stay fs new (Apart x y) h = gives_more fs new (Apart x y) (apart_on (rep fs) (rep (fs ++ new)) x y (λ v. same-more fs new v x) (λ v. same-more fs new v y)) h

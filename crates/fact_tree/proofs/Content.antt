@@ -7,6 +7,8 @@ use Rattle.std.proofs.lemmas.Bool.Decides.{nat_tests}
 use Rattle.std.proofs.lemmas.List.{length-set, length-append}
 use Rattle.std.proofs.Math.Seq.{get_or-append_seam}
 use Rattle.std.proofs.Math.ListN.{get_or-append}
+use Rattle.std.proofs.Math.Bool.{or-false, or_assoc}
+use Rattle.shq_base.proofs.Bools.{or_exchange}
 use Rattle.fact_specs.specs.declared.Fact.{Fact}
 use Rattle.fact_specs.specs.Joins.{merged}
 use Rattle.fact_tree.specs.Kept.{Lists, Kept, new_lists, bare, absorbing, lists_at, changed_at, grown, linked}
@@ -18,26 +20,12 @@ pub any-append : {X : Type 0} (p : X → Bool) (xs ys : List X) → list_any p (
 any-append p [] ys = refl
 any-append p (x ∷ xs) ys = elim (p x) as (λ b. (b || list_any p (xs ++ ys)) ≡ ((b || list_any p xs) || list_any p ys)) [ true ↦ refl | false ↦ any-append p xs ys ]
 
-pub or_false : (b : Bool) → (b || false) ≡ b
-or_false true = refl
-or_false false = refl
-
-pub or_assoc : (a b c : Bool) → ((a || b) || c) ≡ (a || (b || c))
-or_assoc true b c = refl
-or_assoc false b c = refl
-
 pub any-snoc : {X : Type 0} (p : X → Bool) (xs : List X) (x : X) → list_any p (xs ++ x ∷ []) ≡ (list_any p xs || p x)
-any-snoc p xs x = any-append p xs (x ∷ []) ∙ ap (λ (b : Bool). list_any p xs || b) (or_false (p x))
-
-or_mix : (a b c d : Bool) → ((a || b) || (c || d)) ≡ ((a || c) || (b || d))
-or_mix true b c d = refl
-or_mix false true true d = refl
-or_mix false true false d = refl
-or_mix false false c d = refl
+any-snoc p xs x = any-append p xs (x ∷ []) ∙ ap (λ (b : Bool). list_any p xs || b) (or-false (p x))
 
 pub any_or : {X : Type 0} (p q r : X → Bool) → ((x : X) → p x ≡ (q x || r x)) → (xs : List X) → list_any p xs ≡ (list_any q xs || list_any r xs)
 any_or p q r h [] = refl
-any_or p q r h (x ∷ xs) = (λ i. h x i || any_or p q r h xs i) ∙ or_mix (q x) (r x) (list_any q xs) (list_any r xs)
+any_or p q r h (x ∷ xs) = (λ i. h x i || any_or p q r h xs i) ∙ or_exchange (q x) (r x) (list_any q xs) (list_any r xs)
 
 pub any_same : {X : Type 0} (p q : X → Bool) → ((x : X) → p x ≡ q x) → (xs : List X) → list_any p xs ≡ list_any q xs
 any_same p q h [] = refl
@@ -59,7 +47,7 @@ module _ {P : Type 0} (get : Lists → List P) (pick : Fact ℕ → Option (ℕ 
   -- a fact that gives nothing of this kind
   pub told_on : (m : ℕ → ℕ) (fs : List (Fact ℕ)) (f : Fact ℕ) (k : Kept) → pick f ≡ None → Told m fs k → Told m (fs ++ f ∷ []) k
   told_on m fs f k none h q x lt own =
-      h q x lt own ∙ ap (λ (b : Bool). list_any q base || b) (sym (any-snoc (gives q m x) fs f ∙ ap (λ (o : Option (ℕ × P)). list_any (gives q m x) fs || gives_by q m x o) none ∙ or_false (list_any (gives q m x) fs)))
+      h q x lt own ∙ ap (λ (b : Bool). list_any q base || b) (sym (any-snoc (gives q m x) fs f ∙ ap (λ (o : Option (ℕ × P)). list_any (gives q m x) fs || gives_by q m x o) none ∙ or-false (list_any (gives q m x) fs)))
 
   pub told_skip : (m : ℕ → ℕ) (fs : List (Fact ℕ)) (k : Kept) (at : ℕ) (change : Lists → Lists) → at < length k.nodes → ((n : Lists) → get (change n) ≡ get n) → Told m fs k → Told m fs (changed_at at change k)
   told_skip m fs k at change within same h q x lt own =
@@ -87,7 +75,7 @@ module _ {P : Type 0} (get : Lists → List P) (pick : Fact ℕ → Option (ℕ 
         | inr other ↦
             let miss : (m y == x && q p) ≡ false = ap (λ (b : Bool). b && q p) (ne_eqb (m y) x (λ e. other (sym e))) in
             ap (λ (n : Lists). list_any q (get n)) (get_or-set_other k.nodes at x (change (lists_at k at)) bare other) ∙ h q x inside own
-            ∙ sym (ap (λ (b : Bool). list_any q base || b) (more ∙ ap (λ (b : Bool). list_any (gives q m x) fs || b) miss ∙ or_false (list_any (gives q m x) fs)))
+            ∙ sym (ap (λ (b : Bool). list_any q base || b) (more ∙ ap (λ (b : Bool). list_any (gives q m x) fs || b) miss ∙ or-false (list_any (gives q m x) fs)))
       ]
 
   pub told_grown : (m : ℕ → ℕ) (fs : List (Fact ℕ)) (k : Kept) (origin : ℕ × ℕ) → get (new_lists (length k.nodes) origin) ≡ base → ((q : P → Bool) → list_any (gives q m (length k.nodes)) fs ≡ false) → Told m fs k → Told m fs (grown origin k)
@@ -97,7 +85,7 @@ module _ {P : Type 0} (get : Lists → List P) (pick : Fact ℕ → Option (ℕ 
         let at : x ≡ length k.nodes = omega (arith, behind, lt, length-append k.nodes (new_lists (length k.nodes) origin ∷ [])) in
         let here : lists_at (grown origin k) x ≡ new_lists (length k.nodes) origin = ap (lists_at (grown origin k)) at ∙ get_or-append_seam k.nodes (new_lists (length k.nodes) origin) [] bare in
         ap (λ (n : Lists). list_any q (get n)) here ∙ ap (list_any q) new
-        ∙ sym (ap (λ (n : ℕ). list_any q base || list_any (gives q m n) fs) at ∙ ap (λ (b : Bool). list_any q base || b) (nothing q) ∙ or_false (list_any q base))
+        ∙ sym (ap (λ (n : ℕ). list_any q base || list_any (gives q m n) fs) at ∙ ap (λ (b : Bool). list_any q base || b) (nothing q) ∙ or-false (list_any q base))
   ]
 
   -- ---- joins

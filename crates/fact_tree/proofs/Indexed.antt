@@ -7,18 +7,13 @@ use Rattle.std.proofs.Math.ListN.{get_or-append}
 use Rattle.std.proofs.Math.Seq.{get_or-append_right, get_or-append_seam, take-append_seam}
 use Rattle.std.proofs.lemmas.Bool.{cases_eq, cases_lt, ne_eqb, true≢false}
 use Rattle.std.proofs.lemmas.List.{get_or-replicate, get_or_past, get_or-take, take_more, take_all, length-replicate, take-append-le, length-append, length-take, take-take}
+use Rattle.std.proofs.Math.Bool.{or_comm}
 use Rattle.lane_sieve.specs.Sets.{has_bit, number_set}
 use Rattle.lane_sieve.proofs.Bits.{has_bit-is, contains-number_set, number_set_same, contains_insert, contains_remove}
 use Rattle.lane_sieve.proofs.Next.{contains-past}
 use Rattle.fact_specs.proofs.State.{eqb-comm}
 use Rattle.fact_tree.specs.Short.{HaveBits, AreIndexed, EachIsNew}
 use Rattle.fact_tree.proofs.Content.{any-snoc}
-
-or_turn : (a b : Bool) → (a || b) ≡ (b || a)
-or_turn true true = refl
-or_turn true false = refl
-or_turn false true = refl
-or_turn false false = refl
 
 -- ---- words of no bits behind others
 
@@ -54,7 +49,7 @@ pub more_bits : (cs bits bits' : List ℕ) (c : ℕ) → number_set bits' ≡ se
 more_bits cs bits bits' c is h = record {
   each = λ k.
       ap (λ s. set.contains s k) is ∙ contains_insert (number_set bits) c k ∙ ap (λ (b : Bool). eqb k c || b) (h.each k)
-      ∙ or_turn (eqb k c) (list_any (λ d. d == k) cs) ∙ ap (λ (b : Bool). list_any (λ d. d == k) cs || b) (eqb-comm k c)
+      ∙ or_comm (eqb k c) (list_any (λ d. d == k) cs) ∙ ap (λ (b : Bool). list_any (λ d. d == k) cs || b) (eqb-comm k c)
       ∙ sym (any-snoc (λ d. d == k) cs c);
 }
 

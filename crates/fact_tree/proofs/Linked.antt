@@ -6,6 +6,7 @@ use Rattle.std.proofs.lemmas.Bool.Decides.{nat_tests}
 use Rattle.std.proofs.lemmas.List.{length-set, length-append, take-append-le}
 use Rattle.std.proofs.Math.Seq.{get_or-append_seam, take-append_seam}
 use Rattle.std.proofs.Math.ListN.{get_or-append}
+use Rattle.std.proofs.Math.Bool.{and-or_distrib_left}
 use Rattle.fact_specs.specs.declared.Fact.{Fact}
 use Rattle.fact_specs.specs.declared.Fact.TheVariants.{Has, Edge, Apart, Same}
 use Rattle.fact_specs.specs.Joins.{merged, rep_after, rep_from, rep}
@@ -229,10 +230,6 @@ merged_to_high a b v differ = grind (arith, nat_tests)
 stays_from : (a b v r : ℕ) → merged a b v ≡ r → r ≢ min a b → v ≡ r
 stays_from a b v r is other = grind (arith, nat_tests)
 
-and_or : (a b c : Bool) → ((a && b) || (a && c)) ≡ (a && (b || c))
-and_or true b c = refl
-and_or false b c = refl
-
 module _ (m : ℕ → ℕ) (k : Kept) (y z : ℕ) (h : IsLinked m k) (y-in : y < length k.nodes) (z-in : z < length k.nodes) where
   abbrev next : ℕ → ℕ
   next x = merged (m y) (m z) (m x)
@@ -297,7 +294,7 @@ module _ (m : ℕ → ℕ) (k : Kept) (y z : ℕ) (h : IsLinked m k) (y-in : y <
           | inl e ↦
               ap (λ (i : ℕ). is_in x (lists_at (linked high low k) i).members) e ∙ ap (λ (l : Lists). is_in x l.members) at-low ∙ any-append (λ v. v == x) ms hs
               ∙ (λ i. h.members low x low-in low_stays i || h.members high x high-in high_stays i)
-              ∙ and_or (nat_lt x n) (m x == low) (m x == high) ∙ ap (λ (b : Bool). nat_lt x n && b) (merged_is_low (m y) (m z) (m x))
+              ∙ sym (and-or_distrib_left (nat_lt x n) (m x == low) (m x == high)) ∙ ap (λ (b : Bool). nat_lt x n && b) (merged_is_low (m y) (m z) (m x))
               ∙ (λ i. is_one (sym n-len i) x (sym e i) (next x))
           | inr other ↦
               let same : m r ≡ r = stays_from (m y) (m z) (m r) r own other in

@@ -2,8 +2,9 @@
 use Rattle.std.proofs.Common.{◌≡◌, ℕ, zero, suc, ◌<◌, ◌≤◌, ◌≢◌, min, max, Bool, true, false, List, [], ◌∷◌, ◌++◌, length, get_or, refl, ap, sym, subst, ◌∙◌, arith, inl, inr, Option, Some, None}
 use Rattle.std.specs.Prelude.{◌==◌, ◌&&◌, ◌||◌, if◌then◌else◌}
 use Rattle.std.specs.List.{list_any}
-use Rattle.std.proofs.lemmas.Bool.{cases_Bool, cases_eq, eq-eqb, ne_eqb}
+use Rattle.std.proofs.lemmas.Bool.{cases_Bool, cases_eq, eq-eqb, ne_eqb, and_right}
 use Rattle.std.proofs.lemmas.List.{length-append}
+use Rattle.std.proofs.Math.Bool.{or-false, or_assoc}
 use Rattle.fact_specs.specs.declared.Fact.{Fact}
 use Rattle.fact_specs.specs.declared.Fact.TheVariants.{Has, Edge, Apart, Same}
 use Rattle.fact_specs.specs.Joins.{rep_after, rep}
@@ -15,7 +16,7 @@ use Rattle.fact_specs.specs.Listed.{IsLabel, AreEdges}
 use Rattle.fact_tree.specs.Told.{AreAparts, gives_first}
 use Rattle.fact_tree.proofs.Linked.{kept_of-snoc, count_after, node_count-snoc, fit_before, fit_last, merged_one, low_stays, high_stays}
 use Rattle.fact_tree.proofs.Law.{count_is, kept_linked}
-use Rattle.fact_tree.proofs.Content.{any-append, any-snoc, or_false, or_assoc, any_or, any_same, gives_by, gives, Told, told_on, told_skip, told_put, told_grown, told_linked}
+use Rattle.fact_tree.proofs.Content.{any-append, any-snoc, any_or, any_same, gives_by, gives, Told, told_on, told_skip, told_put, told_grown, told_linked}
 
 -- ---- what each fact gives
 
@@ -65,7 +66,7 @@ any_with q cs c = elim (cases_Bool (list_any (λ d. d == c) cs)) [
 ]
 
 any_with_all : (q : ℕ → Bool) (cs ds : List ℕ) → list_any q (with_concepts cs ds) ≡ (list_any q cs || list_any q ds)
-any_with_all q cs [] = sym (or_false (list_any q cs))
+any_with_all q cs [] = sym (or-false (list_any q cs))
 any_with_all q cs (d ∷ ds) = any_with_all q (with_concept cs d) ds ∙ ap (λ (b : Bool). b || list_any q ds) (any_with q cs d) ∙ or_assoc (list_any q cs) (q d) (list_any q ds)
 
 -- ---- nothing is said of a node that is not there
@@ -208,7 +209,7 @@ kept_told = by_last {X = Fact ℕ} (λ fs. AreFit fs → AllTold (rep fs) fs (ke
     only (suc x) lt = absurd (omega (arith, lt))
 
     first : (x : ℕ) → x < 1 → (q : ℕ → Bool) → list_any q (get_or (bare ∷ []) x bare).concepts ≡ (list_any q (0 ∷ []) || false)
-    first x lt q = ap (λ (n : Lists). list_any q n.concepts) (only x lt) ∙ sym (or_false (list_any q (0 ∷ [])))
+    first x lt q = ap (λ (n : Lists). list_any q n.concepts) (only x lt) ∙ sym (or-false (list_any q (0 ∷ [])))
 
 -- ---- the definitions
 
@@ -228,7 +229,7 @@ pub label_is : (fs : List (Fact ℕ)) (x : ℕ) → AreFit fs → x < node_count
 label_is fs x fit lt c =
     let links = kept_linked fs fit in
     (kept_told fs fit).concepts (λ d. d == c) (rep fs x) (omega (arith, lt, links.below x, count_is fs fit)) (links.twice x)
-    ∙ (λ i. (or_false (0 == c) ∙ same_both_ways 0 c) i || any_same (gives (λ n. n.concepts) concept_of (0 ∷ []) (λ d. d == c) (rep fs) (rep fs x)) (gives_concept (λ d. d == c) (rep fs) (rep fs x)) (concept_gives (rep fs) (rep fs x) (λ d. d == c)) fs i)
+    ∙ (λ i. (or-false (0 == c) ∙ same_both_ways 0 c) i || any_same (gives (λ n. n.concepts) concept_of (0 ∷ []) (λ d. d == c) (rep fs) (rep fs x)) (gives_concept (λ d. d == c) (rep fs) (rep fs x)) (concept_gives (rep fs) (rep fs x) (λ d. d == c)) fs i)
 
 and_swap : (a b c : Bool) → (a && (b && c)) ≡ ((b && a) && c)
 and_swap true true c = refl
@@ -246,10 +247,6 @@ none_pass : {X : Type 0} (p : X → Bool) → ((x : X) → p x ≡ false) → (x
 none_pass p h [] = refl
 none_pass p h (x ∷ xs) = λ i. h x i || none_pass p h xs i
 
-and_nothing : (a b : Bool) → b ≡ false → (a && b) ≡ false
-and_nothing true b h = h
-and_nothing false b h = refl
-
 pub edges_are : (fs : List (Fact ℕ)) (x : ℕ) → AreFit fs → x < node_count fs → AreEdges fs x (lists_at (kept_of fs) (rep fs x)).edges
 edges_are fs x fit lt roles y =
     let links = kept_linked fs fit in
@@ -261,7 +258,7 @@ edges_are fs x fit lt roles y =
           ∙ ap (λ (n : ℕ). list_any (gives_edge roles (rep fs) (rep fs x) n) fs) (sym own)
           ∙ sym (ap (λ (b : Bool). b && has_edge fs roles x y) (eq-eqb (rep fs y) y own))
       | inr other ↦
-          none_pass (λ p. roles p.0 && rep fs p.1 == y) (λ p. and_nothing (roles p.0) (rep fs p.1 == y) (ne_eqb (rep fs p.1) y (λ e. other (ap (rep fs) (sym e) ∙ links.twice p.1 ∙ e)))) edges
+          none_pass (λ p. roles p.0 && rep fs p.1 == y) (λ p. and_right (roles p.0) (rep fs p.1 == y) (ne_eqb (rep fs p.1) y (λ e. other (ap (rep fs) (sym e) ∙ links.twice p.1 ∙ e)))) edges
           ∙ sym (ap (λ (b : Bool). b && has_edge fs roles x y) (ne_eqb (rep fs y) y other))
     ]
 
@@ -297,10 +294,10 @@ concept_nothing fs x kind fit le =
 
 pub label_beyond : (fs : List (Fact ℕ)) (x : ℕ) → AreFit fs → node_count fs ≤ x → IsLabel fs x (0 ∷ [])
 label_beyond fs x fit le c =
-    or_false (0 == c) ∙ same_both_ways 0 c ∙ sym (or_false (c == 0)) ∙ ap (λ (b : Bool). c == 0 || b) (sym (concept_nothing fs x (λ d. d == c) fit le))
+    or-false (0 == c) ∙ same_both_ways 0 c ∙ sym (or-false (c == 0)) ∙ ap (λ (b : Bool). c == 0 || b) (sym (concept_nothing fs x (λ d. d == c) fit le))
 
 pub has_beyond : (fs : List (Fact ℕ)) (x c : ℕ) → AreFit fs → node_count fs ≤ x → (c == 0) ≡ has fs x c
-has_beyond fs x c fit le = sym (or_false (c == 0)) ∙ ap (λ (b : Bool). c == 0 || b) (sym (concept_nothing fs x (λ d. d == c) fit le))
+has_beyond fs x c fit le = sym (or-false (c == 0)) ∙ ap (λ (b : Bool). c == 0 || b) (sym (concept_nothing fs x (λ d. d == c) fit le))
 
 edge_nothing : (fs : List (Fact ℕ)) (x y : ℕ) (roles : ℕ → Bool) → AreFit fs → node_count fs ≤ x → has_edge fs roles x y ≡ false
 edge_nothing fs x y roles fit le =
@@ -310,4 +307,4 @@ edge_nothing fs x y roles fit le =
     ∙ nothing (λ n. n.edges) edge_of [] edge_fits (rep fs) links.below fs fit (rep fs x) (omega (arith, le, own)) (λ p. roles p.0 && rep fs p.1 == rep fs y)
 
 pub edges_beyond : (fs : List (Fact ℕ)) (x : ℕ) → AreFit fs → node_count fs ≤ x → AreEdges fs x []
-edges_beyond fs x fit le roles y = sym (and_nothing (rep fs y == y) (has_edge fs roles x y) (edge_nothing fs x y roles fit le))
+edges_beyond fs x fit le roles y = sym (and_right (rep fs y == y) (has_edge fs roles x y) (edge_nothing fs x y roles fit le))

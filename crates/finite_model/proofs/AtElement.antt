@@ -6,12 +6,13 @@ use Rattle.std.proofs.lemmas.Bool.{and_from, or_parts}
 use Rattle.shq_base.specs.Concept.{parts_of}
 use Rattle.shq_meaning.specs.Below.{all_below}
 use Rattle.shq_meaning.specs.Truth.{Interpretation, holds, hold_any, hold_all, meets}
+use Rattle.shq_meaning.proofs.Implied.{implies_false}
 use Rattle.shq_terms.specs.declared.axioms.Axiom.{Axiom}
 use Rattle.shq_terms.specs.declared.axioms.Axiom.TheVariants.{SubClassOf, EquivalentClasses, DisjointClasses, DisjointUnion, SubRole, EquivalentRoles, Domain, Range, Functional, Transitive}
 use Rattle.finite_model.specs.ModelLists.{ModelLists, meaning, begins}
 use Rattle.finite_model.specs.AtElement.{row_within, met_at, can_break}
 use Rattle.finite_model.proofs.Rows.{all_true, all_both}
-use Rattle.finite_model.proofs.Empty.{implies_false, twice_of_none, split_of_none, row_of_none, domain_of_none, single_of_none}
+use Rattle.finite_model.proofs.Empty.{twice_of_none, split_of_none, row_of_none, domain_of_none, single_of_none}
 
 -- two tests of each of a list, at each number below n
 all_of_each : (n : ℕ) (p q : ℕ → ℕ → Bool) (rs : List ℕ) → list_all (λ s. all_below n (p s) && all_below n (q s)) rs ≡ all_below n (λ x. list_all (λ s. p s x && q s x) rs)

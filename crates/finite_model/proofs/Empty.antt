@@ -8,6 +8,7 @@ use Rattle.shq_base.specs.Concept.{Concept, some_of, at_least, exactly, parts_of
 use Rattle.shq_meaning.specs.Truth.{Interpretation, holds, hold_any, implies, same, none_twice, refutes_at, out_degree, successors}
 use Rattle.std.proofs.lemmas.Bool.{or_parts}
 use Rattle.std.proofs.lemmas.Bool.Decides.{nat_tests}
+use Rattle.shq_meaning.proofs.Implied.{implies_false}
 use Rattle.finite_model.specs.ModelLists.{ModelLists, meaning, begins, is_from, is_link}
 
 pub no_link : (r x : ℕ) (ls : List (ℕ × ℕ × ℕ)) → list_any (is_from r x) ls ≡ false → (y : ℕ) → list_any (is_link r x y) ls ≡ false
@@ -76,9 +77,6 @@ pub split_of_none : (i : Interpretation) (x : ℕ) (w : Concept) (cs : List Conc
 split_of_none i x w cs none =
     let both = or_parts (holds i w x) (hold_any i (parts_of cs) x) none in
     rw (both.0, both.1) (twice_of_none i x cs both.1)
-
-pub implies_false : (a b : Bool) → a ≡ false → implies a b ≡ true
-implies_false a b none = ap (λ v. implies v b) none
 
 -- an element outside the left side of a query
 pub unrefuted : (i : Interpretation) (q : Query) (x : ℕ) → holds i q.sub x ≡ false → not (refutes_at i q x) ≡ true

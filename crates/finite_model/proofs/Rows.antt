@@ -7,6 +7,7 @@ use Rattle.std.specs.List.{filter, list_all, list_any}
 use Rattle.std.specs.declared.ops.Bound.TheVariants.{Included, Excluded}
 use Rattle.std.specs.BTreeMap.Range.{range_contains}
 use Rattle.std.proofs.lemmas.Bool.Decides.{nat_tests}
+use Rattle.shq_base.proofs.Bools.{and_exchange}
 use Rattle.shq_meaning.specs.Below.{all_below}
 use Rattle.shq_meaning.specs.Truth.{implies}
 use Rattle.finite_model.specs.ModelLists.{is_link, is_from, tuple_cmp}
@@ -25,15 +26,9 @@ pub all_true : (n : ℕ) → all_below n (λ y. true) ≡ true
 all_true zero = refl
 all_true (suc n) = ap (λ v. v && true) (all_true n)
 
-shuffle : (a b c d : Bool) → ((a && b) && (c && d)) ≡ ((a && c) && (b && d))
-shuffle true b true d = refl
-shuffle true true false d = refl
-shuffle true false false d = refl
-shuffle false b c d = refl
-
 pub all_both : (n : ℕ) (p q : ℕ → Bool) → all_below n (λ y. p y && q y) ≡ (all_below n p && all_below n q)
 all_both zero p q = refl
-all_both (suc n) p q = ap (λ v. v && (p n && q n)) (all_both n p q) ∙ shuffle (all_below n p) (all_below n q) (p n) (q n)
+all_both (suc n) p q = ap (λ v. v && (p n && q n)) (all_both n p q) ∙ and_exchange (all_below n p) (all_below n q) (p n) (q n)
 
 either : (a b c : Bool) → implies (a || b) c ≡ (implies a c && implies b c)
 either true true true = refl

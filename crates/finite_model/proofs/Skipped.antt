@@ -1,6 +1,7 @@
 -- Numbers that are passed over change nothing of what holds of all numbers, and nothing of a count.
 use Rattle.std.proofs.Common.{◌≡◌, ℕ, zero, suc, ◌+◌, ◌<◌, ◌≤◌, Bool, true, false, ◌&&◌, cond, refl, ap, sym, ◌∙◌, inl, inr, arith}
 use Rattle.std.proofs.lemmas.Bool.{cases_eq}
+use Rattle.shq_base.proofs.Bools.{none_counted}
 use Rattle.shq_meaning.specs.Below.{all_below, count_below}
 use Rattle.shq_meaning.proofs.Below.{all_below-false}
 use Rattle.finite_model.specs.Next.{FailsBetween, IsNextAt}
@@ -8,10 +9,6 @@ use Rattle.finite_model.specs.Next.{FailsBetween, IsNextAt}
 and_true : (a b : Bool) → b ≡ true → (a && b) ≡ a
 and_true true b h = h
 and_true false b h = refl
-
-plus_none : (n : ℕ) (b : Bool) → b ≡ false → n + cond b 1 0 ≡ n
-plus_none n true h = cc
-plus_none n false h = omega arith
 
 pub all_skipped : (q : ℕ → Bool) (from to : ℕ) → from ≤ to → ((k : ℕ) → from ≤ k → k < to → q k ≡ true) → all_below to q ≡ all_below from q
 all_skipped q from zero le good = let same : zero ≡ from = omega arith in ap (λ k. all_below k q) same
@@ -24,7 +21,7 @@ pub count_skipped : (q : ℕ → Bool) (from to : ℕ) → from ≤ to → ((k :
 count_skipped q from zero le bad = let same : zero ≡ from = omega arith in ap (λ k. count_below k q) same
 count_skipped q from (suc n) le bad = elim (cases_eq from (suc n)) [
   | inl same ↦ ap (λ k. count_below k q) (sym same)
-  | inr other ↦ plus_none (count_below n q) (q n) (bad n (omega arith) (omega arith)) ∙ count_skipped q from n (omega arith) (λ k low high. bad k low (omega arith))
+  | inr other ↦ none_counted (count_below n q) (q n) (bad n (omega arith) (omega arith)) ∙ count_skipped q from n (omega arith) (λ k low high. bad k low (omega arith))
 ]
 
 -- ---- all numbers, where the test q holds wherever p fails

@@ -3,6 +3,7 @@ use Rattle.std.proofs.Common.{◌≡◌, ◌≢◌, ℕ, ◌+◌, ◌*◌, ◌^�
 use Rattle.std.proofs.Math.Bool.{or-true, and-false}
 use Rattle.std.specs.FinSet as set
 use Rattle.std.proofs.lemmas.Bool.{cases_eq, cases_Bool, true≢false, ne_eqb, or_cases, and_parts, eqb-true}
+use Rattle.shq_base.proofs.Bools.{false_from_not}
 use Rattle.lane_sieve.specs.Sets.{NumberSet, IsPart, DoMeet}
 use Rattle.lane_sieve.proofs.Bits.{contains_insert, contains_remove}
 use Rattle.axiom_sets.specs.Sets.{Limited}
@@ -16,10 +17,6 @@ use Rattle.hitting_set_frames.proofs.Counts.{count_sum, count_same, count_one, c
 
 pub apart_turned : (s t : NumberSet) → AreApart s t → AreApart t s
 apart_turned s t apart k h = elim (cases_Bool (set.contains s k)) [ inl yes' ↦ absurd (true≢false (sym h ∙ apart k yes')) | inr no' ↦ no' ]
-
-not_true : (b : Bool) → not b ≡ true → b ≡ false
-not_true true h = absurd (true≢false (sym h))
-not_true false h = refl
 
 free_parts : (h b l : Bool) → (l ≡ true → h ≡ false) → cond (not h && not b) 1 0 ≡ cond (not h && not (b || l)) 1 0 + cond (l && not b) 1 0
 free_parts true b true h = absurd (true≢false (h refl))

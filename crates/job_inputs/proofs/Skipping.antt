@@ -1,23 +1,21 @@
 -- Whitespace and comments at the front of a text.
-use Rattle.std.proofs.Common.{◌≡◌, ◌≢◌, ℕ, zero, suc, ◌+◌, ◌-◌, ◌<◌, ◌≤◌, Bool, true, false, cond, ◌&&◌, List, [], ◌∷◌, ◌++◌, length, get_or, take, drop, refl, ap, sym, ◌∙◌, subst, arith, length-drop, one-add}
+use Rattle.std.proofs.Common.{◌≡◌, ◌≢◌, ℕ, zero, suc, ◌+◌, ◌-◌, ◌<◌, ◌≤◌, Bool, true, false, cond, List, [], ◌∷◌, ◌++◌, length, get_or, take, drop, refl, ap, sym, ◌∙◌, subst, arith, length-drop, one-add}
 use Rattle.std.proofs.lemmas.Grind.{common_steps}
 use Rattle.std.proofs.lemmas.List.{drop-drop, drop_all, take_all, take-append-drop}
 use Rattle.std.proofs.Math.Seq.{take-add}
 use Rattle.std.specs.List.{prefix_len, list_all}
+use Rattle.std.proofs.lemmas.Bool.{and_from}
 use Rattle.ofn_tree.specs.Lexemes.{is_whitespace, is_comment_byte}
 use Rattle.ofn_tree.specs.TokenLaws.{EndsLine, IsGap, nothing, space, comment}
 use Rattle.job_inputs.specs.Rest.{IsStray, Skips}
 
 -- ---- the longest comment
 
-both_true : (a b : Bool) → a ≡ true → b ≡ true → (a && b) ≡ true
-both_true a b x y = rw (x, y) refl
-
 passes : (p : ℕ → Bool) (bs : List ℕ) → list_all p (take (prefix_len p bs) bs) ≡ true
 passes p [] = refl
 passes p (b ∷ bs) =
     elim (p b) as (λ v. p b ≡ v → list_all p (take (cond v (1 + prefix_len p bs) 0) (b ∷ bs)) ≡ true) [
-      | true ↦ λ is. rw one-add (both_true (p b) (list_all p (take (prefix_len p bs) bs)) is (passes p bs))
+      | true ↦ λ is. rw one-add (and_from (p b) (list_all p (take (prefix_len p bs) bs)) is (passes p bs))
       | false ↦ λ is. refl
     ] refl
 

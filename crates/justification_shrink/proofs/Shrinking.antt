@@ -1,7 +1,8 @@
 -- One number more was tried.
-use Rattle.std.proofs.Common.{◌≡◌, ℕ, ◌+◌, ◌<◌, ◌≤◌, ◌⊎◌, Bool, true, false, ap, ◌∙◌, sym, subst, arith, inl, inr, eq-eqb, length, refl, cond, ◌-◌, zero-add, length-append}
+use Rattle.std.proofs.Common.{◌≡◌, ℕ, ◌+◌, ◌<◌, ◌≤◌, ◌⊎◌, true, ap, ◌∙◌, sym, subst, arith, inl, inr, eq-eqb, length, refl, cond, ◌-◌, zero-add, length-append}
 use Rattle.std.specs.FinSet as set
 use Rattle.std.proofs.lemmas.Bool.{cases_eq, cases_Bool, ne_eqb}
+use Rattle.shq_base.proofs.Bools.{counted_le}
 use Rattle.lane_sieve.specs.Sets.{NumberSet, IsPart, members_below, passing}
 use Rattle.lane_sieve.proofs.Bits.{contains_insert}
 use Rattle.lane_sieve.proofs.Ranges.{passing-add, passing_take, passing_skip}
@@ -97,13 +98,9 @@ one_longer s n =
     (ap (λ (k : ℕ). length (passing (set.contains s) k 1)) (zero-add n)
     ∙ (elim (cases_Bool (set.contains s n)) [ inl t ↦ ap length (passing_take (set.contains s) n 0 t) ∙ rw t refl | inr f ↦ ap length (passing_skip (set.contains s) n 0 f) ∙ rw f refl ]))
 
-cond_le : (a b : Bool) → (a ≡ true → b ≡ true) → cond a 1 0 ≤ cond b 1 0
-cond_le true b h = rw (h refl) (omega arith)
-cond_le false b h = omega arith
-
 module _ (s kept : NumberSet) (part : IsPart kept s) (before asks asks' n : ℕ) (asked : asks ≤ before + length (members_below s n)) (more : asks' ≤ asks + cond (set.contains kept n) 1 0) where
   pub asked_more : asks' ≤ before + length (members_below s (n + 1))
-  asked_more = omega (arith, one_longer s n, cond_le (set.contains kept n) (set.contains s n) (part n))
+  asked_more = omega (arith, one_longer s n, counted_le (set.contains kept n) (set.contains s n) (part n))
 
   pub asked_all : (limit : ℕ) → n ≤ limit → asks' ≤ before + length (members_below s (limit + 1))
   asked_all limit le =

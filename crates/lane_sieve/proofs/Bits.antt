@@ -7,13 +7,9 @@ use Rattle.std.specs.FinSet as sets
 use Rattle.std.proofs.lemmas.Bool.{ne_eqb, cases_eq, cases_lt, false≢true, le-leb, lt-ltb}
 use Rattle.std.proofs.lemmas.List.{get_or_past, get_or-set_same, get_or-set_other}
 use Rattle.std.proofs.lemmas.Nat.Bits.{bit_at-zero, bit_at_set_same, bit_at_set_other, bit_at_clear_same, bit_at_clear_other}
+use Rattle.shq_base.proofs.Bools.{same_truth}
 use Rattle.lane_sieve.specs.Sets.{NumberSet, has_bit, passing, number_set}
 use Rattle.lane_sieve.proofs.Ranges.{any-passing}
-
-pub bool_same : (a b : Bool) → (a ≡ true → b ≡ true) → (b ≡ true → a ≡ true) → a ≡ b
-bool_same true b f g = sym (f refl)
-bool_same false true f g = g refl
-bool_same false false f g = refl
 
 -- ---- bits
 

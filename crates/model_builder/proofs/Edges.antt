@@ -2,20 +2,21 @@
 use Rattle.std.proofs.Common.{◌≡◌, ℕ, ◌+◌, ◌<◌, ◌&&◌, ◌||◌, Bool, true, false, eqb, List, [], ◌∷◌, ◌++◌, map, length, get_or, Some, None, refl, ap, ◌∙◌, sym, eq-eqb}
 use Rattle.std.specs.Prelude.{Option, nat_lt, All}
 use Rattle.std.specs.List.{list_any, range_with_len}
-use Rattle.std.proofs.Math.Bool.{or-false}
+use Rattle.std.proofs.Math.Bool.{or-false, and-or_distrib_left, and-false}
 use Rattle.std.proofs.lemmas.Bool.{and_parts, and_from, eqb-true, ltb-true}
 use Rattle.std.proofs.lemmas.List.Folds.{list_any-append, list_any_at}
+use Rattle.shq_base.proofs.Bools.{and_turned}
 use Rattle.fact_specs.specs.declared.Fact.{Fact}
 use Rattle.fact_specs.specs.Joins.{rep}
 use Rattle.fact_specs.specs.State.{node_count, is_successor}
 use Rattle.fact_specs.specs.Listed.{AreEdges}
 use Rattle.counter_models.specs.Elements.{elements, node_at}
 use Rattle.structure_model.specs.declared.structure.Edge.{Edge}
-use Rattle.structure_model.proofs.Tests.{and_false, lt_none, lt_more}
+use Rattle.structure_model.proofs.Tests.{lt_none, lt_more}
 use Rattle.model_builder.specs.Numbered.{number_of}
 use Rattle.model_builder.specs.Collected.{edge_to, edges_by, has_edge_by, leads_from, AreElementEdges}
 use Rattle.model_builder.proofs.Numbers.{is_at, number_is}
-use Rattle.model_builder.proofs.Members.{and_or, join_last}
+use Rattle.model_builder.proofs.Members.{join_last}
 
 -- ---- the edges of one element
 
@@ -25,7 +26,7 @@ turned false true k = refl
 turned false false k = refl
 
 edge_at : (roles : ℕ → Bool) (v r x u : ℕ) (o : Option ℕ) → has_edge_by roles (edge_to v r o) x u ≡ (eqb v x && (roles r && is_at o u))
-edge_at roles v r x u None = sym (ap (λ (b : Bool). eqb v x && b) (and_false (roles r)) ∙ and_false (eqb v x))
+edge_at roles v r x u None = sym (ap (λ (b : Bool). eqb v x && b) (and-false (roles r)) ∙ and-false (eqb v x))
 edge_at roles v r x u (Some k) = or-false (roles r && eqb v x && eqb k u) ∙ turned (roles r) (eqb v x) (eqb k u)
 
 module _ (m : ℕ → ℕ) (numbers : List (Option ℕ)) (roles : ℕ → Bool) (v x u : ℕ) where
@@ -33,18 +34,13 @@ module _ (m : ℕ → ℕ) (numbers : List (Option ℕ)) (roles : ℕ → Bool) 
   ends_at p = roles p.0 && is_at (get_or numbers (m p.1) None) u
 
   edges_at : (ps : List (ℕ × ℕ)) → has_edge_by roles (edges_by m numbers v ps) x u ≡ (eqb v x && list_any ends_at ps)
-  edges_at [] = sym (and_false (eqb v x))
+  edges_at [] = sym (and-false (eqb v x))
   edges_at (p ∷ ps) =
       list_any-append (λ (e : Edge). roles e.role && eqb e.from x && eqb e.to u) (edge_to v p.0 (get_or numbers (m p.1) None)) (edges_by m numbers v ps)
       ∙ (λ i. edge_at roles v p.0 x u (get_or numbers (m p.1) None) i || edges_at ps i)
-      ∙ and_or (eqb v x) (ends_at p) (list_any ends_at ps)
+      ∙ sym (and-or_distrib_left (eqb v x) (ends_at p) (list_any ends_at ps))
 
 -- ---- where they end
-
-moved : (r l e : Bool) → (r && (l && e)) ≡ (l && (r && e))
-moved true l e = refl
-moved false true e = refl
-moved false false e = refl
 
 any_where : (b : Bool) (q : ℕ × ℕ → Bool) (ps : List (ℕ × ℕ)) → list_any (λ p. b && q p) ps ≡ (b && list_any q ps)
 any_where true q ps = refl
@@ -62,7 +58,7 @@ ends_are fs numbers roles x u ps is are =
     one p =
         ap (λ (os : List (Option ℕ)). roles p.0 && is_at (get_or os (rep fs p.1) None) u) is
         ∙ ap (λ (b : Bool). roles p.0 && b) (number_is fs (rep fs p.1) u)
-        ∙ moved (roles p.0) (nat_lt u (length (elements fs))) (eqb (rep fs p.1) (node_at fs u))
+        ∙ and_turned (roles p.0) (nat_lt u (length (elements fs))) (eqb (rep fs p.1) (node_at fs u))
 
 -- ---- all elements
 

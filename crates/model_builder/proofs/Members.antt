@@ -2,7 +2,7 @@
 use Rattle.std.proofs.Common.{◌≡◌, ℕ, ◌+◌, ◌<◌, ◌&&◌, ◌||◌, Bool, true, false, eqb, List, [], ◌∷◌, ◌++◌, get_or, refl, ap, ◌∙◌, sym, subst, eq-eqb}
 use Rattle.std.specs.Prelude.{nat_lt, All}
 use Rattle.std.specs.List.{list_any}
-use Rattle.std.proofs.Math.Bool.{or-false}
+use Rattle.std.proofs.Math.Bool.{or-false, and-or_distrib_left, and-false}
 use Rattle.std.proofs.lemmas.Bool.{and_parts, and_from, eqb-true, ltb-true}
 use Rattle.std.proofs.lemmas.List.Folds.{list_any-append, list_any_at}
 use Rattle.shq_base.proofs.Bools.{same_truth}
@@ -16,14 +16,10 @@ use Rattle.tableau_specs.specs.Steps.{is_named}
 use Rattle.counter_models.proofs.Nodes.{member, any_more}
 use Rattle.structure_model.specs.declared.structure.Member.{Member}
 use Rattle.structure_model.specs.Structure.{is_member_of}
-use Rattle.structure_model.proofs.Tests.{and_false, lt_none, lt_more}
+use Rattle.structure_model.proofs.Tests.{lt_none, lt_more}
 use Rattle.model_builder.specs.Collected.{class_in, member_of, members_by, has_class, AreMembers}
 
 -- ---- truth tables
-
-pub and_or : (e p q : Bool) → ((e && p) || (e && q)) ≡ (e && (p || q))
-and_or true p q = refl
-and_or false p q = refl
 
 -- what holds of one number more
 pub join_last : (l e h q : Bool) → (e ≡ true → q ≡ h) → ((l && h) || (e && q)) ≡ ((l || e) && h)
@@ -52,22 +48,22 @@ named v a b x = or-false (eqb b a && eqb v x) ∙ swapped (eqb b a) (eqb v x) (e
 
 member_named : (v a x : ℕ) (s : Shape) → is_member_of (member_of v (class_in s)) a x ≡ (eqb v x && is_named a s)
 member_named v a x (name b) = named v a b x
-member_named v a x top = sym (and_false (eqb v x))
-member_named v a x bottom = sym (and_false (eqb v x))
-member_named v a x (not_name b) = sym (and_false (eqb v x))
-member_named v a x (intersection cs) = sym (and_false (eqb v x))
-member_named v a x (union cs) = sym (and_false (eqb v x))
-member_named v a x (some_of r c) = sym (and_false (eqb v x))
-member_named v a x (all_of r c) = sym (and_false (eqb v x))
-member_named v a x (at_least n r c) = sym (and_false (eqb v x))
-member_named v a x (at_most n r c) = sym (and_false (eqb v x))
+member_named v a x top = sym (and-false (eqb v x))
+member_named v a x bottom = sym (and-false (eqb v x))
+member_named v a x (not_name b) = sym (and-false (eqb v x))
+member_named v a x (intersection cs) = sym (and-false (eqb v x))
+member_named v a x (union cs) = sym (and-false (eqb v x))
+member_named v a x (some_of r c) = sym (and-false (eqb v x))
+member_named v a x (all_of r c) = sym (and-false (eqb v x))
+member_named v a x (at_least n r c) = sym (and-false (eqb v x))
+member_named v a x (at_most n r c) = sym (and-false (eqb v x))
 
 members_named : (table : List Shape) (v a x : ℕ) (cs : List ℕ) → is_member_of (members_by table v cs) a x ≡ (eqb v x && list_any (λ c. is_named a (shape_of table c)) cs)
-members_named table v a x [] = sym (and_false (eqb v x))
+members_named table v a x [] = sym (and-false (eqb v x))
 members_named table v a x (c ∷ cs) =
     list_any-append (λ (m : Member). eqb m.class a && eqb m.element x) (member_of v (class_in (shape_of table c))) (members_by table v cs)
     ∙ (λ i. member_named v a x (shape_of table c) i || members_named table v a x cs i)
-    ∙ and_or (eqb v x) (is_named a (shape_of table c)) (list_any (λ d. is_named a (shape_of table d)) cs)
+    ∙ sym (and-or_distrib_left (eqb v x) (is_named a (shape_of table c)) (list_any (λ d. is_named a (shape_of table d)) cs))
 
 -- ---- labels
 

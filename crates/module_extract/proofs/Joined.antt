@@ -18,6 +18,7 @@ use Rattle.shq_terms.specs.declared.axioms.Query.{Query}
 use Rattle.shq_terms.specs.Uses.{all_use_listed}
 use Rattle.shq_meaning.specs.Truth.{implies}
 use Rattle.shq_meaning.proofs.Members.{all_pass}
+use Rattle.shq_meaning.proofs.Implied.{implies_from}
 use Rattle.module_specs.specs.declared.Name.{Name}
 use Rattle.module_specs.specs.Signature.{same_name, is_among, axiom_names, query_names}
 use Rattle.module_specs.specs.Local.{is_local}
@@ -35,14 +36,10 @@ use Rattle.module_extract.proofs.Taken.{same_places}
 use Rattle.module_extract.proofs.Gained.{only_name, only_place}
 use Rattle.module_extract.proofs.Placed.{name_placed}
 
-implied_by : (a b : Bool) → (a ≡ true → b ≡ true) → implies a b ≡ true
-implied_by true b f = f refl
-implied_by false b f = refl
-
 -- an axiom stays local for tests of names that pass no more of its names
 stays_local : (less more : Name → Bool) (a : Axiom) → ((n : Name) → is_among (axiom_names a) n ≡ true → less n ≡ true → more n ≡ true) → is_local more a ≡ true → is_local less a ≡ true
 stays_local less more a each =
-    local_stays less more a (all_pass (is_kept less more) (axiom_names a) (λ n listed. implied_by (less n) (more n) (each n (listed_among (axiom_names a) n listed))))
+    local_stays less more a (all_pass (is_kept less more) (axiom_names a) (λ n listed. implies_from (less n) (more n) (each n (listed_among (axiom_names a) n listed))))
 
 -- a list with a name that passes
 some_passes : (p : Name → Bool) (ns : List Name) (n : Name) → is_among ns n ≡ true → p n ≡ true → list_any p ns ≡ true

@@ -3,29 +3,19 @@ use Rattle.std.proofs.Common.{◌≡◌, ℕ, suc, ◌+◌, ◌<◌, Bool, true,
 use Rattle.std.proofs.Math.Seq.{take-suc}
 use Rattle.std.proofs.lemmas.Bool.{cases_Bool}
 use Rattle.std.proofs.lemmas.List.Folds.{list_any-append}
+use Rattle.std.proofs.Math.Bool.{or-false}
+use Rattle.shq_base.proofs.Bools.{or_and_gathered}
 use Rattle.module_specs.specs.declared.Name.{Name}
 use Rattle.module_specs.specs.Signature.{same_name, is_among}
 use Rattle.module_extract.specs.declared.marks.Marks.{Marks}
 use Rattle.module_extract.specs.Marks.{is_listed, has_place, is_marked, HasMarked}
 use Rattle.module_extract.specs.Growth.{HasTaken}
 
-or_end : (a : Bool) → a ≡ (a || false)
-or_end true = refl
-or_end false = refl
-
-regroup : (a p q h : Bool) → ((a || (p && h)) || (q && h)) ≡ (a || ((p || q) && h))
-regroup true p q h = refl
-regroup false true true true = refl
-regroup false true true false = refl
-regroup false true false true = refl
-regroup false true false false = refl
-regroup false false q h = refl
-
 pub same_places : (old new : Marks) (names : List Name) → HasMarked old new names → (n : Name) → has_place new n ≡ has_place old n
 same_places old new names h n = λ j. is_listed (h.same_classes j) (h.same_roles j) n
 
 marked_none : (m : Marks) → HasMarked m m []
-marked_none m = record { same_classes = refl; same_roles = refl; marked = λ n. or_end (is_marked m n) }
+marked_none m = record { same_classes = refl; same_roles = refl; marked = λ n. sym (or-false (is_marked m n)) }
 
 marked_then : (a b c : Marks) (ms ns : List Name) → HasMarked a b ms → HasMarked b c ns → HasMarked a c (ms ++ ns)
 marked_then a b c ms ns f g = record {
@@ -34,7 +24,7 @@ marked_then a b c ms ns f g = record {
   marked = λ n.
       g.marked n
       ∙ (λ j. f.marked n j || (is_among ns n && same_places a b ms f n j))
-      ∙ regroup (is_marked a n) (is_among ms n) (is_among ns n) (has_place a n)
+      ∙ or_and_gathered (is_marked a n) (is_among ms n) (is_among ns n) (has_place a n)
       ∙ ap (λ (v : Bool). is_marked a n || (v && has_place a n)) (sym (list_any-append (same_name n) ms ns));
 }
 

@@ -12,6 +12,7 @@ use Rattle.shq_terms.specs.declared.axioms.Axiom.TheVariants.{SubClassOf, Equiva
 use Rattle.shq_terms.specs.declared.axioms.Query.{Query}
 use Rattle.shq_meaning.specs.Below.{all_below, count_below}
 use Rattle.shq_meaning.specs.Truth.{Interpretation, implies, same, successors, each_successor, holds, hold_all, hold_any, all_same, none_twice, included, out_degree, meets, refutes_at}
+use Rattle.shq_meaning.proofs.Implied.{implies_false, implies_true}
 use Rattle.module_specs.specs.declared.Name.{Name}
 use Rattle.module_specs.specs.declared.Name.TheVariants.{Class, Role}
 use Rattle.module_specs.specs.Signature.{concept_names, parts_names, axiom_names, query_names}
@@ -41,12 +42,6 @@ count_none (suc n) p none = let here : one (p n) ≡ 0 = ap one (none n) in omeg
 counted : {A : Type 0} (p : A → Bool) (a : A) (as_ : List A) → count_by p (a ∷ as_) ≡ one (p a) + count_by p as_
 counted p a as_ = sum_by-cons (λ b. one (p b)) a as_
 
-implied : (a b : Bool) → a ≡ false → implies a b ≡ true
-implied a b e = ap (λ (v : Bool). not v || b) e
-
-implying : (a b : Bool) → b ≡ true → implies a b ≡ true
-implying a b e = or_right (not a) b e
-
 same_none : (a b : Bool) → a ≡ false → b ≡ false → same a b ≡ true
 same_none a b e f = rw (e, f) refl
 
@@ -64,10 +59,10 @@ module _ (inside : Name → Bool) (i : Interpretation) where
   no_filler r p x none = count_none i.size (λ y. e.in_role r x y && p y) (λ y. and_right (e.in_role r x y) (p y) (none y))
 
   by_outside : (r : ℕ) (p : ℕ → Bool) (x : ℕ) → not (inside (Role r)) ≡ true → each_successor e r p x ≡ true
-  by_outside r p x out = all_each i.size (λ y. implies (e.in_role r x y) (p y)) (λ y. implied (e.in_role r x y) (p y) (no_pair r x y out))
+  by_outside r p x out = all_each i.size (λ y. implies (e.in_role r x y) (p y)) (λ y. implies_false (e.in_role r x y) (p y) (no_pair r x y out))
 
   by_whole : (r : ℕ) (p : ℕ → Bool) (x : ℕ) → ((y : ℕ) → p y ≡ true) → each_successor e r p x ≡ true
-  by_whole r p x each = all_each i.size (λ y. implies (e.in_role r x y) (p y)) (λ y. implying (e.in_role r x y) (p y) (each y))
+  by_whole r p x each = all_each i.size (λ y. implies (e.in_role r x y) (p y)) (λ y. implies_true (e.in_role r x y) (p y) (each y))
 
   no_degree : (r x : ℕ) → not (inside (Role r)) ≡ true → out_degree e r x ≡ 0
   no_degree r x out = count_none i.size (λ y. e.in_role r x y) (λ y. no_pair r x y out)
@@ -167,7 +162,7 @@ module _ (inside : Name → Bool) (i : Interpretation) where
   outside_included : (r s : ℕ) → not (inside (Role r)) ≡ true → included e r s ≡ true
   outside_included r s out =
       all_each i.size (λ x. all_below i.size (λ y. implies (e.in_role r x y) (e.in_role s x y)))
-      (λ x. all_each i.size (λ y. implies (e.in_role r x y) (e.in_role s x y)) (λ y. implied (e.in_role r x y) (e.in_role s x y) (no_pair r x y out)))
+      (λ x. all_each i.size (λ y. implies (e.in_role r x y) (e.in_role s x y)) (λ y. implies_false (e.in_role r x y) (e.in_role s x y) (no_pair r x y out)))
 
   outside_equal : (r : ℕ) → not (inside (Role r)) ≡ true → (rs : List ℕ) → list_all (λ s. not (inside (Role s))) rs ≡ true → list_all (λ s. included e r s && included e s r) rs ≡ true
   outside_equal r out [] h = refl
@@ -181,14 +176,14 @@ module _ (inside : Name → Bool) (i : Interpretation) where
   local_is_met (SubClassOf c d) h =
       all_each i.size (λ x. implies (holds e c x) (holds e d x))
       (λ x. elim (or_cases (is_void inside c) (is_whole inside d) h) [
-        | inl void ↦ implied (holds e c x) (holds e d x) (void_is_empty c void x)
-        | inr whole ↦ implying (holds e c x) (holds e d x) (whole_is_all d whole x)
+        | inl void ↦ implies_false (holds e c x) (holds e d x) (void_is_empty c void x)
+        | inr whole ↦ implies_true (holds e c x) (holds e d x) (whole_is_all d whole x)
       ])
   local_is_met (EquivalentClasses cs) h =
       all_each i.size (λ x. all_same e cs x)
       (λ x. elim (or_cases (all_void inside (parts_of cs)) (all_whole inside (parts_of cs)) h) [
-        | inl void ↦ implied (hold_any e (parts_of cs) x) (hold_all e (parts_of cs) x) (all_void_is_empty (parts_of cs) void x)
-        | inr whole ↦ implying (hold_any e (parts_of cs) x) (hold_all e (parts_of cs) x) (all_whole_is_all (parts_of cs) whole x)
+        | inl void ↦ implies_false (hold_any e (parts_of cs) x) (hold_all e (parts_of cs) x) (all_void_is_empty (parts_of cs) void x)
+        | inr whole ↦ implies_true (hold_any e (parts_of cs) x) (hold_all e (parts_of cs) x) (all_whole_is_all (parts_of cs) whole x)
       ])
   local_is_met (DisjointClasses cs) h =
       all_each i.size (λ x. none_twice e cs x)
@@ -212,8 +207,8 @@ module _ (inside : Name → Bool) (i : Interpretation) where
   local_is_met (Domain r c) h =
       all_each i.size (λ x. implies (nat_le 1 (out_degree e r x)) (holds e c x))
       (λ x. elim (or_cases (not (inside (Role r))) (is_whole inside c) h) [
-        | inl out ↦ implied (nat_le 1 (out_degree e r x)) (holds e c x) (ap (nat_le 1) (no_degree r x out))
-        | inr whole ↦ implying (nat_le 1 (out_degree e r x)) (holds e c x) (whole_is_all c whole x)
+        | inl out ↦ implies_false (nat_le 1 (out_degree e r x)) (holds e c x) (ap (nat_le 1) (no_degree r x out))
+        | inr whole ↦ implies_true (nat_le 1 (out_degree e r x)) (holds e c x) (whole_is_all c whole x)
       ])
   local_is_met (Range r c) h =
       all_each i.size (λ x. each_successor e r (holds e c) x)
@@ -225,7 +220,7 @@ module _ (inside : Name → Bool) (i : Interpretation) where
   local_is_met (Transitive r) h =
       all_each i.size (λ x. all_below i.size (λ y. implies (e.in_role r x y) (all_below i.size (λ z. implies (e.in_role r y z) (e.in_role r x z)))))
       (λ x. all_each i.size (λ y. implies (e.in_role r x y) (all_below i.size (λ z. implies (e.in_role r y z) (e.in_role r x z))))
-      (λ y. implied (e.in_role r x y) (all_below i.size (λ z. implies (e.in_role r y z) (e.in_role r x z))) (no_pair r x y h)))
+      (λ y. implies_false (e.in_role r x y) (all_below i.size (λ z. implies (e.in_role r y z) (e.in_role r x z))) (no_pair r x y h)))
 
   -- ---- what has no name outside
 

@@ -1,11 +1,12 @@
 -- An axiom that is local for a signature stays so for one that has no more of the axiom's names.
-use Rattle.std.proofs.Common.{◌≡◌, ℕ, ◌≤◌, Bool, true, false, not, ◌&&◌, ◌||◌, cond, List, [], ◌∷◌, ◌++◌, map, refl, sym, ◌∙◌, arith, inl, inr}
+use Rattle.std.proofs.Common.{◌≡◌, ℕ, ◌≤◌, Bool, true, false, not, ◌&&◌, ◌||◌, cond, List, [], ◌∷◌, ◌++◌, map, refl, sym, ◌∙◌, arith}
 use Rattle.std.specs.Prelude.{nat_le}
 use Rattle.std.specs.List.{list_all}
-use Rattle.std.proofs.lemmas.Bool.{and_parts, and_from, or_cases, or_left, or_right, leb-true, le-leb}
+use Rattle.std.proofs.lemmas.Bool.{and_parts, leb-true, le-leb}
 use Rattle.std.proofs.lemmas.List.Folds.{list_all-append}
 use Rattle.std.proofs.lemmas.List.Sums.{sum_by-cons}
 use Rattle.shq_base.specs.Concept.{Concept, top, bottom, name, complement, intersection, union, some_of, all_of, at_least, at_most, exactly, Parts, no_parts, part, parts_of}
+use Rattle.shq_base.proofs.Bools.{or_weaker, and_weaker}
 use Rattle.shq_terms.specs.declared.axioms.Axiom.{Axiom}
 use Rattle.shq_terms.specs.declared.axioms.Axiom.TheVariants.{SubClassOf, EquivalentClasses, DisjointClasses, DisjointUnion, SubRole, EquivalentRoles, Domain, Range, Functional, Transitive}
 use Rattle.shq_meaning.specs.Truth.{implies}
@@ -13,12 +14,6 @@ use Rattle.module_specs.specs.declared.Name.{Name}
 use Rattle.module_specs.specs.declared.Name.TheVariants.{Class, Role}
 use Rattle.module_specs.specs.Signature.{concept_names, parts_names, axiom_names}
 use Rattle.module_specs.specs.Local.{is_void, is_whole, some_void, all_void, some_whole, all_whole, count_not_void, is_local}
-
-or_weaker : (a b c d : Bool) → (a ≡ true → c ≡ true) → (b ≡ true → d ≡ true) → (a || b) ≡ true → (c || d) ≡ true
-or_weaker a b c d f g h = elim (or_cases a b h) [ inl one ↦ or_left c d (f one) | inr other ↦ or_right c d (g other) ]
-
-and_weaker : (a b c d : Bool) → (a ≡ true → c ≡ true) → (b ≡ true → d ≡ true) → (a && b) ≡ true → (c && d) ≡ true
-and_weaker a b c d f g h = let both = and_parts a b h in and_from c d (f both.0) (g both.1)
 
 still_outside : (a b : Bool) → implies a b ≡ true → not b ≡ true → not a ≡ true
 still_outside true true h k = k

@@ -1,8 +1,9 @@
 -- Items as a list, and one more of them read.
-use Rattle.std.proofs.Common.{◌≡◌, ℕ, zero, suc, ◌+◌, ◌<◌, ◌≤◌, List, [], ◌∷◌, ◌++◌, Bool, true, false, ◌&&◌, length, get_or, drop, drop-cons, Result, Ok, Err, refl, ap, sym, ◌∙◌, subst, add-one, append_assoc, append-nil, arith}
+use Rattle.std.proofs.Common.{◌≡◌, ℕ, zero, suc, ◌+◌, ◌<◌, ◌≤◌, List, [], ◌∷◌, ◌++◌, length, get_or, drop, drop-cons, Result, Ok, Err, refl, ap, sym, ◌∙◌, subst, add-one, append_assoc, append-nil, arith}
 use Rattle.std.specs.Prelude.{nat_lt}
 use Rattle.std.specs.List.{list_all}
 use Rattle.std.proofs.lemmas.List.{drop_all}
+use Rattle.std.proofs.lemmas.Bool.{and_parts}
 use Rattle.shq_base.specs.Concept.{Concept, Parts, no_parts, part, parts_of}
 use Rattle.shq_terms.specs.Uses.{uses_listed, parts_use_listed}
 use Rattle.ofn_tree.specs.Items.{Item, items_of, nesting, nesting_all}
@@ -32,15 +33,11 @@ put_parts-push : (cs : List Concept) (c : Concept) (ps : Parts) → put_parts (c
 put_parts-push [] c ps = refl
 put_parts-push (d ∷ cs) c ps = ap (part d) (put_parts-push cs c ps)
 
-true_and : (a b : Bool) → (a && b) ≡ true → (a ≡ true) × (b ≡ true)
-true_and true b h = (refl, h)
-true_and false b h = let clash : false ≡ true = h in absurd (cc clash)
-
 -- expressions whose names are listed, and one more
 listed_push : (s : Counts) (cs : List Concept) (c : Concept) → AreListed s (parts_of cs) → IsListed s c → AreListed s (parts_of (cs ++ c ∷ []))
 listed_push s [] c all one = rw one
 listed_push s (d ∷ cs) c all one =
-    let both = true_and (uses_listed (length s.classes) (length s.roles) d) (parts_use_listed (length s.classes) (length s.roles) (parts_of cs)) all in
+    let both = and_parts (uses_listed (length s.classes) (length s.roles) d) (parts_use_listed (length s.classes) (length s.roles) (parts_of cs)) all in
     rw both.0 (listed_push s cs c both.1 one)
 
 -- the tests of items one after another, by those of each
@@ -78,7 +75,7 @@ RolesFrom ps s items k rs = (later : Counts) → Keeps s later → (rs ++ roles_
 roles_push : (s : Counts) (rs : List ℕ) (r : ℕ) → AreListedRoles s rs → IsListedRole s r → AreListedRoles s (rs ++ r ∷ [])
 roles_push s [] r all one = rw one
 roles_push s (q ∷ rs) r all one =
-    let both = true_and (nat_lt q (length s.roles)) (list_all (λ x. nat_lt x (length s.roles)) rs) all in
+    let both = and_parts (nat_lt q (length s.roles)) (list_all (λ x. nat_lt x (length s.roles)) rs) all in
     rw both.0 (roles_push s rs r both.1 one)
 
 module _ (ps : List Prefix) (items : List Item) (k : ℕ) (i : Item) (at : i ≡ get_or items k i) (inside : k < length items) where

@@ -1,6 +1,7 @@
 -- What the items of a restriction and of a cardinality stand for.
-use Rattle.std.proofs.Common.{◌≡◌, ℕ, zero, suc, ◌≤◌, List, [], ◌∷◌, Bool, true, false, ◌&&◌, length, get_or, Result, Ok, Err, drop, refl, ap, sym, ◌∙◌, arith}
+use Rattle.std.proofs.Common.{◌≡◌, ℕ, zero, suc, ◌≤◌, List, [], ◌∷◌, true, false, length, get_or, Result, Ok, Err, drop, ap, sym, ◌∙◌, arith}
 use Rattle.std.specs.Prelude.{nat_lt, IfOk}
+use Rattle.std.proofs.lemmas.Bool.{and_from}
 use Rattle.shq_base.specs.Concept.{Concept}
 use Rattle.shq_terms.specs.Uses.{uses_listed}
 use Rattle.ofn_tree.specs.Items.{Item, items_of, nesting_all}
@@ -23,17 +24,14 @@ nesting_rest zero is = omega arith
 nesting_rest (suc n) [] = omega arith
 nesting_rest (suc n) (i ∷ is) = omega (arith, nesting_rest n is)
 
-both : (a b : Bool) → a ≡ true → b ≡ true → (a && b) ≡ true
-both a b x y = rw (x, y) refl
-
 quantified_listed : (q : Quantifier) (s : Counts) (r : ℕ) (c : Concept) → IsListedRole s r → IsListed s c → IsListed s (quantified q r c)
-quantified_listed Q.Some s r c role filler = both (nat_lt r (length s.roles)) (uses_listed (length s.classes) (length s.roles) c) role filler
-quantified_listed Q.All s r c role filler = both (nat_lt r (length s.roles)) (uses_listed (length s.classes) (length s.roles) c) role filler
+quantified_listed Q.Some s r c role filler = and_from (nat_lt r (length s.roles)) (uses_listed (length s.classes) (length s.roles) c) role filler
+quantified_listed Q.All s r c role filler = and_from (nat_lt r (length s.roles)) (uses_listed (length s.classes) (length s.roles) c) role filler
 
 bounded_listed : (b : Bound) (s : Counts) (n r : ℕ) (c : Concept) → IsListedRole s r → IsListed s c → IsListed s (bounded b n r c)
-bounded_listed B.AtLeast s n r c role filler = both (nat_lt r (length s.roles)) (uses_listed (length s.classes) (length s.roles) c) role filler
-bounded_listed B.AtMost s n r c role filler = both (nat_lt r (length s.roles)) (uses_listed (length s.classes) (length s.roles) c) role filler
-bounded_listed B.Exactly s n r c role filler = both (nat_lt r (length s.roles)) (uses_listed (length s.classes) (length s.roles) c) role filler
+bounded_listed B.AtLeast s n r c role filler = and_from (nat_lt r (length s.roles)) (uses_listed (length s.classes) (length s.roles) c) role filler
+bounded_listed B.AtMost s n r c role filler = and_from (nat_lt r (length s.roles)) (uses_listed (length s.classes) (length s.roles) c) role filler
+bounded_listed B.Exactly s n r c role filler = and_from (nat_lt r (length s.roles)) (uses_listed (length s.classes) (length s.roles) c) role filler
 
 -- a role that was read, and then its filler
 pub restriction_means : (ps : List Prefix) (q : Quantifier) (role filler : Item) (mid new : Counts) (r : ℕ) (c : Concept) → MeansRole ps mid role r → walked mid (class_tests ps filler) ≡ Ok new → Means ps new filler c

@@ -1,7 +1,8 @@
 -- What axioms say, by what their items stand for.
-use Rattle.std.proofs.Common.{◌≡◌, ℕ, Bool, true, ◌&&◌, List, [], ◌∷◌, length, Result, Ok, Err, refl, ap, sym, ◌∙◌, subst}
+use Rattle.std.proofs.Common.{◌≡◌, ℕ, List, [], ◌∷◌, length, Result, Ok, Err, refl, ap, sym, ◌∙◌, subst}
 use Rattle.std.specs.Prelude.{IfOk}
 use Rattle.std.specs.Result.{result_map_both}
+use Rattle.std.proofs.lemmas.Bool.{and_from}
 use Rattle.shq_terms.specs.Uses.{uses_listed}
 use Rattle.shq_base.specs.Concept.{Concept, Parts, parts_of, part_list}
 use Rattle.shq_terms.specs.declared.axioms.Axiom.{Axiom}
@@ -18,9 +19,6 @@ use Rattle.ofn_reader.specs.Axioms.{MeansAxiom}
 use Rattle.ofn_reader.specs.Queries.{MeansPair}
 use Rattle.ofn_reader.specs.declared.keywords.AxiomKind.TheVariants as K
 
-both : (a b : Bool) → a ≡ true → b ≡ true → (a && b) ≡ true
-both a b x y = rw (x, y) refl
-
 list_of_parts : (cs : List Concept) → part_list (parts_of cs) ≡ cs
 list_of_parts [] = refl
 list_of_parts (c ∷ cs) = ap (λ l. c ∷ l) (list_of_parts cs)
@@ -32,7 +30,7 @@ sub_classes (q ∷ qs) = A.SubClassOf q.sub q.sup ∷ []
 pub sub_class_means : (ps : List Prefix) (s : Counts) (a b : Item) (q : Query) → MeansPair ps s (items_of (a ∷ b ∷ [])) q → MeansAxiom ps s K.SubClassOf (items_of (a ∷ b ∷ [])) (A.SubClassOf q.sub q.sup)
 sub_class_means ps s a b q means later keeps =
     let m = means later keeps in
-    (ap sub_classes m.0, both (uses_listed (length later.classes) (length later.roles) q.sub) (uses_listed (length later.classes) (length later.roles) q.sup) m.1 m.2)
+    (ap sub_classes m.0, and_from (uses_listed (length later.classes) (length later.roles) q.sub) (uses_listed (length later.classes) (length later.roles) q.sup) m.1 m.2)
 
 module _ (ps : List Prefix) (mid new : Counts) where
   pair_means : (a b : Item) (c d : Concept) → Means ps mid a c → walked mid (class_tests ps b) ≡ Ok new → Means ps new b d → MeansPair ps new (items_of (a ∷ b ∷ [])) (record { sub = c; sup = d })

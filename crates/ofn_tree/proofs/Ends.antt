@@ -2,6 +2,7 @@
 use Rattle.std.proofs.Common.{◌≡◌, ℕ, ◌+◌, ◌≤◌, Bool, true, false, cond, ◌&&◌, List, [], ◌∷◌, ◌++◌, length, Some, Result, Ok, Err, refl, ap, sym, ◌∙◌, subst, ◌⊎◌, inl, inr, arith, append_assoc, append-nil, nat_eq, codes, bytes_eq}
 use Rattle.std.proofs.lemmas.Grind.{common_steps}
 use Rattle.std.proofs.lemmas.Slice.Eq.{bytes_eq-Decides}
+use Rattle.std.proofs.lemmas.Bool.{and_parts}
 use Rattle.ofn_tree.specs.declared.token.Kind.{Kind}
 use Rattle.ofn_tree.specs.declared.token.Kind.TheVariants.{OpenBracket, CloseBracket, Equals, Iri, String, Tag, Carets, Name}
 use Rattle.ofn_tree.specs.Token.{PlainToken, is_close}
@@ -24,14 +25,6 @@ one_of n h = grind (arith, common_steps, h)
 
 above_zero : (n : ℕ) → 1 ≤ n → nat_eq n 0 ≡ false
 above_zero n h = grind (arith, common_steps, h)
-
-and_left : (a b : Bool) → (a && b) ≡ true → a ≡ true
-and_left true b h = refl
-and_left false b h = cc
-
-and_right : (a b : Bool) → (a && b) ≡ true → b ≡ true
-and_right true b h = h
-and_right false b h = cc
 
 close_of : (k : Kind) → is_close k ≡ true → k ≡ CloseBracket
 close_of CloseBracket h = refl
@@ -222,14 +215,14 @@ tells-over ts (u ∷ us) m tells = subst (λ l. Tells l (met_over (met_after u.k
 -- the last token closes the document's group
 ends-at : (ts : List PlainToken) (t : PlainToken) (m : Met) → Tells ts m → is_last m t ≡ true → EndsDocument (ts ++ t ∷ [])
 ends-at ts t m tells last =
-    let both = and_left (is_close t.kind && nat_eq m.depth 1) m.document last in
-    let one : m.depth ≡ 1 = one_of m.depth (and_right (is_close t.kind) (nat_eq m.depth 1) both) in
+    let both = (and_parts (is_close t.kind && nat_eq m.depth 1) m.document last).0 in
+    let one : m.depth ≡ 1 = one_of m.depth (and_parts (is_close t.kind) (nat_eq m.depth 1) both).1 in
     record {
       front = ts;
       bracket = t;
       made = refl;
-      is_inside = subst (λ d. IsInsideDocument d ts) one (tells.document (and_right (is_close t.kind && nat_eq m.depth 1) m.document last) (omega (arith, one)));
-      closes = close_of t.kind (and_left (is_close t.kind) (nat_eq m.depth 1) both);
+      is_inside = subst (λ d. IsInsideDocument d ts) one (tells.document (and_parts (is_close t.kind && nat_eq m.depth 1) m.document last).1 (omega (arith, one)));
+      closes = close_of t.kind (and_parts (is_close t.kind) (nat_eq m.depth 1) both).0;
     }
 
 abbrev EndsOrAll : ℕ → List PlainToken → Result DocumentTokens TextFault → Type 0

@@ -1,5 +1,5 @@
 -- Between the tokens of a reading there are only whitespace and comments, and no token could be longer.
-use Rattle.std.proofs.Common.{◌≡◌, ℕ, zero, suc, ◌+◌, ◌-◌, ◌<◌, ◌≤◌, Bool, true, false, cond, not, ◌&&◌, ◌||◌, ◌⊎◌, inl, inr, List, [], ◌∷◌, ◌++◌, length, get_or, take, drop, Option, Some, None, Result, Ok, Err, refl, ap, sym, ◌∙◌, subst, arith, length-drop, length-append, nat_eq, add-one, one-add}
+use Rattle.std.proofs.Common.{◌≡◌, ℕ, zero, suc, ◌+◌, ◌-◌, ◌<◌, ◌≤◌, Bool, true, false, cond, not, ◌||◌, ◌⊎◌, inl, inr, List, [], ◌∷◌, ◌++◌, length, get_or, take, drop, Option, Some, None, Result, Ok, Err, refl, ap, sym, ◌∙◌, subst, arith, length-drop, length-append, nat_eq, add-one, one-add}
 use Rattle.std.proofs.lemmas.Grind.{common_steps}
 use Rattle.std.proofs.lemmas.List.Folds.{length-prefix_len}
 use Rattle.std.proofs.lemmas.List.{drop-drop, take_all, length-take-le, take-append-drop}
@@ -7,6 +7,8 @@ use Rattle.std.proofs.lemmas.Str.{utf8_valid_len_le}
 use Rattle.std.proofs.Math.Seq.{take-add}
 use Rattle.std.specs.List.{prefix_len, list_all}
 use Rattle.std.specs.Str.Lossy.{utf8_valid_len}
+use Rattle.std.proofs.lemmas.Bool.{and_from, and_parts}
+use Rattle.shq_base.proofs.Bools.{false_from_not}
 use Rattle.ofn_tree.specs.declared.token.Kind.TheVariants.{OpenBracket, CloseBracket, Equals, Iri, Tag, Carets}
 use Rattle.ofn_tree.specs.declared.fault.TextFault.{TextFault}
 use Rattle.ofn_tree.specs.Token.{PlainToken}
@@ -18,27 +20,16 @@ use Rattle.ofn_tree.proofs.Slices.{read_ok}
 
 -- ---- the longest front of bytes that pass a test
 
-both_true : (a b : Bool) → a ≡ true → b ≡ true → (a && b) ≡ true
-both_true a b x y = rw (x, y) refl
-
 passes : (p : ℕ → Bool) (bs : List ℕ) → list_all p (take (prefix_len p bs) bs) ≡ true
 passes p [] = refl
 passes p (b ∷ bs) =
     elim (p b) as (λ v. p b ≡ v → list_all p (take (cond v (1 + prefix_len p bs) 0) (b ∷ bs)) ≡ true) [
-      | true ↦ λ is. rw one-add (both_true (p b) (list_all p (take (prefix_len p bs) bs)) is (passes p bs))
+      | true ↦ λ is. rw one-add (and_from (p b) (list_all p (take (prefix_len p bs) bs)) is (passes p bs))
       | false ↦ λ is. refl
     ] refl
 
 prefix_first : (p : ℕ → Bool) (b : ℕ) (bs : List ℕ) → p b ≡ true → prefix_len p (b ∷ bs) ≡ 1 + prefix_len p bs
 prefix_first p b bs is = ap (λ v. cond v (1 + prefix_len p bs) 0) is
-
-and_left : (a b : Bool) → (a && b) ≡ true → a ≡ true
-and_left true b h = refl
-and_left false b h = cc
-
-and_right : (a b : Bool) → (a && b) ≡ true → b ≡ true
-and_right true b h = h
-and_right false b h = cc
 
 front_head : (n b c : ℕ) (bs text : List ℕ) → take (suc n) (b ∷ bs) ≡ c ∷ text → (b ≡ c) × (take n bs ≡ text)
 front_head n b c bs text is = (cc, cc)
@@ -49,8 +40,8 @@ within_front p bs [] all is = omega arith
 within_front p [] (c ∷ text) all is = cc
 within_front p (b ∷ bs) (c ∷ text) all is =
     let both = front_head (length text) b c bs text is in
-    let first : p b ≡ true = ap p both.0 ∙ and_left (p c) (list_all p text) all in
-    let rest = within_front p bs text (and_right (p c) (list_all p text) all) both.1 in
+    let first : p b ≡ true = ap p both.0 ∙ (and_parts (p c) (list_all p text) all).0 in
+    let rest = within_front p bs text (and_parts (p c) (list_all p text) all).1 both.1 in
     omega (arith, prefix_first p b bs first, rest)
 
 -- what stands before other bytes
@@ -69,10 +60,6 @@ front_more (x ∷ bs) (suc n) b inside is = rw add-one (ap (λ (l : List ℕ). x
 
 -- ---- strings
 
-not_true : (v : Bool) → not v ≡ true → v ≡ false
-not_true true h = cc
-not_true false h = refl
-
 -- a text that may stand in a string is one that its closing quotation mark ends
 quotable_closes : (escaped : Bool) (bs text : List ℕ) → is_quotable escaped text ≡ true → take (length (text ++ 34 ∷ [])) bs ≡ text ++ 34 ∷ [] → quoted escaped bs ≡ closes (length text)
 quotable_closes true bs [] ok is = cc
@@ -84,13 +71,13 @@ quotable_closes true [] (c ∷ text) ok is = cc
 quotable_closes false [] (c ∷ text) ok is = cc
 quotable_closes true (b ∷ bs) (c ∷ text) ok is =
     let both = front_head (length (text ++ 34 ∷ [])) b c bs (text ++ 34 ∷ []) is in
-    let may : (nat_eq b 34 || nat_eq b 92) ≡ true = ap (λ d. nat_eq d 34 || nat_eq d 92) both.0 ∙ and_left (nat_eq c 34 || nat_eq c 92) (is_quotable false text) ok in
-    let rest = quotable_closes false bs text (and_right (nat_eq c 34 || nat_eq c 92) (is_quotable false text) ok) both.1 in
+    let may : (nat_eq b 34 || nat_eq b 92) ≡ true = ap (λ d. nat_eq d 34 || nat_eq d 92) both.0 ∙ (and_parts (nat_eq c 34 || nat_eq c 92) (is_quotable false text) ok).0 in
+    let rest = quotable_closes false bs text (and_parts (nat_eq c 34 || nat_eq c 92) (is_quotable false text) ok).1 both.1 in
     ap (λ v. cond v (longer (quoted false bs)) breaks) may ∙ ap longer rest ∙ ap closes (add-one (length text))
 quotable_closes false (b ∷ bs) (c ∷ text) ok is =
     let both = front_head (length (text ++ 34 ∷ [])) b c bs (text ++ 34 ∷ []) is in
-    let may : nat_eq b 34 ≡ false = ap (λ d. nat_eq d 34) both.0 ∙ not_true (nat_eq c 34) (and_left (not (nat_eq c 34)) (is_quotable (nat_eq c 92) text) ok) in
-    let rest = quotable_closes (nat_eq c 92) bs text (and_right (not (nat_eq c 34)) (is_quotable (nat_eq c 92) text) ok) both.1 in
+    let may : nat_eq b 34 ≡ false = ap (λ d. nat_eq d 34) both.0 ∙ false_from_not (nat_eq c 34) (and_parts (not (nat_eq c 34)) (is_quotable (nat_eq c 92) text) ok).0 in
+    let rest = quotable_closes (nat_eq c 92) bs text (and_parts (not (nat_eq c 34)) (is_quotable (nat_eq c 92) text) ok).1 both.1 in
     ap (λ v. cond v (closes 0) (longer (quoted (nat_eq b 92) bs))) may ∙ ap (λ d. longer (quoted (nat_eq d 92) bs)) both.0 ∙ ap longer rest ∙ ap closes (add-one (length text))
 
 -- the bytes before the quotation mark that closes a string may stand in it
@@ -106,13 +93,13 @@ stands_escaped : (b : ℕ) (bs : List ℕ) (q : Quoted) → (nat_eq b 34 || nat_
 stands_escaped b bs breaks may s = tt
 stands_escaped b bs runs_on may s = tt
 stands_escaped b bs (closes n) may s =
-    (rw add-one (both_true _ _ may s.0), take_more (n + 1) b bs ∙ ap (λ (l : List ℕ). b ∷ l) s.1 ∙ sym (ap (λ (l : List ℕ). l ++ 34 ∷ []) (take_more n b bs)))
+    (rw add-one (and_from _ _ may s.0), take_more (n + 1) b bs ∙ ap (λ (l : List ℕ). b ∷ l) s.1 ∙ sym (ap (λ (l : List ℕ). l ++ 34 ∷ []) (take_more n b bs)))
 
 stands_plain : (b : ℕ) (bs : List ℕ) (q : Quoted) → nat_eq b 34 ≡ false → QuotedStands (nat_eq b 92) bs q → QuotedStands false (b ∷ bs) (longer q)
 stands_plain b bs breaks may s = tt
 stands_plain b bs runs_on may s = tt
 stands_plain b bs (closes n) may s =
-    (rw add-one (both_true _ _ (ap not may) s.0), take_more (n + 1) b bs ∙ ap (λ (l : List ℕ). b ∷ l) s.1 ∙ sym (ap (λ (l : List ℕ). l ++ 34 ∷ []) (take_more n b bs)))
+    (rw add-one (and_from _ _ (ap not may) s.0), take_more (n + 1) b bs ∙ ap (λ (l : List ℕ). b ∷ l) s.1 ∙ sym (ap (λ (l : List ℕ). l ++ 34 ∷ []) (take_more n b bs)))
 
 same_number : (b n : ℕ) → nat_eq b n ≡ true → b ≡ n
 same_number b n h = grind (arith, common_steps, h)
@@ -272,7 +259,7 @@ name-lies b bs is =
     record {
       fresh = grind (arith, common_steps, is);
       size = omega (arith, len);
-      stands = record { form = (omega arith, both_true (is_name_byte b) (list_all is_name_byte (take n bs)) is (passes is_name_byte bs)); written = ap (λ m. b ∷ take m bs) len };
+      stands = record { form = (omega arith, and_from (is_name_byte b) (list_all is_name_byte (take n bs)) is (passes is_name_byte bs)); written = ap (λ m. b ∷ take m bs) len };
       longest = λ other w. omega (arith, len, within_front is_name_byte (b ∷ bs) other w.form.1 w.written, prefix_first is_name_byte b bs is);
     }
 

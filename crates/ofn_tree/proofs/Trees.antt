@@ -2,6 +2,7 @@
 use Rattle.std.proofs.Common.{◌≡◌, ℕ, zero, suc, ◌+◌, ◌-◌, ◌<◌, ◌≤◌, max, Bool, true, false, cond, List, [], ◌∷◌, ◌++◌, map, drop, length, get_or, Option, Some, None, Ok, Err, refl, ap, sym, ◌∙◌, subst, append_assoc, append-nil, arith, nat_lt, nat_eq, ◌&&◌}
 use Rattle.std.proofs.lemmas.Grind.{common_steps}
 use Rattle.std.proofs.lemmas.List.{drop-drop}
+use Rattle.std.proofs.lemmas.Bool.{and_parts}
 use Rattle.ofn_tree.specs.declared.token.Token.{Token}
 use Rattle.ofn_tree.specs.declared.token.Kind.{Kind}
 use Rattle.ofn_tree.specs.declared.token.Kind.TheVariants.{OpenBracket, CloseBracket, Equals, Iri, String, Tag, Carets, Name}
@@ -147,10 +148,6 @@ datatype_no_bracket String h = cc
 datatype_no_bracket Tag h = cc
 datatype_no_bracket Carets h = cc
 
-and_both : (a b : Bool) → (a && b) ≡ true → (a ≡ true) × (b ≡ true)
-and_both true b h = (refl, h)
-and_both false b h = cc
-
 -- ---- marks
 
 marks-skip : (k : ℕ) (ts : List PlainToken) → marks_from k ts ≡ marks (drop k ts)
@@ -225,7 +222,7 @@ typed-fault end depth t (u ∷ us) carets datatype =
 literal-fault-at : (end depth : ℕ) (t : PlainToken) (ts : List PlainToken) (v w : Bool) → is_tag t.kind ≡ v → begins_with_type (t ∷ ts) ≡ w → bracket_fault end depth (t ∷ ts) ≡ bracket_fault end depth (drop (cond v 1 (cond w 2 0)) (t ∷ ts))
 literal-fault-at end depth t ts true w tag type = let no_bracket = tag_no_bracket t.kind tag in fault-other end depth t ts no_bracket.0 no_bracket.1
 literal-fault-at end depth t ts false true tag type =
-    let both = and_both (is_carets t.kind) (begins_with_datatype ts) type in
+    let both = and_parts (is_carets t.kind) (begins_with_datatype ts) type in
     typed-fault end depth t ts both.0 both.1
 literal-fault-at end depth t ts false false tag type = refl
 
@@ -268,7 +265,7 @@ pub named-at : (end depth : ℕ) (tokens : List Token) (place : ℕ) (d : Token)
     → IsGroup end depth (Some (get_or tokens place d).text.now) (get_or tokens place d).line (tokens_from tokens (place + 1)) rest i → IsItems end depth (tokens_from tokens place) rest (i ∷ [])
 named-at end depth tokens place d rest i inside heads g =
     let t : PlainToken = plain_token (get_or tokens place d) in
-    let both = and_both (is_name t.kind) (begins_with_open (tokens_from tokens (place + 1))) (heads-at tokens place d true inside heads) in
+    let both = and_parts (is_name t.kind) (begins_with_open (tokens_from tokens (place + 1))) (heads-at tokens place d true inside heads) in
     subst (λ l. IsItems end depth l rest (i ∷ [])) (sym (tokens-at tokens place d inside))
     (IsItems-named end depth t (tokens_from tokens (place + 1)) rest i both.0 both.1 g)
 
@@ -276,13 +273,13 @@ pub head-fault : (end depth : ℕ) (tokens : List Token) (place : ℕ) (d : Toke
     → bracket_fault end depth (tokens_from tokens place) ≡ bracket_fault end depth (tokens_from tokens (place + 1))
 head-fault end depth tokens place d inside heads =
     let t : PlainToken = plain_token (get_or tokens place d) in
-    let both = and_both (is_name t.kind) (begins_with_open (tokens_from tokens (place + 1))) (heads-at tokens place d true inside heads) in
+    let both = and_parts (is_name t.kind) (begins_with_open (tokens_from tokens (place + 1))) (heads-at tokens place d true inside heads) in
     let others = name_not_open t.kind both.0 in
     ap (bracket_fault end depth) (tokens-at tokens place d inside) ∙ fault-other end depth t (tokens_from tokens (place + 1)) others.0 others.1
 
 pub head-opens : (tokens : List Token) (place : ℕ) (d : Token) → place < length tokens → begins_with_head (tokens_from tokens place) ≡ true → begins_with_open (tokens_from tokens (place + 1)) ≡ true
 head-opens tokens place d inside heads =
-    (and_both (is_name (get_or tokens place d).kind) (begins_with_open (tokens_from tokens (place + 1))) (heads-at tokens place d true inside heads)).1
+    (and_parts (is_name (get_or tokens place d).kind) (begins_with_open (tokens_from tokens (place + 1))) (heads-at tokens place d true inside heads)).1
 
 pub single-at : (end depth : ℕ) (tokens : List Token) (place rest : ℕ) (d : Token) (i : Item) → place < length tokens → rest ≡ rest_behind (tokens_from tokens place)
     → begins_with_open (tokens_from tokens place) ≡ false → begins_with_close (tokens_from tokens place) ≡ false → begins_with_head (tokens_from tokens place) ≡ false

@@ -5,8 +5,8 @@ use Rattle.std.specs.Cmp.{nat_cmp_total}
 use Rattle.std.specs.Ordering.{nat_cmp}
 use Rattle.std.specs.FinSet as set
 use Rattle.std.proofs.lemmas.Bool.{and_from}
+use Rattle.shq_base.proofs.Bools.{same_truth}
 use Rattle.lane_sieve.specs.Sets.{NumberSet}
-use Rattle.lane_sieve.proofs.Bits.{bool_same}
 use Rattle.axiom_sets.specs.Sets.{Limited, IsWithin}
 use Rattle.pinpointing_specs.specs.Smallest.{numbers_to}
 use Rattle.pinpointing_specs.proofs.Choices.{in_numbers_to}
@@ -36,7 +36,7 @@ same_from s t k (a ∷ rest) same =
 
 all_in : (s : NumberSet) (n j : ℕ) → 1 ≤ j → j ≤ n → set.contains s j ≡ set.contains (set.intersection s (numbers_to n)) j
 all_in s n j low high =
-    bool_same (set.contains s j) (set.contains (set.intersection s (numbers_to n)) j)
+    same_truth (set.contains s j) (set.contains (set.intersection s (numbers_to n)) j)
     (λ h. set.contains-intersection nat_cmp_total s (numbers_to n) j ∙ and_from (set.contains s j) (set.contains (numbers_to n) j) h (in_numbers_to n j low high))
     (λ h. intersection_part s (numbers_to n) j h)
 
@@ -57,7 +57,7 @@ same_members s t e = set.same_set nat_cmp_total set.nat_cmp-IsAntisymmetric s t 
 part_of_all : (n : ℕ) (s : NumberSet) → IsWithin n s → s ≡ set.intersection s (numbers_to n)
 part_of_all n s within =
     same_members s (set.intersection s (numbers_to n))
-    (λ k. bool_same (set.contains s k) (set.contains (set.intersection s (numbers_to n)) k)
+    (λ k. same_truth (set.contains s k) (set.contains (set.intersection s (numbers_to n)) k)
     (λ h. let w = within k h in sym (all_in s n k w.0 w.1) ∙ h)
     (λ h. intersection_part s (numbers_to n) k h))
 

@@ -2,15 +2,11 @@
 use Rattle.std.proofs.Common.{◌≡◌, ℕ, zero, suc, ◌+◌, ◌<◌, ◌≤◌, ◌&&◌, ◌||◌, eqb, Bool, true, false, List, [], ◌∷◌, refl, ap, subst, sym, ◌∙◌, inl, inr, arith}
 use Rattle.std.specs.List.{list_any, range_with_len}
 use Rattle.std.proofs.lemmas.Bool.{and_parts, and_from, or_cases, or_left, or_right, eqb-true, eq-eqb, cases_lt, cases_eq, false≢true}
+use Rattle.shq_base.proofs.Bools.{same_truth}
 use Rattle.fact_specs.specs.declared.Fact.{Fact}
 use Rattle.fact_specs.specs.declared.Fact.TheVariants.{Has, Edge, Apart, Same}
 use Rattle.fact_specs.specs.Joins.{rep}
 use Rattle.fact_specs.specs.State.{gives_edge, has_edge}
-
-pub same_tests : (a b : Bool) → (a ≡ true → b ≡ true) → (b ≡ true → a ≡ true) → a ≡ b
-same_tests true b to back = sym (to refl)
-same_tests false true to back = back refl
-same_tests false false to back = refl
 
 -- ---- numbers in a range
 
@@ -85,7 +81,7 @@ module _ (kind : ℕ → Bool) (m : ℕ → ℕ) (from to : ℕ) where
 
     lower_edges : edge_by kind fs ≡ (edge_by (λ r. eqb r role) fs || list_any here_by (range_with_len 0 n))
     lower_edges =
-        same_tests (edge_by kind fs) (edge_by (λ r. eqb r role) fs || list_any here_by (range_with_len 0 n))
+        same_truth (edge_by kind fs) (edge_by (λ r. eqb r role) fs || list_any here_by (range_with_len 0 n))
         (λ h.
         let w = by_role fs h in
         elim (cases_lt w.role n) [

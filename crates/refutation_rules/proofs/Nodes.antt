@@ -3,7 +3,9 @@ use Rattle.std.proofs.Common.{◌≡◌, ℕ, zero, suc, ◌+◌, ◌<◌, ◌�
 use Rattle.std.specs.List.{list_any, range_with_len}
 use Rattle.std.proofs.lemmas.Bool.{and_parts, and_from, or_cases, or_left, or_right, eqb-true, eq-eqb, leb-true, le-leb, ltb-true, lt-ltb, not-true, false≢true}
 use Rattle.std.proofs.lemmas.List.{map-append}
+use Rattle.std.proofs.Math.Bool.{or-false, or_assoc}
 use Rattle.shq_base.specs.Concept.{Concept}
+use Rattle.shq_base.proofs.Bools.{same_truth}
 use Rattle.shape_specs.specs.Shape.{Shape}
 use Rattle.shape_specs.specs.Shape.Shape.{some_of as some_shape, at_least as least_shape}
 use Rattle.shape_specs.specs.Tree.{tree_of}
@@ -24,24 +26,16 @@ use Rattle.refutation_rules.specs.declared.outcome.Outcome.TheVariants.{Nodes}
 use Rattle.refutation_rules.specs.declared.outcome.NewNodes.{NewNodes}
 use Rattle.refutation_rules.specs.Outcomes.{known_of, branch_with_nodes, children_after, IsFitIfSome}
 use Rattle.refutation_rules.specs.RefutationContext.{RefutationContext, line_children, IsOutcome, IsHeldShape}
-use Rattle.refutation_rules.proofs.Edges.{same_tests, range_any, any_range}
+use Rattle.refutation_rules.proofs.Edges.{range_any, any_range}
 
 -- ---- one number more in a range
 
-or_false : (a : Bool) → (a || false) ≡ a
-or_false true = refl
-or_false false = refl
-
-or_assoc : (a b c : Bool) → (a || (b || c)) ≡ ((a || b) || c)
-or_assoc true b c = refl
-or_assoc false b c = refl
-
 more_numbers : (p : ℕ → Bool) (a n : ℕ) → list_any p (range_with_len a (suc n)) ≡ (list_any p (range_with_len a n) || p (a + n))
-more_numbers p a zero = let e : a ≡ a + 0 = omega arith in or_false (p a) ∙ ap p e
+more_numbers p a zero = let e : a ≡ a + 0 = omega arith in or-false (p a) ∙ ap p e
 more_numbers p a (suc n) =
     let rest = list_any p (range_with_len (a + 1) n) in
     let e : a + 1 + n ≡ a + suc n = omega arith in
-    ap (λ (b : Bool). p a || b) (more_numbers p (a + 1) n) ∙ or_assoc (p a) rest (p (a + 1 + n)) ∙ ap (λ (k : ℕ). (p a || rest) || p k) e
+    ap (λ (b : Bool). p a || b) (more_numbers p (a + 1) n) ∙ sym (or_assoc (p a) rest (p (a + 1 + n))) ∙ ap (λ (k : ℕ). (p a || rest) || p k) e
 
 pub any_range_more : (p : ℕ → Bool) (a n : ℕ) → list_any p (range_with_len a (n + 1)) ≡ (list_any p (range_with_len a n) || p (a + n))
 any_range_more p a n = ap (λ (k : ℕ). list_any p (range_with_len a k)) (add-one n) ∙ more_numbers p a n
@@ -76,7 +70,7 @@ module _ (y n : ℕ) where
 
   pub some_known : (nodes : List ℕ) → list_any is_new nodes ≡ list_any (λ z. list_any (λ w. eqb w z) nodes) (range_with_len y n)
   some_known nodes =
-      same_tests (list_any is_new nodes) (list_any (λ z. list_any (λ w. eqb w z) nodes) (range_with_len y n)) (in_list nodes)
+      same_truth (list_any is_new nodes) (list_any (λ z. list_any (λ w. eqb w z) nodes) (range_with_len y n)) (in_list nodes)
       (λ h. let w = range_any (λ z. list_any (λ w. eqb w z) nodes) y n h in of_list nodes w.number w.low w.high w.passes)
 
 -- ---- their facts
@@ -127,7 +121,7 @@ pub some_made : (f : RefutationContext) (k : Branch) (x y c s e : ℕ) (o : Opti
     → o ≡ when (are_free k y 1) (Some (Nodes (record { from = x; role = s; concept = e; first = y; count = 1 }))) → IsOutcome f k (some_line x y c) o
 some_made f k x y c s e o h small is =
     let fits : leb (y + 1) (2 ^ 32) ≡ true = le-leb (y + 1) (2 ^ 32) (omega arith) in
-    let free : not (has_node k y) ≡ are_free k y 1 = ap not (sym (or_false (has_node k y))) ∙ ap (λ (b : Bool). b && not (has_node k y || false)) (sym fits) in
+    let free : not (has_node k y) ≡ are_free k y 1 = ap not (sym (or-false (has_node k y))) ∙ ap (λ (b : Bool). b && not (has_node k y || false)) (sym fits) in
     made f k (some_line x y c) (record { from = x; role = s; concept = e; first = y; count = 1 }) (are_free k y 1) o
     (h.goes_on (some_children (known_of f.table k) x y)
     ∙ ap (λ (b : Bool). when b (Some (known_nodes (known_of f.table k) x s (tree_of f.table e) y 1 ∷ []))) free)

@@ -1,6 +1,7 @@
 -- Tests and counts of the numbers below a bound.
 use Rattle.std.proofs.Common.{◌≡◌, ℕ, zero, suc, ◌+◌, ◌<◌, ◌≤◌, ◌&&◌, Bool, true, false, not, cond, eqb, refl, ap, ◌∙◌, sym, subst, arith, inl, inr}
 use Rattle.std.proofs.lemmas.Bool.{cases_eq, and_parts, and_from, and_right, eq-eqb, ne_eqb}
+use Rattle.std.proofs.Math.Bool.{and-true}
 use Rattle.shq_meaning.specs.Below.{all_below, count_below}
 
 -- ---- tests
@@ -83,12 +84,8 @@ count_agree (suc m) p q same =
 abbrev pub but : (ℕ → Bool) → ℕ → ℕ → Bool
 but p v y = p y && not (eqb y v)
 
-and_end : (b : Bool) → (b && true) ≡ b
-and_end true = refl
-and_end false = refl
-
 other_passes : (p : ℕ → Bool) (v y : ℕ) → (y ≡ v → ⊥) → but p v y ≡ p y
-other_passes p v y ne = ap (λ (b : Bool). p y && not b) (ne_eqb y v ne) ∙ and_end (p y)
+other_passes p v y ne = ap (λ (b : Bool). p y && not b) (ne_eqb y v ne) ∙ and-true (p y)
 
 itself_fails : (p : ℕ → Bool) (v y : ℕ) → y ≡ v → but p v y ≡ false
 itself_fails p v y e = and_right (p y) (not (eqb y v)) (ap not (eq-eqb y v e))

@@ -7,6 +7,7 @@ use Rattle.shape_specs.specs.Normal.{normal_form, negated_form}
 use Rattle.shape_specs.specs.Rows.{Part, inclusion, range, Theory, part_at, is_among, conjunct_at, are_name_positions, row_concept}
 use Rattle.shq_meaning.specs.Below.{all_below, count_below}
 use Rattle.shq_meaning.specs.Truth.{Interpretation, implies, each_successor, holds, hold_all, hold_any}
+use Rattle.shq_meaning.proofs.Implied.{implied, implies_from}
 use Rattle.shq_nnf.specs.Meeting.{meets_part}
 use Rattle.shq_nnf.proofs.Truth.{normal_truth, negated_truth}
 use Rattle.fact_specs.specs.declared.Fact.TheVariants.{Has, Apart, Same}
@@ -18,14 +19,6 @@ use Rattle.refutation_truth.proofs.Below.{all_at, all_from, picks}
 use Rattle.refutation_truth.proofs.Models.{found, all_with, is_true, is_on, has_place, led, apart_are_counted, Model, more_facts}
 use Rattle.refutation_truth.proofs.Fresh.{with_new}
 use Rattle.refutation_truth.proofs.Rows.{row_holds}
-
-pub implied : (a b : Bool) → implies a b ≡ true → a ≡ true → b ≡ true
-implied true b h e = h
-implied false b h e = cc
-
-pub implies_from : (a b : Bool) → (a ≡ true → b ≡ true) → implies a b ≡ true
-implies_from true b h = h refl
-implies_from false b h = refl
 
 -- an interpretation in which the tests of a theory are right and its parts are met
 pub record MeetsTheory (i : Interpretation) (theory : Theory) : Type 0 where

@@ -1,10 +1,11 @@
 -- An interpretation that meets the named axioms meets the theory that is made of them.
-use Rattle.std.proofs.Common.{◌≡◌, ℕ, zero, suc, ◌+◌, ◌-◌, ◌<◌, ◌&&◌, ◌||◌, Bool, true, false, cond, eqb, List, [], ◌∷◌, get_or, Option, Some, None, refl, ap, ◌∙◌, sym, subst, inl, inr}
+use Rattle.std.proofs.Common.{◌≡◌, ℕ, zero, suc, ◌+◌, ◌-◌, ◌<◌, ◌&&◌, Bool, true, cond, eqb, List, [], ◌∷◌, get_or, Option, Some, None, refl, ap, ◌∙◌, sym, subst, inl, inr}
 use Rattle.std.specs.Prelude.{slice_get}
 use Rattle.std.specs.List.{list_any, list_all, find}
 use Rattle.std.specs.Option.{option_map}
 use Rattle.std.proofs.lemmas.Bool.{cases_Bool, and_parts, and_from, or_cases, eqb-true}
 use Rattle.std.proofs.lemmas.List.Folds.{list_all-append, list_any-append}
+use Rattle.shq_base.proofs.Bools.{or_only}
 use Rattle.shq_terms.specs.declared.axioms.Axiom.{Axiom}
 use Rattle.shq_terms.specs.declared.axioms.Axiom.TheVariants.{SubRole, EquivalentRoles, Transitive}
 use Rattle.shq_terms.specs.declared.axioms.Numbered.{Numbered}
@@ -12,6 +13,7 @@ use Rattle.shape_specs.specs.Rows.{Part, NumberedPart, is_numbered}
 use Rattle.shape_specs.specs.Roles.{IsBelow, itself, by_step}
 use Rattle.shq_meaning.specs.Below.{all_below}
 use Rattle.shq_meaning.specs.Truth.{Interpretation, implies, included, roles_equal, meets, meets_all}
+use Rattle.shq_meaning.proofs.Implied.{implied}
 use Rattle.shq_nnf.specs.Parts.{axiom_parts}
 use Rattle.shq_nnf.specs.Meeting.{meets_part, meets_parts}
 use Rattle.shq_nnf.proofs.Meeting.{axiom_is_parts}
@@ -21,13 +23,9 @@ use Rattle.role_box.proofs.Limits.{test_is_below}
 use Rattle.refutation_truth.specs.Theory.{axioms_in, named_axioms, all_axioms, parts_in, parts_at, numbered_parts, named_parts, theory_of}
 use Rattle.refutation_truth.proofs.Below.{all_at}
 use Rattle.refutation_truth.proofs.Models.{found}
-use Rattle.refutation_truth.proofs.Lines.{implied, MeetsTheory}
+use Rattle.refutation_truth.proofs.Lines.{MeetsTheory}
 
 -- ---- roles
-
-only : (b : Bool) → (b || false) ≡ true → b ≡ true
-only true h = refl
-only false h = h
 
 module _ (i : Interpretation) where
   -- each pair of r is one of s
@@ -51,13 +49,13 @@ module _ (i : Interpretation) where
 
   step_up : (a : Axiom) (r s : ℕ) → list_any (λ b. leads_by b r s) (role_part a) ≡ true → meets i a ≡ true → Upward r s
   step_up (SubRole lower upper) r s h m =
-      let b = and_parts (eqb lower r) (eqb upper s) (only (eqb lower r && eqb upper s) h) in
+      let b = and_parts (eqb lower r) (eqb upper s) (or_only (eqb lower r && eqb upper s) h) in
       let from = eqb-true lower r b.0 in
       let to = eqb-true upper s b.1 in
       let same : included i lower upper ≡ included i r s = λ j. included i (from j) (to j) in
       included_up r s (sym same ∙ m)
   step_up (EquivalentRoles rs) r s h m =
-      let b = and_parts (is_among rs r) (is_among rs s) (only (is_among rs r && is_among rs s) h) in
+      let b = and_parts (is_among rs r) (is_among rs s) (or_only (is_among rs r && is_among rs s) h) in
       let up = and_parts (included i (get_or rs 0 0) r) (included i r (get_or rs 0 0)) (both_ways rs r m b.0) in
       let down = and_parts (included i (get_or rs 0 0) s) (included i s (get_or rs 0 0)) (both_ways rs s m b.1) in
       λ x y lt mt e. included_up (get_or rs 0 0) s down.0 x y lt mt (included_up r (get_or rs 0 0) up.1 x y lt mt e)
@@ -65,7 +63,7 @@ module _ (i : Interpretation) where
 
   step_on : (a : Axiom) (t : ℕ) → list_any (λ b. is_transitive_by b t) (role_part a) ≡ true → meets i a ≡ true → Onward t
   step_on (Transitive r) t h m =
-      let same = eqb-true r t (only (eqb r t) h) in
+      let same = eqb-true r t (or_only (eqb r t) h) in
       subst Onward same
       (λ x y z lt mt nt e f.
       let from_x : all_below i.size (λ w. implies (i.in_role r x w) (all_below i.size (λ v. implies (i.in_role r w v) (i.in_role r x v)))) ≡ true =

@@ -5,6 +5,7 @@ use Rattle.std.proofs.Math.Bool.{or_assoc, or-false, and-or_distrib_right}
 use Rattle.std.proofs.lemmas.Bool.{cases_eq, cases_lt}
 use Rattle.std.proofs.Math.Seq.{get_or-append_seam, take-append_seam}
 use Rattle.std.proofs.lemmas.List.{get_or_past, get_or-set_same, get_or-set_other}
+use Rattle.shq_base.proofs.Bools.{or_and_gathered}
 use Rattle.role_box.specs.Rows.{has, linked}
 use Rattle.role_box.specs.declared.role_axiom.RoleAxiom.{RoleAxiom}
 use Rattle.role_box.specs.Steps.{is_among, leads}
@@ -153,9 +154,6 @@ own_more rows row empty role none more before =
           ];
     }
 
-or_and-step : (a b c d : Bool) → ((a || (b && d)) || (c && d)) ≡ (a || ((b || c) && d))
-or_and-step a b c d = or_assoc a (b && d) (c && d) ∙ ap (λ (e : Bool). a || e) (sym (and-or_distrib_right b c d))
-
 -- one role of an equivalence more
 pub equivalence_more : (old rows : List (List ℕ)) (all : List ℕ) (roles : List ℕ) (i : ℕ) (row : List ℕ) → i < length roles → get_or roles i 0 < length rows
     → ((s : ℕ) → has row s ≡ (has (get_or rows (get_or roles i 0) []) s || has all s))
@@ -168,7 +166,7 @@ equivalence_more old rows all roles i row within lt h before r s =
     let now : linked (set rows role row) r s ≡ (linked rows r s || (eqb role r && has all s)) = linked-set_more rows role row (has all) lt h r s in
     let earlier : (linked rows r s || ((eqb role r || is_among rest r) && has all s)) ≡ (linked old r s || (is_among roles r && has all s)) =
     subst (λ (xs : List ℕ). (linked rows r s || (is_among xs r && has all s)) ≡ (linked old r s || (is_among roles r && has all s))) e (before r s) in
-    let step = or_and-step (linked rows r s) (eqb role r) (is_among rest r) (has all s) in
+    let step = or_and_gathered (linked rows r s) (eqb role r) (is_among rest r) (has all s) in
     rw add-one cc
 
 -- the row of one role more

@@ -5,6 +5,7 @@ use Rattle.std.specs.FinSet as sets
 use Rattle.std.proofs.lemmas.Bool.{le-leb, lt-leb, lt-ltb, cases_Bool, and_left, and_right}
 use Rattle.std.proofs.lemmas.List.Elements.{All-get_or}
 use Rattle.std.proofs.lemmas.Option.{slice_get_within, get_or_from_slice_get}
+use Rattle.std.proofs.Math.Bool.{and-true}
 use Rattle.lane_sieve.proofs.Ranges.{any-passing}
 use Rattle.axiom_sets.specs.Sets.{Limited, IsWithin, member_list}
 use Rattle.shq_terms.specs.declared.axioms.Numbered.{Numbered}
@@ -18,15 +19,11 @@ use Rattle.row_cache.specs.Rows.{AreInLimit, IsPartFound}
 
 -- ---- the numbers of a set
 
-with_true : (b : Bool) → (b && true) ≡ b
-with_true true = refl
-with_true false = refl
-
 pub among_members : (s : Limited) (a : ℕ) → 1 ≤ a → a ≤ s.limit → sets.contains s.members a ≡ is_among (member_list s) a
 among_members s a low high =
     let p = sets.contains s.members in
     let within : (leb 0 a && ltb a (0 + (s.limit + 1))) ≡ true = rw (le-leb 0 a (omega arith), lt-ltb a (0 + (s.limit + 1)) (omega arith)) refl in
-    sym (any-passing p 0 (s.limit + 1) a ∙ ap (λ (b : Bool). p a && b) within ∙ with_true (p a))
+    sym (any-passing p 0 (s.limit + 1) a ∙ ap (λ (b : Bool). p a && b) within ∙ and-true (p a))
 
 pub no_member : (s : Limited) (a : ℕ) → IsWithin s.limit s.members → (a < 1) ⊎ (s.limit < a) → false ≡ is_among (member_list s) a
 no_member s a within outside =

@@ -3,6 +3,7 @@ use Rattle.std.proofs.Common.{◌≡◌, ℕ, zero, suc, ◌+◌, ◌<◌, ◌&&
 use Rattle.std.specs.Prelude.{IsSome}
 use Rattle.std.specs.List.{list_all, list_any}
 use Rattle.std.proofs.lemmas.Bool.{cases_Bool, cases_eq, and_parts, and_from, or_cases, or_left, or_right, eqb-true}
+use Rattle.std.proofs.Math.Bool.{or-false}
 use Rattle.shq_base.proofs.Bools.{same_truth}
 use Rattle.shq_base.specs.Concept.{Concept, top, some_of, parts_of}
 use Rattle.shape_specs.specs.Normal.{negated_form}
@@ -11,13 +12,13 @@ use Rattle.shape_specs.specs.Rows.Trigger.{always, names, edge, end_of}
 use Rattle.shq_terms.specs.declared.axioms.Axiom.{Axiom}
 use Rattle.shq_meaning.specs.Below.{all_below, count_below}
 use Rattle.shq_meaning.specs.Truth.{Interpretation, implies, holds, hold_any, out_degree, meets}
+use Rattle.shq_meaning.proofs.Implied.{implied, implies_from}
 use Rattle.shq_nnf.specs.Parts.{axiom_parts}
 use Rattle.shq_nnf.specs.Meeting.{meets_part, meets_parts, is_role_axiom}
-use Rattle.shq_nnf.proofs.Truth.{or_holds, or_end, negated_truth, some_is_some, some_cond}
+use Rattle.shq_nnf.proofs.Truth.{or_holds, negated_truth, some_is_some, some_cond}
 use Rattle.shq_nnf.proofs.Meeting.{axiom_is_parts}
 use Rattle.refutation_truth.proofs.Below.{all_at, all_from}
 use Rattle.refutation_truth.proofs.Models.{found}
-use Rattle.refutation_truth.proofs.Lines.{implied, implies_from}
 use Rattle.refutation_truth.proofs.Rows.{row_holds}
 use Rattle.row_triggers.specs.Triggers.{trigger_for, fixed_concept}
 use Rattle.row_triggers.specs.Truth.{in_degree, is_triggered, meets_row, meets_row_if}
@@ -60,7 +61,7 @@ module _ (i : Interpretation) (x : ℕ) (d : Concept) (ps : List ℕ) where
 
   -- one that is in all conjuncts and in the row's concept is in the right side
   one_taken : (cs : List Concept) (first : ℕ) → one_of (others_from first ps cs) ≡ true → list_all (λ c. holds i c x) cs ≡ true → holds i d x ≡ true
-  one_taken [] first h all = sym (or_end (holds i d x)) ∙ h
+  one_taken [] first h all = sym (or-false (holds i d x)) ∙ h
   one_taken (c ∷ cs) first h all =
       let both = and_parts (holds i c x) (list_all (λ e. holds i e x) cs) all in
       elim (cases_Bool (is_among ps first)) [

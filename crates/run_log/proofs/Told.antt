@@ -3,6 +3,7 @@ use Rattle.std.proofs.Common.{◌≡◌, Bool, true, false, List, refl, subst}
 use Rattle.std.specs.Prelude.{◌&&◌, not}
 use Rattle.std.proofs.lemmas.List.Elements.{All-contains}
 use Rattle.shq_base.specs.Concept.{Concept}
+use Rattle.shq_base.proofs.Bools.{none_outside}
 use Rattle.shq_terms.specs.Listed.{Listed}
 use Rattle.shq_terms.specs.declared.axioms.Axiom.{Axiom}
 use Rattle.shq_meaning.specs.Truth.{holds, Entails}
@@ -27,12 +28,6 @@ answer_is_true o log asked s q steps (Spent t) honest is there part = tt
 
 -- ---- chains
 
--- each counter-element would be one between two other classes
-between : (a b c : Bool) → (a && not b) ≡ false → (b && not c) ≡ false → (a && not c) ≡ false
-between false b c h k = refl
-between true true c h k = k
-between true false c h k = cc
-
 not_outside_all : (a : Bool) → (a && not true) ≡ false
 not_outside_all true = refl
 not_outside_all false = refl
@@ -54,7 +49,7 @@ module _ (o : Listed) (log : List Entry) (honest : EachIsHonest o log) (tests : 
       itself true = refl
       itself false = refl
   all_true _ _ (onward x y z step rest) = λ i some meets v lt.
-      between (holds i x v) (holds i y v) (holds i z v) (step_is_true x y step i some meets v lt) (all_true y z rest i some meets v lt)
+      none_outside (holds i x v) (holds i y v) (holds i z v) (step_is_true x y step i some meets v lt) (all_true y z rest i some meets v lt)
 
 pub chain_is_true : ChainsAreTrue
 chain_is_true o log x y honest tests chain = all_true o log honest tests x y chain

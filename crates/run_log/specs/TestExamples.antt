@@ -1,5 +1,5 @@
 -- Worked tests: what a log may say of the end of a test, and what it may not.
-use Rattle.std.specs.Prelude.{◌≡◌, ℕ, zero, suc, ◌+◌, ◌<◌, Bool, true, false, not, ◌==◌, ◌&&◌, List, [], ◌∷◌, ◌++◌, length, Some, None, slice_get, Contains, if◌then◌else◌, refl}
+use Rattle.std.specs.Prelude.{◌≡◌, ℕ, zero, suc, ◌+◌, ◌<◌, true, false, ◌==◌, List, [], ◌∷◌, ◌++◌, length, Some, None, slice_get, Contains, if◌then◌else◌, refl}
 use Rattle.std.proofs.Common.{lit<, ap, sym, subst, ◌∙◌, arith, inl, inr}
 use Rattle.std.proofs.lemmas.Bool.Decides.{nat_tests}
 use Rattle.std.proofs.lemmas.List.Elements.{All-nil, All-cons, All-head, All-same}
@@ -7,6 +7,7 @@ use Rattle.std.specs.List.{count_by, find}
 use Rattle.std.specs.Option.{option_map}
 use Rattle.std.specs.FinSet as set
 use Rattle.std.specs.Ordering.{nat_cmp}
+use Rattle.std.proofs.Math.Bool.{and-not_self}
 use Rattle.axiom_sets.specs.Sets.{Limited, member_list}
 use Rattle.shq_base.specs.Concept.{top, bottom, name, intersection, parts_of}
 use Rattle.shq_terms.specs.declared.axioms.Axiom.{Axiom}
@@ -60,12 +61,8 @@ none_named : (ks : List ℕ) → named_axioms [] ks ≡ []
 none_named [] = refl
 none_named (k ∷ ks) = none_named ks
 
-no_contradiction : (b : Bool) → (b && not b) ≡ false
-no_contradiction true = refl
-no_contradiction false = refl
-
 itself_follows : (s : Limited) → FollowsIn bare s itself
-itself_follows s i some meets x lt = no_contradiction (i.in_class 0 x)
+itself_follows s i some meets x lt = and-not_self (i.in_class 0 x)
 
 abbrev one_element : Interpretation
 one_element = record { size = 1; in_class = λ a x. false; in_role = λ r x y. false }

@@ -2,7 +2,8 @@
 use Rattle.std.proofs.Common.{◌≡◌, ℕ, zero, suc, ◌+◌, ◌*◌, ◌<◌, ◌≤◌, Bool, true, false, cond, eqb, List, [], ◌∷◌, length, refl, subst, arith, inl, inr}
 use Rattle.std.specs.List.{list_any}
 use Rattle.std.proofs.lemmas.Bool.{cases_eq, or_cases, eqb-true}
-use Rattle.trail_laws.proofs.Counting.{cond_le, cond_more, cond_one}
+use Rattle.shq_base.proofs.Bools.{counted_le, counted_at_most_one}
+use Rattle.trail_laws.proofs.Counting.{cond_more}
 
 -- ---- sums
 
@@ -37,7 +38,7 @@ count_in (d ∷ ds) p = count_in ds p + cond (p d) 1 0
 
 pub in_le : (ds : List ℕ) (p q : ℕ → Bool) → ((d : ℕ) → p d ≡ true → q d ≡ true) → count_in ds p ≤ count_in ds q
 in_le [] p q imp = omega arith
-in_le (d ∷ ds) p q imp = let rest = in_le ds p q imp in let here = cond_le (p d) (q d) (imp d) in omega arith
+in_le (d ∷ ds) p q imp = let rest = in_le ds p q imp in let here = counted_le (p d) (q d) (imp d) in omega arith
 
 pub in_more : (ds : List ℕ) (p q : ℕ → Bool) (d : ℕ) → list_any (eqb d) ds ≡ true → ((e : ℕ) → p e ≡ true → q e ≡ true) → p d ≡ false → q d ≡ true → count_in ds p + 1 ≤ count_in ds q
 in_more [] p q d m imp out here = cc
@@ -47,9 +48,9 @@ in_more (e ∷ ds) p q d m imp out here = elim (or_cases (eqb d e) (list_any (eq
       let rest = in_le ds p q imp in
       let first = cond_more (p e) (q e) (subst (λ (z : ℕ). p z ≡ false) same out) (subst (λ (z : ℕ). q z ≡ true) same here) in
       omega arith
-  | inr later ↦ let rest = in_more ds p q d later imp out here in let first = cond_le (p e) (q e) (imp e) in omega arith
+  | inr later ↦ let rest = in_more ds p q d later imp out here in let first = counted_le (p e) (q e) (imp e) in omega arith
 ]
 
 pub in_most : (ds : List ℕ) (p : ℕ → Bool) → count_in ds p ≤ length ds
 in_most [] p = omega arith
-in_most (d ∷ ds) p = let rest = in_most ds p in let here = cond_one (p d) in omega arith
+in_most (d ∷ ds) p = let rest = in_most ds p in let here = counted_at_most_one (p d) in omega arith

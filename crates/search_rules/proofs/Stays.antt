@@ -1,6 +1,7 @@
 -- The rows of a set stay its rows while the table of concepts grows.
 use Rattle.std.proofs.Common.{◌≡◌, ℕ, ◌<◌, ◌||◌, Bool, true, false, eqb, List, [], ◌∷◌, length, Some, refl, ap, sym, ◌∙◌, subst, arith, Option}
 use Rattle.std.specs.List.{All, list_any}
+use Rattle.std.proofs.lemmas.Bool.{or_right}
 use Rattle.shq_base.specs.Concept.{Concept}
 use Rattle.shape_specs.specs.Shape.{Shape, shape_of, IsTable}
 use Rattle.shape_specs.specs.Shape.Shape.{top, bottom, name, not_name, intersection, union, some_of, all_of, at_least, at_most}
@@ -30,10 +31,6 @@ use Rattle.search_rules.specs.Lists.{NumberLists, EdgeLists}
 use Rattle.search_rules.specs.RuleLists.{RuleLists, numbers_in}
 use Rattle.search_rules.specs.Tables.{AreNumberLists, AreEdgeLists, AreKept}
 use Rattle.search_rules.specs.Queries.{HasListsIf, IsFound}
-
-or_right : (a b : Bool) → b ≡ true → (a || b) ≡ true
-or_right true b g = refl
-or_right false b g = g
 
 module _ (old new : List Shape) (grown : Extends old new) where
   row_stays : (theory : Theory) (row : Row) → IsRowOf theory old row → IsRowOf theory new row

@@ -4,8 +4,9 @@ use Rattle.std.specs.Prelude.{nat_le}
 use Rattle.std.specs.Cmp.{nat_cmp_total}
 use Rattle.std.specs.FinSet as set
 use Rattle.std.proofs.lemmas.Bool.{true≢false, or_cases, and_parts, eqb-true, le-leb, leb-true}
+use Rattle.shq_base.proofs.Bools.{same_truth}
 use Rattle.lane_sieve.specs.Sets.{NumberSet}
-use Rattle.lane_sieve.proofs.Bits.{bool_same, contains_insert}
+use Rattle.lane_sieve.proofs.Bits.{contains_insert}
 use Rattle.axiom_sets.specs.Sets.{IsFull}
 use Rattle.pinpointing_specs.specs.Smallest.{numbers_to}
 use Rattle.pinpointing_specs.proofs.Choices.{in_numbers_to}
@@ -21,7 +22,7 @@ numbers_within (suc n) k h =
 
 numbers_are : (n k : ℕ) → set.contains (numbers_to n) k ≡ (nat_le 1 k && nat_le k n)
 numbers_are n k =
-    bool_same _ _ (λ h. let both = numbers_within n k h in rw (le-leb 1 k both.0, le-leb k n both.1) refl)
+    same_truth _ _ (λ h. let both = numbers_within n k h in rw (le-leb 1 k both.0, le-leb k n both.1) refl)
     (λ h. let both = and_parts (nat_le 1 k) (nat_le k n) h in in_numbers_to n k (leb-true 1 k both.0) (leb-true k n both.1))
 
 -- a full set has just these numbers

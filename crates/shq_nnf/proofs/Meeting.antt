@@ -4,7 +4,9 @@ use Rattle.std.specs.List.{list_all, count_by}
 use Rattle.std.proofs.lemmas.Bool.{le-leb, lt-leb}
 use Rattle.std.proofs.lemmas.List.Folds.{list_all-append}
 use Rattle.std.proofs.lemmas.List.Sums.{sum_by-cons}
+use Rattle.std.proofs.Math.Bool.{and_assoc, and-true, or-false, and-false, or-true}
 use Rattle.shq_base.specs.Concept.{Concept, top, bottom, name, complement, intersection, union, some_of, all_of, at_least, at_most, exactly, Parts, no_parts, part, parts_of, part_list}
+use Rattle.shq_base.proofs.Bools.{and_exchange}
 use Rattle.shq_terms.specs.declared.axioms.Axiom.{Axiom}
 use Rattle.shq_terms.specs.declared.axioms.Axiom.TheVariants.{SubClassOf, EquivalentClasses, DisjointClasses, DisjointUnion, SubRole, EquivalentRoles, Domain, Range, Functional, Transitive}
 use Rattle.shape_specs.specs.Normal.{normal_form}
@@ -13,14 +15,9 @@ use Rattle.shq_meaning.specs.Below.{all_below, count_below}
 use Rattle.shq_meaning.specs.Truth.{Interpretation, implies, same, each_successor, holds, hold_all, hold_any, all_same, none_twice, out_degree, meets}
 use Rattle.shq_nnf.specs.Parts.{disjoint_pair, disjoint_parts, chain_parts, equivalent_parts, union_parts, axiom_parts}
 use Rattle.shq_nnf.specs.Meeting.{meets_part, meets_parts, is_role_axiom}
-use Rattle.shq_nnf.proofs.Truth.{and_assoc, and_end, or_end, and_false, or_true, some_is_some, some_cond, normal_truth}
+use Rattle.shq_nnf.proofs.Truth.{some_is_some, some_cond, normal_truth}
 
 -- ---- tests below a bound
-
-exchange : (a b c d : Bool) → ((a && b) && (c && d)) ≡ ((a && c) && (b && d))
-exchange true true c d = refl
-exchange true false c d = sym (and_false c)
-exchange false b c d = refl
 
 all_below_true : (n : ℕ) → all_below n (λ x. true) ≡ true
 all_below_true zero = refl
@@ -28,7 +25,7 @@ all_below_true (suc n) = ap (λ b. b && true) (all_below_true n)
 
 all_below_both : (n : ℕ) (p q : ℕ → Bool) → all_below n (λ x. p x && q x) ≡ (all_below n p && all_below n q)
 all_below_both zero p q = refl
-all_below_both (suc n) p q = ap (λ b. b && (p n && q n)) (all_below_both n p q) ∙ exchange (all_below n p) (all_below n q) (p n) (q n)
+all_below_both (suc n) p q = ap (λ b. b && (p n && q n)) (all_below_both n p q) ∙ and_exchange (all_below n p) (all_below n q) (p n) (q n)
 
 -- at most one in all: none after the first that counts, and at most one after it
 one_more : (b : Bool) (k : ℕ) → leb (cond b 1 0 + k) 1 ≡ (implies b (not (leb 1 k)) && leb k 1)
@@ -71,15 +68,15 @@ module _ (i : Interpretation) where
         by : (ds : Parts) → list_all is_in (part_list ds) ≡ hold_all i ds x
         by no_parts = refl
         by (part d ds) = ap (λ b. is_in d && b) (by ds)
-    conjuncts_hold bottom = and_end (is_in bottom)
-    conjuncts_hold (name a) = and_end (is_in (name a))
-    conjuncts_hold (complement c) = and_end (is_in (complement c))
-    conjuncts_hold (union cs) = and_end (is_in (union cs))
-    conjuncts_hold (some_of r c) = and_end (is_in (some_of r c))
-    conjuncts_hold (all_of r c) = and_end (is_in (all_of r c))
-    conjuncts_hold (at_least n r c) = and_end (is_in (at_least n r c))
-    conjuncts_hold (at_most n r c) = and_end (is_in (at_most n r c))
-    conjuncts_hold (exactly n r c) = and_end (is_in (exactly n r c))
+    conjuncts_hold bottom = and-true (is_in bottom)
+    conjuncts_hold (name a) = and-true (is_in (name a))
+    conjuncts_hold (complement c) = and-true (is_in (complement c))
+    conjuncts_hold (union cs) = and-true (is_in (union cs))
+    conjuncts_hold (some_of r c) = and-true (is_in (some_of r c))
+    conjuncts_hold (all_of r c) = and-true (is_in (all_of r c))
+    conjuncts_hold (at_least n r c) = and-true (is_in (at_least n r c))
+    conjuncts_hold (at_most n r c) = and-true (is_in (at_most n r c))
+    conjuncts_hold (exactly n r c) = and-true (is_in (exactly n r c))
 
     inclusion_obeyed : (c d : Concept) → obeys (inclusion_of c d) x ≡ implies (is_in c) (is_in d)
     inclusion_obeyed c d =
@@ -88,7 +85,7 @@ module _ (i : Interpretation) where
         λ j. implies (left j) (right j)
 
     alone_obeyed : (c d : Concept) → obeyed (inclusion_of c d ∷ []) ≡ implies (is_in c) (is_in d)
-    alone_obeyed c d = and_end (obeys (inclusion_of c d) x) ∙ inclusion_obeyed c d
+    alone_obeyed c d = and-true (obeys (inclusion_of c d) x) ∙ inclusion_obeyed c d
 
     -- a chain that ends in a class without the element: it is in none
     chain_outside : (f : Concept) → is_in f ≡ false → (cs : List Concept) → obeyed (chain_parts f cs) ≡ not (in_any cs)
@@ -128,10 +125,10 @@ module _ (i : Interpretation) where
       where
         by : (b : Bool) → is_in c ≡ b → obeyed (chain_parts c (c ∷ cs)) ≡ implies (is_in c || in_any cs) (is_in c && in_all cs)
         by true e = chain_inside c e c cs e ∙ ap (λ b. b && in_all cs) e ∙ sym (ap (λ b. implies (b || in_any cs) (b && in_all cs)) e)
-        by false e = chain_outside c e (c ∷ cs) ∙ ap (λ b. not (b || in_any cs)) e ∙ sym (ap (λ b. implies (b || in_any cs) (b && in_all cs)) e ∙ or_end (not (in_any cs)))
+        by false e = chain_outside c e (c ∷ cs) ∙ ap (λ b. not (b || in_any cs)) e ∙ sym (ap (λ b. implies (b || in_any cs) (b && in_all cs)) e ∙ or-false (not (in_any cs)))
 
     all_apart : (c : Concept) (cs : List Concept) → obeyed (map (disjoint_pair c) cs) ≡ implies (is_in c) (not (in_any cs))
-    all_apart c [] = sym (or_true (not (is_in c)))
+    all_apart c [] = sym (or-true (not (is_in c)))
     all_apart c (d ∷ ds) =
         let head = inclusion_obeyed c (complement d) in
         let tail = all_apart c ds in
@@ -164,7 +161,7 @@ module _ (i : Interpretation) where
         (λ j. head j && tail j) ∙ by (is_in c) (in_any cs) (is_in a)
       where
         by : (b v w : Bool) → (implies b w && implies v w) ≡ implies (b || v) w
-        by true v true = or_true (not v)
+        by true v true = or-true (not v)
         by true v false = refl
         by false v w = refl
 
@@ -175,16 +172,16 @@ module _ (i : Interpretation) where
         let third = disjoint_obeyed cs in
         ap (λ b. obeys (inclusion_of a (union (parts_of cs))) x && b) (list_all-append (λ p. obeys p x) (map (λ c. inclusion_of c a) cs) (disjoint_parts cs))
         ∙ (λ j. first j && (second j && third j))
-        ∙ and_assoc (implies (is_in a) (in_any cs)) (implies (in_any cs) (is_in a)) (none_twice i cs x)
+        ∙ sym (and_assoc (implies (is_in a) (in_any cs)) (implies (in_any cs) (is_in a)) (none_twice i cs x))
 
     domain_obeyed : (r : ℕ) (c : Concept) → obeyed (inclusion_of (some_of r top) c ∷ []) ≡ implies (leb 1 (out_degree i r x)) (is_in c)
-    domain_obeyed r c = alone_obeyed (some_of r top) c ∙ ap (λ (q : ℕ → Bool). implies (leb 1 (count_below i.size q)) (is_in c)) (λ j y. and_end (i.in_role r x y) j)
+    domain_obeyed r c = alone_obeyed (some_of r top) c ∙ ap (λ (q : ℕ → Bool). implies (leb 1 (count_below i.size q)) (is_in c)) (λ j y. and-true (i.in_role r x y) j)
 
     functional_obeyed : (r : ℕ) → obeyed (inclusion_of top (at_most 1 r top) ∷ []) ≡ leb (out_degree i r x) 1
-    functional_obeyed r = alone_obeyed top (at_most 1 r top) ∙ ap (λ (q : ℕ → Bool). leb (count_below i.size q) 1) (λ j y. and_end (i.in_role r x y) j)
+    functional_obeyed r = alone_obeyed top (at_most 1 r top) ∙ ap (λ (q : ℕ → Bool). leb (count_below i.size q) 1) (λ j y. and-true (i.in_role r x y) j)
 
     range_obeyed : (r : ℕ) (c : Concept) → obeyed (range_of r c ∷ []) ≡ each_successor i r (holds i c) x
-    range_obeyed r c = and_end (obeys (range_of r c) x) ∙ ap (λ (q : ℕ → Bool). each_successor i r q x) (λ j y. normal_truth i c y j)
+    range_obeyed r c = and-true (obeys (range_of r c) x) ∙ ap (λ (q : ℕ → Bool). each_successor i r q x) (λ j y. normal_truth i c y j)
 
   -- ---- at all of them
 

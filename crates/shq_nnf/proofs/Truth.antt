@@ -3,40 +3,13 @@ use Rattle.std.proofs.Common.{◌≡◌, ℕ, zero, suc, ◌+◌, Bool, true, fa
 use Rattle.std.specs.Prelude.{if◌then◌else◌}
 use Rattle.std.specs.List.{list_any, flat_map}
 use Rattle.std.proofs.lemmas.Bool.{leb-true, leb-false, le-leb, lt-leb, eq-eqb, ne_eqb}
+use Rattle.std.proofs.Math.Bool.{and_assoc, or_assoc, and-true, or-false, and-false, or-true, not-not}
 use Rattle.shq_base.specs.Concept.{Concept, top, bottom, name, complement, intersection, union, some_of, all_of, at_least, at_most, exactly, Parts, no_parts, part, parts_of, part_list}
 use Rattle.shape_specs.specs.Normal.{is_top, is_bottom, conjuncts_of, conjuncts, intersected, and_of, disjuncts_of, disjuncts, united, or_of, least_form, fewer_form, most_form, more_form, normal_form, negated_form, normal_forms, negated_forms}
 use Rattle.shq_meaning.specs.Below.{all_below, count_below}
 use Rattle.shq_meaning.specs.Truth.{Interpretation, implies, successors, each_successor, holds, hold_all, hold_any}
 
 -- ---- tests of two values
-
-pub and_assoc : (a b c : Bool) → (a && (b && c)) ≡ ((a && b) && c)
-and_assoc true b c = refl
-and_assoc false b c = refl
-
-or_assoc : (a b c : Bool) → (a || (b || c)) ≡ ((a || b) || c)
-or_assoc true b c = refl
-or_assoc false b c = refl
-
-pub and_end : (a : Bool) → (a && true) ≡ a
-and_end true = refl
-and_end false = refl
-
-pub or_end : (a : Bool) → (a || false) ≡ a
-or_end true = refl
-or_end false = refl
-
-pub and_false : (a : Bool) → (a && false) ≡ false
-and_false true = refl
-and_false false = refl
-
-pub or_true : (a : Bool) → (a || true) ≡ true
-or_true true = refl
-or_true false = refl
-
-not_not : (a : Bool) → not (not a) ≡ a
-not_not true = refl
-not_not false = refl
 
 not_and : (a b : Bool) → not (a && b) ≡ (not a || not b)
 not_and true b = refl
@@ -90,8 +63,8 @@ each_not i r p x = each_or_one i.size (i.in_role r x) p
 
 some_not : (i : Interpretation) (r : ℕ) (p : ℕ → Bool) (x : ℕ) → leb 1 (successors i r (λ y. not (p y)) x) ≡ not (each_successor i r p x)
 some_not i r p x =
-    sym (not_not (leb 1 (successors i r (λ y. not (p y)) x)))
-    ∙ ap not (sym (each_not i r (λ y. not (p y)) x) ∙ (λ j. each_successor i r (λ y. not_not (p y) j) x))
+    sym (not-not (leb 1 (successors i r (λ y. not (p y)) x)))
+    ∙ ap not (sym (each_not i r (λ y. not (p y)) x) ∙ (λ j. each_successor i r (λ y. not-not (p y) j) x))
 
 -- ---- lists of concepts
 
@@ -101,7 +74,7 @@ module _ (i : Interpretation) (x : ℕ) where
 
   each_append : (cs ds : List Concept) → each_of (cs ++ ds) ≡ (each_of cs && each_of ds)
   each_append [] ds = refl
-  each_append (c ∷ cs) ds = ap (λ b. holds i c x && b) (each_append cs ds) ∙ and_assoc (holds i c x) (each_of cs) (each_of ds)
+  each_append (c ∷ cs) ds = ap (λ b. holds i c x && b) (each_append cs ds) ∙ sym (and_assoc (holds i c x) (each_of cs) (each_of ds))
 
   conjuncts_hold : (c : Concept) → each_of (conjuncts_of c) ≡ holds i c x
   conjuncts_hold (intersection cs) = by cs
@@ -109,16 +82,16 @@ module _ (i : Interpretation) (x : ℕ) where
       by : (ds : Parts) → each_of (part_list ds) ≡ hold_all i ds x
       by no_parts = refl
       by (part d ds) = ap (λ b. holds i d x && b) (by ds)
-  conjuncts_hold top = and_end (holds i top x)
-  conjuncts_hold bottom = and_end (holds i bottom x)
-  conjuncts_hold (name a) = and_end (holds i (name a) x)
-  conjuncts_hold (complement c) = and_end (holds i (complement c) x)
-  conjuncts_hold (union cs) = and_end (holds i (union cs) x)
-  conjuncts_hold (some_of r c) = and_end (holds i (some_of r c) x)
-  conjuncts_hold (all_of r c) = and_end (holds i (all_of r c) x)
-  conjuncts_hold (at_least n r c) = and_end (holds i (at_least n r c) x)
-  conjuncts_hold (at_most n r c) = and_end (holds i (at_most n r c) x)
-  conjuncts_hold (exactly n r c) = and_end (holds i (exactly n r c) x)
+  conjuncts_hold top = and-true (holds i top x)
+  conjuncts_hold bottom = and-true (holds i bottom x)
+  conjuncts_hold (name a) = and-true (holds i (name a) x)
+  conjuncts_hold (complement c) = and-true (holds i (complement c) x)
+  conjuncts_hold (union cs) = and-true (holds i (union cs) x)
+  conjuncts_hold (some_of r c) = and-true (holds i (some_of r c) x)
+  conjuncts_hold (all_of r c) = and-true (holds i (all_of r c) x)
+  conjuncts_hold (at_least n r c) = and-true (holds i (at_least n r c) x)
+  conjuncts_hold (at_most n r c) = and-true (holds i (at_most n r c) x)
+  conjuncts_hold (exactly n r c) = and-true (holds i (exactly n r c) x)
 
   opened_conjuncts_hold : (cs : List Concept) → each_of (flat_map conjuncts_of cs) ≡ each_of cs
   opened_conjuncts_hold [] = refl
@@ -146,11 +119,11 @@ module _ (i : Interpretation) (x : ℕ) where
     where
       by : (b : Bool) → is_bottom c ≡ b → (b || list_any is_bottom cs) ≡ true → (list_any is_bottom cs ≡ true → each_of cs ≡ false) → (holds i c x && each_of cs) ≡ false
       by true e g rest = ap (λ b. b && each_of cs) (bottom_is c e)
-      by false e g rest = ap (λ b. holds i c x && b) (rest g) ∙ and_false (holds i c x)
+      by false e g rest = ap (λ b. holds i c x && b) (rest g) ∙ and-false (holds i c x)
 
   intersected_holds : (cs : List Concept) → holds i (intersected cs) x ≡ each_of cs
   intersected_holds [] = refl
-  intersected_holds (c ∷ []) = sym (and_end (holds i c x))
+  intersected_holds (c ∷ []) = sym (and-true (holds i c x))
   intersected_holds (c ∷ d ∷ cs) = refl
 
   pub and_holds : (cs : List Concept) → holds i (and_of cs) x ≡ each_of cs
@@ -165,7 +138,7 @@ module _ (i : Interpretation) (x : ℕ) where
 
   any_append : (cs ds : List Concept) → any_of (cs ++ ds) ≡ (any_of cs || any_of ds)
   any_append [] ds = refl
-  any_append (c ∷ cs) ds = ap (λ b. holds i c x || b) (any_append cs ds) ∙ or_assoc (holds i c x) (any_of cs) (any_of ds)
+  any_append (c ∷ cs) ds = ap (λ b. holds i c x || b) (any_append cs ds) ∙ sym (or_assoc (holds i c x) (any_of cs) (any_of ds))
 
   disjuncts_hold : (c : Concept) → any_of (disjuncts_of c) ≡ holds i c x
   disjuncts_hold (union cs) = by cs
@@ -173,16 +146,16 @@ module _ (i : Interpretation) (x : ℕ) where
       by : (ds : Parts) → any_of (part_list ds) ≡ hold_any i ds x
       by no_parts = refl
       by (part d ds) = ap (λ b. holds i d x || b) (by ds)
-  disjuncts_hold top = or_end (holds i top x)
-  disjuncts_hold bottom = or_end (holds i bottom x)
-  disjuncts_hold (name a) = or_end (holds i (name a) x)
-  disjuncts_hold (complement c) = or_end (holds i (complement c) x)
-  disjuncts_hold (intersection cs) = or_end (holds i (intersection cs) x)
-  disjuncts_hold (some_of r c) = or_end (holds i (some_of r c) x)
-  disjuncts_hold (all_of r c) = or_end (holds i (all_of r c) x)
-  disjuncts_hold (at_least n r c) = or_end (holds i (at_least n r c) x)
-  disjuncts_hold (at_most n r c) = or_end (holds i (at_most n r c) x)
-  disjuncts_hold (exactly n r c) = or_end (holds i (exactly n r c) x)
+  disjuncts_hold top = or-false (holds i top x)
+  disjuncts_hold bottom = or-false (holds i bottom x)
+  disjuncts_hold (name a) = or-false (holds i (name a) x)
+  disjuncts_hold (complement c) = or-false (holds i (complement c) x)
+  disjuncts_hold (intersection cs) = or-false (holds i (intersection cs) x)
+  disjuncts_hold (some_of r c) = or-false (holds i (some_of r c) x)
+  disjuncts_hold (all_of r c) = or-false (holds i (all_of r c) x)
+  disjuncts_hold (at_least n r c) = or-false (holds i (at_least n r c) x)
+  disjuncts_hold (at_most n r c) = or-false (holds i (at_most n r c) x)
+  disjuncts_hold (exactly n r c) = or-false (holds i (exactly n r c) x)
 
   opened_disjuncts_hold : (cs : List Concept) → any_of (flat_map disjuncts_of cs) ≡ any_of cs
   opened_disjuncts_hold [] = refl
@@ -202,11 +175,11 @@ module _ (i : Interpretation) (x : ℕ) where
     where
       by : (b : Bool) → is_top c ≡ b → (b || list_any is_top cs) ≡ true → (list_any is_top cs ≡ true → any_of cs ≡ true) → (holds i c x || any_of cs) ≡ true
       by true e g rest = ap (λ b. b || any_of cs) (top_is c e)
-      by false e g rest = ap (λ b. holds i c x || b) (rest g) ∙ or_true (holds i c x)
+      by false e g rest = ap (λ b. holds i c x || b) (rest g) ∙ or-true (holds i c x)
 
   united_holds : (cs : List Concept) → holds i (united cs) x ≡ any_of cs
   united_holds [] = refl
-  united_holds (c ∷ []) = sym (or_end (holds i c x))
+  united_holds (c ∷ []) = sym (or-false (holds i c x))
   united_holds (c ∷ d ∷ cs) = refl
 
   pub or_holds : (cs : List Concept) → holds i (or_of cs) x ≡ any_of cs
@@ -246,20 +219,20 @@ module _ (i : Interpretation) (r : ℕ) (c not_c : Concept) (p : ℕ → Bool) (
   most_holds (suc n) = ap (λ k. leb k (suc n)) same_many
 
   more_holds : (n : ℕ) → holds i (more_form n r c) x ≡ not (leb many n)
-  more_holds zero = ap (leb 1) same_many ∙ sym (not_not (leb 1 many)) ∙ sym (ap not (fewer_is_not 0 many))
-  more_holds (suc n) = ap (leb (suc (suc n))) same_many ∙ sym (not_not (leb (suc (suc n)) many)) ∙ sym (ap not (fewer_is_not (suc n) many))
+  more_holds zero = ap (leb 1) same_many ∙ sym (not-not (leb 1 many)) ∙ sym (ap not (fewer_is_not 0 many))
+  more_holds (suc n) = ap (leb (suc (suc n))) same_many ∙ sym (not-not (leb (suc (suc n)) many)) ∙ sym (ap not (fewer_is_not (suc n) many))
 
   exactly_holds : (n : ℕ) → holds i (and_of (least_form n r c ∷ most_form n r c not_c ∷ [])) x ≡ eqb many n
   exactly_holds n =
       let a = least_holds n in
       let b = most_holds n in
-      and_holds i x (least_form n r c ∷ most_form n r c not_c ∷ []) ∙ ap (λ v. holds i (least_form n r c) x && v) (and_end (holds i (most_form n r c not_c) x)) ∙ (λ j. a j && b j) ∙ sym (equal_is_both n many)
+      and_holds i x (least_form n r c ∷ most_form n r c not_c ∷ []) ∙ ap (λ v. holds i (least_form n r c) x && v) (and-true (holds i (most_form n r c not_c) x)) ∙ (λ j. a j && b j) ∙ sym (equal_is_both n many)
 
   not_exactly_holds : (n : ℕ) → holds i (or_of (fewer_form n r c not_c ∷ more_form n r c ∷ [])) x ≡ not (eqb many n)
   not_exactly_holds n =
       let a = fewer_holds n in
       let b = more_holds n in
-      or_holds i x (fewer_form n r c not_c ∷ more_form n r c ∷ []) ∙ ap (λ v. holds i (fewer_form n r c not_c) x || v) (or_end (holds i (more_form n r c) x)) ∙ (λ j. a j || b j)
+      or_holds i x (fewer_form n r c not_c ∷ more_form n r c ∷ []) ∙ ap (λ v. holds i (fewer_form n r c not_c) x || v) (or-false (holds i (more_form n r c) x)) ∙ (λ j. a j || b j)
       ∙ sym (not_and (leb n many) (leb many n)) ∙ sym (ap not (equal_is_both n many))
 
 -- ---- any class expression
@@ -283,7 +256,7 @@ module _ (i : Interpretation) where
     negated_truth top x = refl
     negated_truth bottom x = refl
     negated_truth (name a) x = refl
-    negated_truth (complement c) x = normal_truth c x ∙ sym (not_not (holds i c x))
+    negated_truth (complement c) x = normal_truth c x ∙ sym (not-not (holds i c x))
     negated_truth (intersection cs) x = or_holds i x (negated_forms cs) ∙ negated_any cs x
     negated_truth (union cs) x = and_holds i x (negated_forms cs) ∙ negated_all cs x
     negated_truth (some_of r c) x = ap (λ (q : ℕ → Bool). each_successor i r q x) (λ j y. negated_truth c y j) ∙ each_not i r (holds i c) x

@@ -5,6 +5,7 @@ use Rattle.std.proofs.lemmas.Bool.{eqb-true}
 use Rattle.std.proofs.lemmas.Cmp.{nat_eq_equiv}
 use Rattle.std.proofs.lemmas.List.{take_more, take_all, get_or_default}
 use Rattle.std.proofs.lemmas.Map.Keys.{IsDistinct-push, apart_from_distinct}
+use Rattle.shq_base.proofs.Bools.{or_absorbs}
 use Rattle.fact_specs.specs.declared.Fact.{Fact}
 use Rattle.fact_specs.specs.State.{has}
 use Rattle.fact_specs.proofs.State.{eqb-comm}
@@ -19,15 +20,10 @@ use Rattle.step_finders.specs.Filled.{AreFilled, IsLater, AreUnapart}
 pub push_distinct : (xs : List ℕ) (y : ℕ) → IsDistinct eqb xs → list_any (λ z. eqb z y) xs ≡ false → IsDistinct eqb (xs ++ y ∷ [])
 push_distinct xs y h out = IsDistinct-push nat_eq_equiv xs y h (ap (λ (p : ℕ → Bool). list_any p xs) (λ i z. eqb-comm y z i) ∙ out)
 
-or_same : (a b : Bool) → (b ≡ true → a ≡ true) → (a || b) ≡ a
-or_same true b h = refl
-or_same false true h = sym (h refl)
-or_same false false h = refl
-
 -- where the number is there already
 pub member_there : (xs : List ℕ) (n y : ℕ) → list_any (λ z. eqb z n) xs ≡ true → (list_any (λ z. eqb y z) xs || eqb y n) ≡ list_any (λ z. eqb y z) xs
 member_there xs n y h =
-    or_same (list_any (λ z. eqb y z) xs) (eqb y n) (λ e. ap (λ (k : ℕ). list_any (λ z. eqb k z) xs) (eqb-true y n e) ∙ ap (λ (p : ℕ → Bool). list_any p xs) (λ i z. eqb-comm n z i) ∙ h)
+    or_absorbs (list_any (λ z. eqb y z) xs) (eqb y n) (λ e. ap (λ (k : ℕ). list_any (λ z. eqb k z) xs) (eqb-true y n e) ∙ ap (λ (p : ℕ → Bool). list_any p xs) (λ i z. eqb-comm n z i) ∙ h)
 
 -- ---- the edges so far
 

@@ -1,7 +1,7 @@
 -- Why there are nodes to be made, and why there are none.
 use Rattle.std.proofs.Common.{◌≡◌, ℕ, zero, suc, ◌+◌, ◌-◌, ◌<◌, ◌≤◌, ◌&&◌, eqb, leb, ltb, Bool, true, false, List, [], ◌∷◌, length, get_or, refl, ap, ◌∙◌, sym, subst, arith, inl, inr, eq-eqb}
 use Rattle.std.specs.List.{list_any, list_all, range_with_len}
-use Rattle.std.proofs.lemmas.Bool.{eqb-true, leb-true, ltb-true, lt-ltb, cases_Bool, cases_lt, and_parts}
+use Rattle.std.proofs.lemmas.Bool.{eqb-true, leb-true, ltb-true, lt-ltb, cases_Bool, cases_lt, and_parts, and_right}
 use Rattle.fact_specs.specs.declared.Fact.{Fact}
 use Rattle.fact_specs.specs.Joins.{rep}
 use Rattle.fact_specs.specs.State.{node_count, has, has_edge, is_successor, all_apart}
@@ -19,7 +19,7 @@ use Rattle.tableau_specs.proofs.Listed.{listed}
 use Rattle.fact_specs.proofs.State.{eqb-comm}
 use Rattle.clash_specs.proofs.Moved.{edge_to}
 use Rattle.step_finders.proofs.Edges.{where_any, next_at, rep_twice, has_rep}
-use Rattle.step_finders.proofs.Members.{member_filled, and_false}
+use Rattle.step_finders.proofs.Members.{member_filled}
 
 none_passes : (ys : List ℕ) → ((y : ℕ) → list_any (eqb y) ys ≡ true → ⊥) → ys ≡ []
 none_passes [] h = refl
@@ -92,7 +92,7 @@ one_fails p a zero z out le lt = absurd (omega arith)
 one_fails p a (suc n) z out le lt = elim (cases_Bool (eqb a z)) [
   | inl here ↦ rw (ap p (eqb-true a z here) ∙ out) refl
   | inr later ↦
-      and_false (p a) (list_all p (range_with_len (a + 1) n))
+      and_right (p a) (list_all p (range_with_len (a + 1) n))
       (one_fails p (a + 1) n z out (not_first z a le (λ e. (let k = eq-eqb a z e in cc))) (omega arith))
 ]
 
@@ -128,7 +128,7 @@ module _ (fs : List (Fact ℕ)) (ends : List ℕ) (bound n : ℕ) where
   such_there z lt there = rw (lt-ltb z bound lt, there) refl
 
   not_such : (z : ℕ) → list_any (λ v. eqb v (rep fs z)) ends ≡ false → is_such z ≡ false
-  not_such z out = and_false (ltb z bound) (list_any (λ v. eqb v (rep fs z)) ends) out
+  not_such z out = and_right (ltb z bound) (list_any (λ v. eqb v (rep fs z)) ends) out
 
   -- where a walk comes to a node that is not such, no run begins before it or at it
   none_over : (start node : ℕ) → IsWalked start node → is_such node ≡ false → (y : ℕ) → y ≤ node → is_run_of y ≡ false
@@ -174,7 +174,7 @@ module _ (fs : List (Fact ℕ)) (ends : List ℕ) (bound n : ℕ) where
           | inl less ↦ walked.ended y (omega (arith, less))
           | inr same ↦ elim (cases_lt y start) [
             | inl less ↦ walked.before y less
-            | inr from ↦ and_false (list_all is_such (range_with_len y n)) (all_apart fs (range_with_len y n)) (not_apart y from (omega (arith, le, same)))
+            | inr from ↦ and_right (list_all is_such (range_with_len y n)) (all_apart fs (range_with_len y n)) (not_apart y from (omega (arith, le, same)))
           ]
         ];
       }

@@ -1,13 +1,14 @@
 -- Lists of numbers by their members.
 use Rattle.std.proofs.Common.{◌≡◌, ℕ, zero, suc, ◌+◌, ◌<◌, ◌≤◌, ◌&&◌, ◌||◌, eqb, Bool, true, false, List, [], ◌∷◌, length, get_or, refl, ap, ◌∙◌, sym, arith, inl, inr, eq-eqb, cond}
 use Rattle.std.specs.List.{list_any, list_all, filter, range_with_len, IsDistinct, All, AllByRecursion, AllPairs, Contains}
-use Rattle.std.proofs.lemmas.Bool.{eqb-true, or_cases, cases_Bool, ne_eqb, and_parts}
+use Rattle.std.proofs.lemmas.Bool.{eqb-true, or_cases, cases_Bool, ne_eqb, and_parts, or_right, and_right}
 use Rattle.std.proofs.lemmas.Bool.Decides.{nat_tests}
 use Rattle.std.proofs.lemmas.Cmp.{nat_eq_equiv}
 use Rattle.std.proofs.lemmas.List.FromFn.{length-range_with_len, get_or-range_with_len}
 use Rattle.std.proofs.lemmas.List.Kept.{AllPairs-filter}
 use Rattle.std.proofs.lemmas.Map.Keys.{IsDistinct-from_apart, IsDistinct-head, IsDistinct-tail}
 use Rattle.std.proofs.lemmas.Map.Made.{length-from_same_keys}
+use Rattle.std.proofs.Math.Bool.{and-false}
 use Rattle.fact_specs.specs.declared.Fact.{Fact}
 use Rattle.fact_specs.specs.State.{node_count, has, is_successor, successors, are_apart, all_apart}
 use Rattle.fact_specs.proofs.State.{apart_back}
@@ -16,21 +17,13 @@ use Rattle.tableau_specs.proofs.PlainClash.{successor_is_node}
 use Rattle.step_finders.specs.Filled.{AreFilled, AreUnapart}
 use Rattle.step_finders.proofs.Edges.{any_at}
 
-or_right : (a b : Bool) → b ≡ true → (a || b) ≡ true
-or_right true b h = refl
-or_right false b h = h
-
 -- ---- members of a filtered list and of a row
-
-pub and_false : (a b : Bool) → b ≡ false → (a && b) ≡ false
-and_false true b h = h
-and_false false b h = refl
 
 one_kept : (e a p q : Bool) → (e ≡ true → p ≡ q) → (cond p (e || (a && q)) (a && q)) ≡ ((e || a) && q)
 one_kept false a true q same = refl
 one_kept false a false q same = refl
 one_kept true a true true same = refl
-one_kept true a false false same = and_false a false refl
+one_kept true a false false same = and_right a false refl
 one_kept true a true false same = (let k = same refl in cc)
 one_kept true a false true same = (let k = same refl in cc)
 
@@ -61,12 +54,8 @@ row_ascending n i j d lt mt =
 
 -- ---- the successors that are counted, by either list
 
-and_none : (a : Bool) → (a && false) ≡ false
-and_none true = refl
-and_none false = refl
-
 node_and : (a b c : Bool) → (b ≡ true → a ≡ true) → ((a && b) && c) ≡ (b && c)
-node_and a false c h = ap (λ (t : Bool). t && c) (and_none a)
+node_and a false c h = ap (λ (t : Bool). t && c) (and-false a)
 node_and true true c h = refl
 node_and false true c h = (let k = h refl in cc)
 

@@ -3,6 +3,7 @@ use Rattle.std.proofs.Common.{◌≡◌, ℕ, ◌<◌, ◌&&◌, eqb, Bool, true
 use Rattle.std.specs.Prelude.{nat_lt}
 use Rattle.std.specs.List.{list_any}
 use Rattle.std.proofs.lemmas.Bool.{cases_Bool, eqb-true}
+use Rattle.std.proofs.Math.Bool.{and-false}
 use Rattle.role_box.specs.declared.role_axiom.RoleAxiom.{RoleAxiom}
 use Rattle.role_box.specs.Steps.{is_transitive}
 use Rattle.role_box.specs.Paths.{has_path, is_below}
@@ -12,7 +13,7 @@ use Rattle.structure_model.specs.declared.structure.Edge.{Edge}
 use Rattle.structure_model.specs.Structure.{is_pair_above, leads, has_chain_of, has_chain_by}
 use Rattle.structure_model.specs.Gains.{HasLinks}
 use Rattle.structure_model.specs.Walks.{is_end}
-use Rattle.structure_model.proofs.Tests.{one_below, and_false}
+use Rattle.structure_model.proofs.Tests.{one_below}
 use Rattle.structure_model.proofs.Gained.{same_links_gained, no_links}
 use Rattle.structure_model.proofs.NoChains.{no_path, none_leads, none_from}
 
@@ -25,7 +26,7 @@ above_ends a b count upper roles e is gained =
 -- ---- no chains
 
 chain_none : (count t s : ℕ) (roles : List RoleAxiom) (c : Bool) → c ≡ false → (nat_lt s count && (is_below roles t s && c)) ≡ false
-chain_none count t s roles c none = ap (λ (b : Bool). nat_lt s count && (is_below roles t s && b)) none ∙ ap (λ (b : Bool). nat_lt s count && b) (and_false (is_below roles t s)) ∙ and_false (nat_lt s count)
+chain_none count t s roles c none = ap (λ (b : Bool). nat_lt s count && (is_below roles t s && b)) none ∙ ap (λ (b : Bool). nat_lt s count && b) (and-false (is_below roles t s)) ∙ and-false (nat_lt s count)
 
 -- of a role that is not transitive, or has no edge below it
 pub no_chains : (k : ModelLists) (size count : ℕ) (roles : List RoleAxiom) (edges : List Edge) (t : ℕ)
@@ -56,6 +57,6 @@ none_put k count t from roles next row is_empty yes' same lt is =
     from_here : (x y : ℕ) → (eqb from x && has_path (is_end next) (length next) x y) ≡ false
     from_here x y = elim (cases_Bool (eqb from x)) [
       | inl e ↦
-          ap (λ (b : Bool). eqb from x && b) (subst (λ (z : ℕ). has_path (is_end next) (length next) z y ≡ false) (eqb-true from x e) (none y)) ∙ and_false (eqb from x)
+          ap (λ (b : Bool). eqb from x && b) (subst (λ (z : ℕ). has_path (is_end next) (length next) z y ≡ false) (eqb-true from x e) (none y)) ∙ and-false (eqb from x)
       | inr ne ↦ ap (λ (b : Bool). b && has_path (is_end next) (length next) x y) ne
     ]

@@ -3,14 +3,10 @@ use Rattle.std.proofs.Common.{◌≡◌, ℕ, zero, suc, ◌+◌, ◌&&◌, ◌|
 use Rattle.std.specs.Prelude.{nat_lt}
 use Rattle.std.proofs.lemmas.Bool.{cases_eq, ne_eqb}
 use Rattle.std.proofs.lemmas.Bool.Decides.{nat_tests}
-use Rattle.std.proofs.Math.Bool.{or-false}
+use Rattle.std.proofs.Math.Bool.{or-false, and-false}
 use Rattle.role_box.specs.Closure.{any_below}
 
 -- ---- truth tables
-
-pub and_false : (a : Bool) → (a && false) ≡ false
-and_false true = refl
-and_false false = refl
 
 pub or_absorbs : (a b c : Bool) → a ≡ c → (a || b) ≡ (a || b || c)
 or_absorbs true b c h = refl
@@ -42,7 +38,7 @@ lt_more n m = elim (cases_eq n m) [
 -- ---- one number below a bound
 
 same_or : (l e p q a b : Bool) → (e ≡ true → p ≡ q) → ((l && (q && a && b)) || (p && (e && a && b))) ≡ ((l || e) && (q && a && b))
-same_or l false p q a b h = ap (λ (c : Bool). (l && (q && a && b)) || c) (and_false p) ∙ or-false (l && (q && a && b)) ∙ sym (ap (λ (c : Bool). c && (q && a && b)) (or-false l))
+same_or l false p q a b h = ap (λ (c : Bool). (l && (q && a && b)) || c) (and-false p) ∙ or-false (l && (q && a && b)) ∙ sym (ap (λ (c : Bool). c && (q && a && b)) (or-false l))
 same_or l true p q a b h = ap (λ (c : Bool). (l && (q && a && b)) || (c && (a && b))) (h refl) ∙ joined l q a b
   where
     joined : (l q a b : Bool) → ((l && (q && a && b)) || (q && (a && b))) ≡ ((l || true) && (q && a && b))

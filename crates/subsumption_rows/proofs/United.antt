@@ -1,11 +1,12 @@
 -- Rows to which numbers are added one after the other.
-use Rattle.std.proofs.Common.{◌≡◌, ◌≢◌, ℕ, ◌+◌, ◌<◌, ◌≤◌, ◌&&◌, ◌||◌, Bool, true, false, List, [], ◌∷◌, ◌++◌, ◌^◌, length, length-append, get_or, set, take, drop, refl, sym, ◌∙◌, ap, subst, arith, inl, inr, eqb, eq-eqb}
+use Rattle.std.proofs.Common.{◌≡◌, ◌≢◌, ℕ, ◌+◌, ◌<◌, ◌≤◌, ◌&&◌, ◌||◌, Bool, false, List, [], ◌∷◌, ◌++◌, ◌^◌, length, length-append, get_or, set, take, drop, refl, sym, ◌∙◌, ap, subst, arith, inl, inr, eqb, eq-eqb}
 use Rattle.std.specs.FinSet as sets
 use Rattle.std.specs.Cmp.{nat_cmp_total}
 use Rattle.std.proofs.lemmas.Bool.{cases_lt, cases_eq, ne_eqb}
 use Rattle.std.proofs.lemmas.List.{append-nil, drop_all, take_all, length-set, get_or-set_same, get_or-set_other, get_or_default}
 use Rattle.std.proofs.lemmas.Grind.{elements}
 use Rattle.std.specs.Ordering.{nat_cmp}
+use Rattle.std.proofs.Math.Bool.{or-false, or_comm}
 use Rattle.lane_sieve.specs.Sets.{NumberSet}
 use Rattle.lane_sieve.proofs.Bits.{contains_insert}
 use Rattle.axiom_sets.specs.Sets.{Limited}
@@ -20,10 +21,6 @@ pub record IsGrown (size place : ℕ) (test : ℕ → ℕ → Bool) (old now : L
   pub square : IsSquare size now
   pub done : (x y : ℕ) → x < place → row_has now x y ≡ (row_has old x y || test x y)
   pub later : (x : ℕ) → place ≤ x → row_in now x ≡ row_in old x
-
-or_false : (a : Bool) → a ≡ (a || false)
-or_false true = refl
-or_false false = refl
 
 -- ---- one row is written
 
@@ -61,7 +58,7 @@ module _ (size place : ℕ) (test : ℕ → ℕ → Bool) (old now : List Limite
       | inl lt ↦ grown.done x y lt
       | inr ge ↦ let e : x ≡ place = omega (arith, lx, ge) in
           ap (λ (s : Limited). sets.contains s.members (y + 1)) (grown.later x ge)
-          ∙ or_false (row_has old x y)
+          ∙ sym (or-false (row_has old x y))
           ∙ ap (λ (b : Bool). row_has old x y || b) (sym (ap (λ (n : ℕ). test n y) e ∙ none y))
     ];
     later = λ x ge. grown.later x (omega (arith, ge));
@@ -134,12 +131,6 @@ eqb_more a b = elim (cases_eq a b) [
   | inr ne ↦ ne_eqb (a + 1) (b + 1) (λ e. ne (omega (arith, e))) ∙ sym (ne_eqb a b ne)
 ]
 
-or_swapped : (a b : Bool) → (a || b) ≡ (b || a)
-or_swapped true true = refl
-or_swapped true false = refl
-or_swapped false true = refl
-or_swapped false false = refl
-
 pub one_put : (size x y : ℕ) (rows : List Limited) (w d : Limited) → IsSquare size rows → x < size → w.limit ≡ (get_or rows x d).limit → w.members ≡ sets.insert (get_or rows x d).members (y + 1)
     → IsMatrix size (λ a b. row_has rows a b || (eqb a x && eqb b y)) (record { size = size; rows = set rows x w })
 one_put size x y rows w d square lx wide members =
@@ -153,9 +144,9 @@ one_put size x y rows w d square lx wide members =
             ∙ ap (λ (s : NumberSet). sets.contains s (b + 1)) (members ∙ ap (λ (s : Limited). sets.insert s.members (y + 1)) row)
             ∙ contains_insert (row_in rows x).members (y + 1) (b + 1)
             ∙ ap (λ (t : Bool). t || row_has rows x b) (eqb_more b y)
-            ∙ or_swapped (eqb b y) (row_has rows x b)
+            ∙ or_comm (eqb b y) (row_has rows x b)
             ∙ ap (λ (t : Bool). row_has rows x b || (t && eqb b y)) (sym (eq-eqb x x refl)))
-        | inr ne ↦ has_elsewhere size x rows square lx w fits a b ne ∙ or_false (row_has rows a b) ∙ ap (λ (t : Bool). row_has rows a b || (t && eqb b y)) (sym (ne_eqb a x ne))
+        | inr ne ↦ has_elsewhere size x rows square lx w fits a b ne ∙ sym (or-false (row_has rows a b)) ∙ ap (λ (t : Bool). row_has rows a b || (t && eqb b y)) (sym (ne_eqb a x ne))
       ];
     }
 

@@ -1,8 +1,9 @@
 -- What holds of the facts of built trails.
 use Rattle.std.proofs.Common.{◌≡◌, ℕ, ◌+◌, ◌<◌, ◌≤◌, ◌&&◌, ◌||◌, ◌⊎◌, min, max, eqb, cond, Bool, true, false, List, [], ◌∷◌, ◌++◌, Option, Some, None, refl, ap, ◌∙◌, sym, subst, arith, inl, inr, eq-eqb}
 use Rattle.std.specs.List.{list_any}
-use Rattle.std.proofs.lemmas.Bool.{eqb-true, or_cases, cases_Bool, cases_lt, and_parts, or_right}
+use Rattle.std.proofs.lemmas.Bool.{eqb-true, or_cases, cases_Bool, cases_lt, and_parts, or_right, or_parts}
 use Rattle.std.proofs.lemmas.Bool.Decides.{nat_tests}
+use Rattle.std.proofs.Math.Bool.{or-false}
 use Rattle.fact_specs.specs.declared.Fact.{Fact}
 use Rattle.fact_specs.specs.declared.Fact.TheVariants.{Has, Edge, Apart, Same}
 use Rattle.fact_specs.specs.Joins.{rep, rep_after, merged}
@@ -20,14 +21,6 @@ meets b c p q e ne = grind (arith, nat_tests)
 
 merged_out : (b c p : ℕ) → b < p → c < p → merged b c p ≡ p
 merged_out b c p lt mt = grind (arith, nat_tests)
-
-or_false : (a b : Bool) → (a || b) ≡ false → (a ≡ false) × (b ≡ false)
-or_false true b h = cc
-or_false false b h = (refl, h)
-
-or_none : (a : Bool) → (a || false) ≡ a
-or_none true = refl
-or_none false = refl
 
 -- ---- nodes and parents of one fact more
 
@@ -146,10 +139,10 @@ not_apart_merged m b c (Has v d ∷ fs) irr out a = not_apart_merged m b c fs ir
 not_apart_merged m b c (Edge r v w ∷ fs) irr out a = not_apart_merged m b c fs irr out a
 not_apart_merged m b c (Same v w ∷ fs) irr out a = not_apart_merged m b c fs irr out a
 not_apart_merged m b c (Apart v w ∷ fs) irr out a =
-    let here = or_false ((eqb (m v) b && eqb (m w) c) || (eqb (m v) c && eqb (m w) b)) (list_any (gives_apart m b c) fs) out in
-    let rest = not_apart_merged m b c fs (λ d. (or_false (gives_apart {C = ℕ} m d d (Apart v w)) (list_any (gives_apart m d d) fs) (irr d)).1) here.1 a in
-    let ne : ¬ (m v ≡ m w) = λ e. (let k = (or_false (gives_apart {C = ℕ} m (m v) (m v) (Apart v w)) (list_any (gives_apart m (m v) (m v)) fs) (irr (m v))).0 in
-    let l = (or_false (eqb (m v) (m v) && eqb (m w) (m v)) (eqb (m v) (m v) && eqb (m w) (m v)) k).0 in
+    let here = or_parts ((eqb (m v) b && eqb (m w) c) || (eqb (m v) c && eqb (m w) b)) (list_any (gives_apart m b c) fs) out in
+    let rest = not_apart_merged m b c fs (λ d. (or_parts (gives_apart {C = ℕ} m d d (Apart v w)) (list_any (gives_apart m d d) fs) (irr d)).1) here.1 a in
+    let ne : ¬ (m v ≡ m w) = λ e. (let k = (or_parts (gives_apart {C = ℕ} m (m v) (m v) (Apart v w)) (list_any (gives_apart m (m v) (m v)) fs) (irr (m v))).0 in
+    let l = (or_parts (eqb (m v) (m v) && eqb (m w) (m v)) (eqb (m v) (m v) && eqb (m w) (m v)) k).0 in
     let p = eq-eqb (m v) (m v) refl in let q = eq-eqb (m w) (m v) (sym e) in let t = rw (p, q) at l in cc) in
     elim (cases_Bool (eqb (merged b c (m v)) a && eqb (merged b c (m w)) a)) [
       | inl hit ↦
@@ -161,8 +154,8 @@ not_apart_merged m b c (Apart v w ∷ fs) irr out a =
     ]
 
 apart_after : (fs : List (Fact ℕ)) (f : Fact ℕ) → Supports fs (Says f) → IsTreeShaped fs → (a : ℕ) → list_any (gives_apart (rep_after (rep fs) f) a a) (fs ++ f ∷ []) ≡ false
-apart_after fs (Has v c) s g a = any-snoc (gives_apart (rep fs) a a) fs (Has v c) ∙ or_none (list_any (gives_apart (rep fs) a a) fs) ∙ g.not_apart a
-apart_after fs (Edge r v w) s g a = any-snoc (gives_apart (rep fs) a a) fs (Edge r v w) ∙ or_none (list_any (gives_apart (rep fs) a a) fs) ∙ g.not_apart a
+apart_after fs (Has v c) s g a = any-snoc (gives_apart (rep fs) a a) fs (Has v c) ∙ or-false (list_any (gives_apart (rep fs) a a) fs) ∙ g.not_apart a
+apart_after fs (Edge r v w) s g a = any-snoc (gives_apart (rep fs) a a) fs (Edge r v w) ∙ or-false (list_any (gives_apart (rep fs) a a) fs) ∙ g.not_apart a
 apart_after fs (Apart v w) s g a =
     any-snoc (gives_apart (rep fs) a a) fs (Apart v w) ∙ rw (g.not_apart a) (elim (cases_Bool (eqb (rep fs v) a && eqb (rep fs w) a)) [
       | inl hit ↦ let t = and_parts (eqb (rep fs v) a) (eqb (rep fs w) a) hit in absurd (s.2 (eqb-true (rep fs v) a t.0 ∙ sym (eqb-true (rep fs w) a t.1)))
@@ -170,7 +163,7 @@ apart_after fs (Apart v w) s g a =
     ])
 apart_after fs (Same v w) s g a =
     any-snoc (gives_apart (λ x. merged (rep fs v) (rep fs w) (rep fs x)) a a) fs (Same v w)
-    ∙ or_none (list_any (gives_apart (λ x. merged (rep fs v) (rep fs w) (rep fs x)) a a) fs)
+    ∙ or-false (list_any (gives_apart (λ x. merged (rep fs v) (rep fs w) (rep fs x)) a a) fs)
     ∙ not_apart_merged (rep fs) (rep fs v) (rep fs w) fs g.not_apart s.not_apart a
 
 -- ---- one fact more: edges
@@ -298,14 +291,14 @@ up_after : (fs : List (Fact ℕ)) (f : Fact ℕ) → Supports fs (Says f) → Is
     → HasUp (rep_after (rep fs) f) (fs ++ f ∷ []) from to
 up_after fs (Has v c) s g from to h =
     keep_up fs (Has v c) (rep fs) from to
-    (g.has_up from to (sym (any-snoc (gives_edge any_role (rep fs) from to) fs (Has v c) ∙ or_none (list_any (gives_edge any_role (rep fs) from to) fs)) ∙ h))
+    (g.has_up from to (sym (any-snoc (gives_edge any_role (rep fs) from to) fs (Has v c) ∙ or-false (list_any (gives_edge any_role (rep fs) from to) fs)) ∙ h))
 up_after fs (Apart v w) s g from to h =
     keep_up fs (Apart v w) (rep fs) from to
-    (g.has_up from to (sym (any-snoc (gives_edge any_role (rep fs) from to) fs (Apart v w) ∙ or_none (list_any (gives_edge any_role (rep fs) from to) fs)) ∙ h))
+    (g.has_up from to (sym (any-snoc (gives_edge any_role (rep fs) from to) fs (Apart v w) ∙ or-false (list_any (gives_edge any_role (rep fs) from to) fs)) ∙ h))
 up_after fs (Same v w) s g from to h =
     let M : ℕ → ℕ = λ x. merged (rep fs v) (rep fs w) (rep fs x) in
     keep_up fs (Same v w) M from to
-    (up_after_join fs v w s g from to (sym (any-snoc (gives_edge any_role M from to) fs (Same v w) ∙ or_none (list_any (gives_edge any_role M from to) fs)) ∙ h))
+    (up_after_join fs v w s g from to (sym (any-snoc (gives_edge any_role M from to) fs (Same v w) ∙ or-false (list_any (gives_edge any_role M from to) fs)) ∙ h))
 up_after fs (Edge r x y) s g from to h =
     elim (or_cases (list_any (gives_edge any_role (rep fs) from to) fs) (gives_edge {C = ℕ} any_role (rep fs) from to (Edge r x y)) (sym (any-snoc (gives_edge any_role (rep fs) from to) fs (Edge r x y)) ∙ h)) [
       | inl before ↦ keep_up fs (Edge r x y) (rep fs) from to (g.has_up from to before)

@@ -5,6 +5,7 @@ use Rattle.std.specs.Prelude.{nat_lt}
 use Rattle.std.specs.List.{filter, list_all}
 use Rattle.std.specs.FinSet as set
 use Rattle.std.proofs.lemmas.Bool.{and_parts, and_from, lt-ltb, ltb-true}
+use Rattle.std.proofs.Math.Bool.{and_assoc}
 use Rattle.lane_sieve.specs.Sets.{NumberSet, passing}
 use Rattle.axiom_sets.specs.Sets.{Limited}
 use Rattle.shq_meaning.specs.Below.{all_below}
@@ -14,10 +15,6 @@ use Rattle.taxonomy.specs.Listing.{are_listed, group_is_listed, hierarchy_is_lis
 use Rattle.taxonomy.specs.ClassSets.{has_class, class_list, HoldsClasses}
 use Rattle.taxonomy.proofs.Passing.{filter-passing, below-passing, all-passing, all_below_same}
 use Rattle.taxonomy.proofs.Members.{taken_out, class_list-holds}
-
-and_group : (a b c : Bool) → ((a && b) && c) ≡ (a && (b && c))
-and_group true b c = refl
-and_group false b c = refl
 
 and_turn : (a b c : Bool) → ((a && b) && c) ≡ (b && (a && c))
 and_turn true true c = refl
@@ -42,7 +39,7 @@ module _ (count : ℕ) (r : Parthood) (class : ℕ) where
       → HoldsClasses count (is_equal count r class) u
   equal_ones s t u a b between limit limit' above below first second = record {
     limit = limit' ∙ limit ∙ between.limit;
-    inside = λ x lt. whole x ∙ (λ i. (between.inside x lt i && above x (omega arith) i) && below x (omega arith) i) ∙ and_group (is_between count r x) (r class x) (r x class);
+    inside = λ x lt. whole x ∙ (λ i. (between.inside x lt i && above x (omega arith) i) && below x (omega arith) i) ∙ and_assoc (is_between count r x) (r class x) (r x class);
     outside = λ x ge. whole x ∙ false_both (has_class s x) (has_class a x) (has_class b x) (between.outside x ge);
   }
     where

@@ -15,6 +15,7 @@ use Rattle.shape_specs.specs.Roles.{itself, by_step}
 use Rattle.shq_meaning.specs.Below.{all_below}
 use Rattle.shq_meaning.specs.Truth.{Interpretation, implies, included, roles_equal, meets, meets_all}
 use Rattle.shq_meaning.proofs.Members.{all_pass}
+use Rattle.shq_meaning.proofs.Implied.{implies_from}
 use Rattle.shq_nnf.specs.Parts.{axiom_parts, part_in}
 use Rattle.shq_nnf.specs.Meeting.{meets_part, meets_parts}
 use Rattle.shq_nnf.proofs.Meeting.{axiom_is_parts}
@@ -24,7 +25,7 @@ use Rattle.role_box.specs.Steps.{leads_by, leads, is_transitive_by, is_transitiv
 use Rattle.role_box.proofs.Limits.{test_is_below}
 use Rattle.refutation_truth.specs.Theory.{axioms_in, named_axioms, parts_in, parts_at, theory_of}
 use Rattle.refutation_truth.proofs.Below.{all_from}
-use Rattle.refutation_truth.proofs.Lines.{implies_from, MeetsTheory}
+use Rattle.refutation_truth.proofs.Lines.{MeetsTheory}
 use Rattle.refutation_truth.proofs.Numbered.{numbered}
 
 -- what an axiom of one of the numbers says of roles, the axioms of the numbers say

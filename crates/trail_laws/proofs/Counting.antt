@@ -7,6 +7,7 @@ use Rattle.std.proofs.lemmas.List.Elements.{All-filter, filter_passes}
 use Rattle.std.proofs.lemmas.List.FromFn.{length-range_with_len, get_or-range_with_len}
 use Rattle.std.proofs.lemmas.List.Kept.{AllPairs-filter}
 use Rattle.std.proofs.lemmas.Map.Views.{Contains-from_any}
+use Rattle.shq_base.proofs.Bools.{counted_le, counted_at_most_one, none_counted}
 use Rattle.shq_meaning.specs.Below.{count_below}
 use Rattle.tableau_specs.proofs.Saturated.{in_range, in_filter}
 
@@ -19,23 +20,15 @@ count_agree (suc m) p q same =
     let here = same m (omega arith) in
     λ i. rest i + cond (here i) 1 0
 
-pub cond_le : (a b : Bool) → (a ≡ true → b ≡ true) → cond a 1 0 ≤ cond b 1 0
-cond_le false b imp = omega arith
-cond_le true b imp = rw (imp refl) (omega arith)
-
 pub cond_more : (a b : Bool) → a ≡ false → b ≡ true → cond a 1 0 + 1 ≤ cond b 1 0
 cond_more a b out here = rw (out, here) (omega arith)
-
-pub cond_one : (a : Bool) → cond a 1 0 ≤ 1
-cond_one true = omega arith
-cond_one false = omega arith
 
 -- what passes is counted by a weaker test
 pub count_le : (m : ℕ) (p q : ℕ → Bool) → ((y : ℕ) → y < m → p y ≡ true → q y ≡ true) → count_below m p ≤ count_below m q
 count_le zero p q imp = omega arith
 count_le (suc m) p q imp =
     let rest = count_le m p q (λ y lt. imp y (omega arith)) in
-    let here = cond_le (p m) (q m) (imp m (omega arith)) in
+    let here = counted_le (p m) (q m) (imp m (omega arith)) in
     omega arith
 
 -- and one more, where one passes the weaker test alone
@@ -48,16 +41,13 @@ count_more (suc n) p q y lt imp out here = elim (cases_eq y n) [
       omega arith
   | inr ne ↦
       let rest = count_more n p q y (omega arith) (λ z mt. imp z (omega arith)) out here in
-      let last = cond_le (p n) (q n) (imp n (omega arith)) in
+      let last = counted_le (p n) (q n) (imp n (omega arith)) in
       omega arith
 ]
 
 pub count_most : (n : ℕ) (p : ℕ → Bool) → count_below n p ≤ n
 count_most zero p = omega arith
-count_most (suc n) p = let rest = count_most n p in let here = cond_one (p n) in omega arith
-
-one_fails : (n : ℕ) (b : Bool) → b ≡ false → n + cond b 1 0 ≡ n
-one_fails n b e = rw e (omega arith)
+count_most (suc n) p = let rest = count_most n p in let here = counted_at_most_one (p n) in omega arith
 
 one_passes : (n : ℕ) (b : Bool) → b ≡ true → n + cond b 1 0 ≡ n + 1
 one_passes n b e = rw e refl
@@ -70,7 +60,7 @@ count_longer n zero m p e = omega (arith, ap (λ (a : ℕ). count_below a p) e, 
 count_longer n (suc k) m p e =
     let m' : m ≡ suc (n + k) = omega (arith, e) in
     let rest = count_longer n k (n + k) p refl in
-    let here = cond_one (p (n + k)) in
+    let here = counted_at_most_one (p (n + k)) in
     omega (arith, ap (λ (a : ℕ). count_below a p) m')
 
 -- where what is past the first n fails, it counts for nothing
@@ -79,7 +69,7 @@ count_no_more n zero m p e out = let e' : m ≡ n = omega (arith, e) in ap (λ (
 count_no_more n (suc k) m p e out =
     let m' : m ≡ suc (n + k) = omega (arith, e) in
     let rest = count_no_more n k (n + k) p refl (λ y from before. out y from (omega (arith, e))) in
-    let here = one_fails (count_below (n + k) p) (p (n + k)) (out (n + k) (omega arith) (omega (arith, e))) in
+    let here = none_counted (count_below (n + k) p) (p (n + k)) (out (n + k) (omega arith) (omega (arith, e))) in
     omega (arith, ap (λ (a : ℕ). count_below a p) m')
 
 pub count_all : (n : ℕ) (p : ℕ → Bool) → ((y : ℕ) → y < n → p y ≡ true) → count_below n p ≡ n

@@ -2,6 +2,7 @@
 use Rattle.std.proofs.Common.{◌≡◌, ℕ, ◌+◌, ◌-◌, ◌<◌, ◌≤◌, Bool, true, false, cond, ◌&&◌, List, [], ◌∷◌, ◌++◌, length, Result, Ok, refl, ap, ◌∙◌, arith, codes, decimal, nat_lt}
 use Rattle.std.specs.Prelude.{nat_le, slice_index_or}
 use Rattle.std.specs.List.{list_all}
+use Rattle.std.proofs.lemmas.Bool.{and_parts}
 use Rattle.shq_base.specs.Concept.{Concept, top, bottom, name, complement, intersection, union, some_of, all_of, at_least, at_most, exactly, Parts, no_parts, part, parts_of, part_list}
 use Rattle.shq_terms.specs.Listed.{Listed}
 use Rattle.shq_terms.specs.Uses.{uses_listed, parts_use_listed, axiom_uses_listed}
@@ -20,7 +21,7 @@ use Rattle.ofn_reader.specs.Axioms.{pair_count, axiom_tests, axiom_in, numbered_
 use Rattle.written_ontologies.specs.Writable.{expressions, all_expressions, is_named, axiom_expressions}
 use Rattle.written_ontologies.specs.Laws.{KnowsOwl}
 use Rattle.written_ontologies.proofs.Whole.{is_whole, are_whole, has_whole_items, has_item_count, is_whole_axiom, counted_parts}
-use Rattle.written_ontologies.proofs.Checks.{and_left, and_right, le_true, true_lt, true_le, no_more}
+use Rattle.written_ontologies.proofs.Checks.{le_true, true_lt, true_le, no_more}
 use Rattle.written_ontologies.proofs.Phrases.{item_of, all_items}
 use Rattle.written_ontologies.proofs.Terms.{role_phrase, two, concept_phrase, part_phrases, role_phrases, axiom_phrase, decimal_number, named_alone}
 use Rattle.written_ontologies.proofs.Keywords as keywords
@@ -110,8 +111,8 @@ module _ (ps : List Prefix) (knows : KnowsOwl ps) (o : Listed) (names : AreKnown
       let rs : List Test = role_tests ps (item_of line (role_phrase o r)) in
       let s : Counts = counted o (x + 1) (p + 1) n in
       head_walk x p n line all true 1 (rs ++ (ts ++ [])) is refl few few_parts
-      ∙ goes_on s s rs (ts ++ []) (role_walk ps knows o names (x + 1) (p + 1) n line r (true_lt r (length o.roles) (and_left (known_role r) (listed c) known)))
-      ∙ alone s (counted o (x + 1) (p + 1) (n + expressions c)) ts (concept_walk ps knows o names (x + 1) (p + 1) n line c (and_right (known_role r) (listed c) known) whole few_nodes)
+      ∙ goes_on s s rs (ts ++ []) (role_walk ps knows o names (x + 1) (p + 1) n line r (true_lt r (length o.roles) (and_parts (known_role r) (listed c) known).0))
+      ∙ alone s (counted o (x + 1) (p + 1) (n + expressions c)) ts (concept_walk ps knows o names (x + 1) (p + 1) n line c (and_parts (known_role r) (listed c) known).1 whole few_nodes)
 
   -- roles
   all_roles_walk : (x p n line : ℕ) (rs : List ℕ) (all : List Test) (enough : Bool) (k : ℕ) → all ≡ axiom_group_tests line enough k (roles_tests ps (all_items line (role_phrases o rs)))
@@ -126,8 +127,8 @@ module _ (ps : List Prefix) (knows : KnowsOwl ps) (o : Listed) (names : AreKnown
 
   two_roles : (r s : ℕ) → (known_role r && known_role s) ≡ true → list_all (λ t. nat_lt t (length o.roles)) (r ∷ s ∷ []) ≡ true
   two_roles r s known =
-      let first : known_role r ≡ true = and_left (known_role r) (known_role s) known in
-      let second : known_role s ≡ true = and_right (known_role r) (known_role s) known in
+      let first : known_role r ≡ true = (and_parts (known_role r) (known_role s) known).0 in
+      let second : known_role s ≡ true = (and_parts (known_role r) (known_role s) known).1 in
       λ i. first i && (second i && true)
 
   -- a name of a class, where it stands alone
@@ -149,7 +150,7 @@ module _ (ps : List Prefix) (knows : KnowsOwl ps) (o : Listed) (names : AreKnown
   union_walk x p n line c cs known many whole few few_parts few_nodes =
       let first : Item = item_of line (concept_phrase o c) in
       let others : Items = all_items line (part_phrases o (parts_of cs)) in
-      let named : is_named c ≡ true = and_left (is_named c) (are_whole (parts_of cs)) whole in
+      let named : is_named c ≡ true = (and_parts (is_named c) (are_whole (parts_of cs)) whole).0 in
       let single = named_alone c named in
       let count : item_count others ≡ length cs = count_parts ps knows o names x p line (parts_of cs) ∙ ap length (list_of_parts cs) in
       let k : ℕ = length cs + 1 + pair_count (length cs) in
@@ -167,8 +168,8 @@ module _ (ps : List Prefix) (knows : KnowsOwl ps) (o : Listed) (names : AreKnown
       let mid : Counts = counted o (x + 1) (p + k) (n + expressions c) in
       head_walk x p n line (axiom_tests ps (item_of line (axiom_phrase o (DisjointUnion c cs)))) (nat_le 3 (item_count others + 1)) k inner all (le_true 3 (item_count others + 1) (omega (arith, count, at_least_two))) few few_parts
       ∙ goes_on s mid (class_name_tests ps first) (joined (each_class ps others))
-      (ap (walked s) (named_tests line c named) ∙ concept_walk ps knows o names (x + 1) (p + k) n line c (and_left (listed c) (all_listed (parts_of cs)) known) single.0 few_first)
-      ∙ parts_walk ps knows o names (x + 1) (p + k) (n + expressions c) line (parts_of cs) (and_right (listed c) (all_listed (parts_of cs)) known) (and_right (is_named c) (are_whole (parts_of cs)) whole) few_others
+      (ap (walked s) (named_tests line c named) ∙ concept_walk ps knows o names (x + 1) (p + k) n line c (and_parts (listed c) (all_listed (parts_of cs)) known).0 single.0 few_first)
+      ∙ parts_walk ps knows o names (x + 1) (p + k) (n + expressions c) line (parts_of cs) (and_parts (listed c) (all_listed (parts_of cs)) known).1 (and_parts (is_named c) (are_whole (parts_of cs)) whole).1 few_others
       ∙ same_nodes (x + 1) (p + k) (n + expressions c + all_expressions (parts_of cs)) (n + (1 + all_expressions (parts_of cs))) nodes_are
 
   sub_class_walk : (x p n line : ℕ) (c d : Concept) → (listed c && listed d) ≡ true → (is_whole c && is_whole d) ≡ true → x + 1 ≤ 20000 → p + 1 ≤ 500000 → n + (expressions c + expressions d) ≤ 262144 → Walks x p n line (SubClassOf c d)
@@ -184,8 +185,8 @@ module _ (ps : List Prefix) (knows : KnowsOwl ps) (o : Listed) (names : AreKnown
       let few_second : n + expressions c + expressions d ≤ 262144 = omega (arith, few_nodes) in
       let nodes_are : n + expressions c + expressions d ≡ n + (expressions c + expressions d) = omega arith in
       head_walk x p n line (axiom_tests ps (item_of line (axiom_phrase o (SubClassOf c d)))) true 1 (ts ++ (us ++ [])) (keywords.sub_class_tests ps line is is (plain_first o line c (item second no_items))) refl few few_parts
-      ∙ goes_on s mid ts (us ++ []) (concept_walk ps knows o names (x + 1) (p + 1) n line c (and_left (listed c) (listed d) known) (and_left (is_whole c) (is_whole d) whole) few_first)
-      ∙ alone mid (counted o (x + 1) (p + 1) (n + expressions c + expressions d)) us (concept_walk ps knows o names (x + 1) (p + 1) (n + expressions c) line d (and_right (listed c) (listed d) known) (and_right (is_whole c) (is_whole d) whole) few_second)
+      ∙ goes_on s mid ts (us ++ []) (concept_walk ps knows o names (x + 1) (p + 1) n line c (and_parts (listed c) (listed d) known).0 (and_parts (is_whole c) (is_whole d) whole).0 few_first)
+      ∙ alone mid (counted o (x + 1) (p + 1) (n + expressions c + expressions d)) us (concept_walk ps knows o names (x + 1) (p + 1) (n + expressions c) line d (and_parts (listed c) (listed d) known).1 (and_parts (is_whole c) (is_whole d) whole).1 few_second)
       ∙ same_nodes (x + 1) (p + 1) (n + expressions c + expressions d) (n + (expressions c + expressions d)) nodes_are
 
   axiom_walk_by : (x p n line : ℕ) (a : Axiom) → axiom_uses_listed (length o.classes) (length o.roles) a ≡ true → has_item_count a ≡ true → has_whole_items a ≡ true → x + 1 ≤ 20000 → p + counted_parts a ≤ 500000 → n + axiom_expressions a ≤ 262144 → Walks x p n line a
@@ -223,7 +224,7 @@ module _ (ps : List Prefix) (knows : KnowsOwl ps) (o : Listed) (names : AreKnown
 
   pub axiom_walk : (x p n line : ℕ) (a : Axiom) → axiom_uses_listed (length o.classes) (length o.roles) a ≡ true → is_whole_axiom a ≡ true → x + 1 ≤ 20000 → p + counted_parts a ≤ 500000 → n + axiom_expressions a ≤ 262144 → Walks x p n line a
   axiom_walk x p n line a known whole few few_parts few_nodes =
-      axiom_walk_by x p n line a known (and_left (has_item_count a) (has_whole_items a) whole) (and_right (has_item_count a) (has_whole_items a) whole) few few_parts few_nodes
+      axiom_walk_by x p n line a known (and_parts (has_item_count a) (has_whole_items a) whole).0 (and_parts (has_item_count a) (has_whole_items a) whole).1 few few_parts few_nodes
 
   -- ---- values
 
@@ -257,38 +258,38 @@ module _ (ps : List Prefix) (knows : KnowsOwl ps) (o : Listed) (names : AreKnown
       concept_value line (name a) known whole = class_value line a known
       concept_value line (complement c) known whole = keywords.complement_value ps line (item_of line (concept_phrase o c)) s ∙ ap complement (concept_value line c known whole)
       concept_value line (intersection cs) known whole =
-          keywords.intersection_value ps line (all_items line (part_phrases o cs)) s ∙ ap intersection (parts_value line cs known (and_right (nat_le 2 (length (part_list cs))) (are_whole cs) whole))
+          keywords.intersection_value ps line (all_items line (part_phrases o cs)) s ∙ ap intersection (parts_value line cs known (and_parts (nat_le 2 (length (part_list cs))) (are_whole cs) whole).1)
       concept_value line (union cs) known whole =
-          keywords.union_value ps line (all_items line (part_phrases o cs)) s ∙ ap union (parts_value line cs known (and_right (nat_le 2 (length (part_list cs))) (are_whole cs) whole))
+          keywords.union_value ps line (all_items line (part_phrases o cs)) s ∙ ap union (parts_value line cs known (and_parts (nat_le 2 (length (part_list cs))) (are_whole cs) whole).1)
       concept_value line (some_of r c) known whole =
-          let role : role_of ps s (item_of line (role_phrase o r)) ≡ r = role_value line r (and_left (known_role r) (listed c) known) in
-          let inner : concept_of ps s (item_of line (concept_phrase o c)) ≡ c = concept_value line c (and_right (known_role r) (listed c) known) whole in
+          let role : role_of ps s (item_of line (role_phrase o r)) ≡ r = role_value line r (and_parts (known_role r) (listed c) known).0 in
+          let inner : concept_of ps s (item_of line (concept_phrase o c)) ≡ c = concept_value line c (and_parts (known_role r) (listed c) known).1 whole in
           keywords.some_value ps line (item_of line (role_phrase o r)) (item_of line (concept_phrase o c)) s ∙ (λ i. some_of (role i) (inner i))
       concept_value line (all_of r c) known whole =
-          let role : role_of ps s (item_of line (role_phrase o r)) ≡ r = role_value line r (and_left (known_role r) (listed c) known) in
-          let inner : concept_of ps s (item_of line (concept_phrase o c)) ≡ c = concept_value line c (and_right (known_role r) (listed c) known) whole in
+          let role : role_of ps s (item_of line (role_phrase o r)) ≡ r = role_value line r (and_parts (known_role r) (listed c) known).0 in
+          let inner : concept_of ps s (item_of line (concept_phrase o c)) ≡ c = concept_value line c (and_parts (known_role r) (listed c) known).1 whole in
           keywords.all_value ps line (item_of line (role_phrase o r)) (item_of line (concept_phrase o c)) s ∙ (λ i. all_of (role i) (inner i))
       concept_value line (at_least k r c) known whole =
-          let number : cardinality_of (name_item (decimal k) line) ≡ k = number_value line k (and_left (nat_le k 100) (is_whole c) whole) in
-          let role : role_of ps s (item_of line (role_phrase o r)) ≡ r = role_value line r (and_left (known_role r) (listed c) known) in
-          let inner : concept_of ps s (item_of line (concept_phrase o c)) ≡ c = concept_value line c (and_right (known_role r) (listed c) known) (and_right (nat_le k 100) (is_whole c) whole) in
+          let number : cardinality_of (name_item (decimal k) line) ≡ k = number_value line k (and_parts (nat_le k 100) (is_whole c) whole).0 in
+          let role : role_of ps s (item_of line (role_phrase o r)) ≡ r = role_value line r (and_parts (known_role r) (listed c) known).0 in
+          let inner : concept_of ps s (item_of line (concept_phrase o c)) ≡ c = concept_value line c (and_parts (known_role r) (listed c) known).1 (and_parts (nat_le k 100) (is_whole c) whole).1 in
           keywords.least_value ps line (name_item (decimal k) line) (item_of line (role_phrase o r)) (item_of line (concept_phrase o c)) s ∙ (λ i. at_least (number i) (role i) (inner i))
       concept_value line (at_most k r c) known whole =
-          let number : cardinality_of (name_item (decimal k) line) ≡ k = number_value line k (and_left (nat_le k 100) (is_whole c) whole) in
-          let role : role_of ps s (item_of line (role_phrase o r)) ≡ r = role_value line r (and_left (known_role r) (listed c) known) in
-          let inner : concept_of ps s (item_of line (concept_phrase o c)) ≡ c = concept_value line c (and_right (known_role r) (listed c) known) (and_right (nat_le k 100) (is_whole c) whole) in
+          let number : cardinality_of (name_item (decimal k) line) ≡ k = number_value line k (and_parts (nat_le k 100) (is_whole c) whole).0 in
+          let role : role_of ps s (item_of line (role_phrase o r)) ≡ r = role_value line r (and_parts (known_role r) (listed c) known).0 in
+          let inner : concept_of ps s (item_of line (concept_phrase o c)) ≡ c = concept_value line c (and_parts (known_role r) (listed c) known).1 (and_parts (nat_le k 100) (is_whole c) whole).1 in
           keywords.most_value ps line (name_item (decimal k) line) (item_of line (role_phrase o r)) (item_of line (concept_phrase o c)) s ∙ (λ i. at_most (number i) (role i) (inner i))
       concept_value line (exactly k r c) known whole =
-          let number : cardinality_of (name_item (decimal k) line) ≡ k = number_value line k (and_left (nat_le k 100) (is_whole c) whole) in
-          let role : role_of ps s (item_of line (role_phrase o r)) ≡ r = role_value line r (and_left (known_role r) (listed c) known) in
-          let inner : concept_of ps s (item_of line (concept_phrase o c)) ≡ c = concept_value line c (and_right (known_role r) (listed c) known) (and_right (nat_le k 100) (is_whole c) whole) in
+          let number : cardinality_of (name_item (decimal k) line) ≡ k = number_value line k (and_parts (nat_le k 100) (is_whole c) whole).0 in
+          let role : role_of ps s (item_of line (role_phrase o r)) ≡ r = role_value line r (and_parts (known_role r) (listed c) known).0 in
+          let inner : concept_of ps s (item_of line (concept_phrase o c)) ≡ c = concept_value line c (and_parts (known_role r) (listed c) known).1 (and_parts (nat_le k 100) (is_whole c) whole).1 in
           keywords.exact_value ps line (name_item (decimal k) line) (item_of line (role_phrase o r)) (item_of line (concept_phrase o c)) s ∙ (λ i. exactly (number i) (role i) (inner i))
 
       parts_value : (line : ℕ) (cs : Parts) → all_listed cs ≡ true → are_whole cs ≡ true → concepts_of ps s (all_items line (part_phrases o cs)) ≡ cs
       parts_value line no_parts known whole = refl
       parts_value line (part c cs) known whole =
-          let first : concept_of ps s (item_of line (concept_phrase o c)) ≡ c = concept_value line c (and_left (listed c) (all_listed cs) known) (and_left (is_whole c) (are_whole cs) whole) in
-          let others : concepts_of ps s (all_items line (part_phrases o cs)) ≡ cs = parts_value line cs (and_right (listed c) (all_listed cs) known) (and_right (is_whole c) (are_whole cs) whole) in
+          let first : concept_of ps s (item_of line (concept_phrase o c)) ≡ c = concept_value line c (and_parts (listed c) (all_listed cs) known).0 (and_parts (is_whole c) (are_whole cs) whole).0 in
+          let others : concepts_of ps s (all_items line (part_phrases o cs)) ≡ cs = parts_value line cs (and_parts (listed c) (all_listed cs) known).1 (and_parts (is_whole c) (are_whole cs) whole).1 in
           λ i. part (first i) (others i)
 
     roles_value : (line : ℕ) (rs : List ℕ) → list_all (λ r. nat_lt r (length o.roles)) rs ≡ true → roles_of ps s (all_items line (role_phrases o rs)) ≡ rs
@@ -296,8 +297,8 @@ module _ (ps : List Prefix) (knows : KnowsOwl ps) (o : Listed) (names : AreKnown
     roles_value line (r ∷ rs) known =
         let here : Bool = known_role r in
         let others : Bool = list_all (λ t. nat_lt t (length o.roles)) rs in
-        let first : role_of ps s (item_of line (role_phrase o r)) ≡ r = role_value line r (and_left here others known) in
-        let rest : roles_of ps s (all_items line (role_phrases o rs)) ≡ rs = roles_value line rs (and_right here others known) in
+        let first : role_of ps s (item_of line (role_phrase o r)) ≡ r = role_value line r (and_parts here others known).0 in
+        let rest : roles_of ps s (all_items line (role_phrases o rs)) ≡ rs = roles_value line rs (and_parts here others known).1 in
         λ i. first i ∷ rest i
 
     -- a name alone stands for the same
@@ -323,8 +324,8 @@ module _ (ps : List Prefix) (knows : KnowsOwl ps) (o : Listed) (names : AreKnown
     axiom_value_by : (line : ℕ) (a : Axiom) → axiom_uses_listed (length o.classes) (length o.roles) a ≡ true → has_whole_items a ≡ true → axiom_in ps s (item_of line (axiom_phrase o a)) ≡ one_axiom line a
     axiom_value_by line (SubClassOf c d) known whole =
         let is : Items = item (item_of line (concept_phrase o c)) (item (item_of line (concept_phrase o d)) no_items) in
-        let first : concept_of ps s (item_of line (concept_phrase o c)) ≡ c = concept_value line c (and_left (listed c) (listed d) known) (and_left (is_whole c) (is_whole d) whole) in
-        let second : concept_of ps s (item_of line (concept_phrase o d)) ≡ d = concept_value line d (and_right (listed c) (listed d) known) (and_right (is_whole c) (is_whole d) whole) in
+        let first : concept_of ps s (item_of line (concept_phrase o c)) ≡ c = concept_value line c (and_parts (listed c) (listed d) known).0 (and_parts (is_whole c) (is_whole d) whole).0 in
+        let second : concept_of ps s (item_of line (concept_phrase o d)) ≡ d = concept_value line d (and_parts (listed c) (listed d) known).1 (and_parts (is_whole c) (is_whole d) whole).1 in
         keywords.sub_class_value ps line is is (plain_first o line c (item (item_of line (concept_phrase o d)) no_items)) s ∙ (λ i. one_axiom line (SubClassOf (first i) (second i)))
     axiom_value_by line (EquivalentClasses cs) known whole =
         let is : Items = all_items line (part_phrases o (parts_of cs)) in
@@ -335,27 +336,27 @@ module _ (ps : List Prefix) (knows : KnowsOwl ps) (o : Listed) (names : AreKnown
     axiom_value_by line (DisjointUnion c cs) known whole =
         let others : Items = all_items line (part_phrases o (parts_of cs)) in
         let is : Items = item (item_of line (concept_phrase o c)) others in
-        let named : is_named c ≡ true = and_left (is_named c) (are_whole (parts_of cs)) whole in
-        let first : class_named s (iri_of ps (item_of line (concept_phrase o c))) ≡ c = named_value line c named ∙ concept_value line c (and_left (listed c) (all_listed (parts_of cs)) known) (named_alone c named).0 in
-        let rest : part_list (concepts_of ps s others) ≡ cs = listed_parts line cs (and_right (listed c) (all_listed (parts_of cs)) known) (and_right (is_named c) (are_whole (parts_of cs)) whole) in
+        let named : is_named c ≡ true = (and_parts (is_named c) (are_whole (parts_of cs)) whole).0 in
+        let first : class_named s (iri_of ps (item_of line (concept_phrase o c))) ≡ c = named_value line c named ∙ concept_value line c (and_parts (listed c) (all_listed (parts_of cs)) known).0 (named_alone c named).0 in
+        let rest : part_list (concepts_of ps s others) ≡ cs = listed_parts line cs (and_parts (listed c) (all_listed (parts_of cs)) known).1 (and_parts (is_named c) (are_whole (parts_of cs)) whole).1 in
         keywords.disjoint_union_value ps line is is (plain_first o line c others) s ∙ (λ i. one_axiom line (DisjointUnion (first i) (rest i)))
     axiom_value_by line (SubRole r t) known whole =
         let is : Items = all_items line (role_phrases o (r ∷ t ∷ [])) in
-        let first : role_of ps s (item_of line (role_phrase o r)) ≡ r = role_value line r (and_left (known_role r) (known_role t) known) in
-        let second : role_of ps s (item_of line (role_phrase o t)) ≡ t = role_value line t (and_right (known_role r) (known_role t) known) in
+        let first : role_of ps s (item_of line (role_phrase o r)) ≡ r = role_value line r (and_parts (known_role r) (known_role t) known).0 in
+        let second : role_of ps s (item_of line (role_phrase o t)) ≡ t = role_value line t (and_parts (known_role r) (known_role t) known).1 in
         keywords.sub_role_value ps line is is refl s ∙ (λ i. one_axiom line (SubRole (first i) (second i)))
     axiom_value_by line (EquivalentRoles rs) known whole =
         let is : Items = all_items line (role_phrases o rs) in
         keywords.equivalent_roles_value ps line is is (plain_roles o line rs) s ∙ ap (λ ts. one_axiom line (EquivalentRoles ts)) (roles_value line rs known)
     axiom_value_by line (Domain r c) known whole =
         let is : Items = all_items line (two (role_phrase o r) (concept_phrase o c)) in
-        let first : role_of ps s (item_of line (role_phrase o r)) ≡ r = role_value line r (and_left (known_role r) (listed c) known) in
-        let second : concept_of ps s (item_of line (concept_phrase o c)) ≡ c = concept_value line c (and_right (known_role r) (listed c) known) whole in
+        let first : role_of ps s (item_of line (role_phrase o r)) ≡ r = role_value line r (and_parts (known_role r) (listed c) known).0 in
+        let second : concept_of ps s (item_of line (concept_phrase o c)) ≡ c = concept_value line c (and_parts (known_role r) (listed c) known).1 whole in
         keywords.domain_value ps line is is refl s ∙ (λ i. one_axiom line (Domain (first i) (second i)))
     axiom_value_by line (Range r c) known whole =
         let is : Items = all_items line (two (role_phrase o r) (concept_phrase o c)) in
-        let first : role_of ps s (item_of line (role_phrase o r)) ≡ r = role_value line r (and_left (known_role r) (listed c) known) in
-        let second : concept_of ps s (item_of line (concept_phrase o c)) ≡ c = concept_value line c (and_right (known_role r) (listed c) known) whole in
+        let first : role_of ps s (item_of line (role_phrase o r)) ≡ r = role_value line r (and_parts (known_role r) (listed c) known).0 in
+        let second : concept_of ps s (item_of line (concept_phrase o c)) ≡ c = concept_value line c (and_parts (known_role r) (listed c) known).1 whole in
         keywords.range_value ps line is is refl s ∙ (λ i. one_axiom line (Range (first i) (second i)))
     axiom_value_by line (Functional r) known whole =
         let is : Items = all_items line (role_phrases o (r ∷ [])) in
@@ -365,4 +366,4 @@ module _ (ps : List Prefix) (knows : KnowsOwl ps) (o : Listed) (names : AreKnown
         keywords.transitive_value ps line is is refl s ∙ ap (λ k. one_axiom line (Transitive k)) (role_value line r known)
 
     pub axiom_value : (line : ℕ) (a : Axiom) → axiom_uses_listed (length o.classes) (length o.roles) a ≡ true → is_whole_axiom a ≡ true → axiom_in ps s (item_of line (axiom_phrase o a)) ≡ one_axiom line a
-    axiom_value line a known whole = axiom_value_by line a known (and_right (has_item_count a) (has_whole_items a) whole)
+    axiom_value line a known whole = axiom_value_by line a known (and_parts (has_item_count a) (has_whole_items a) whole).1

@@ -1,24 +1,10 @@
 -- What tests of numbers, of both of two and of all of a list say; and places one behind another.
-use Rattle.std.proofs.Common.{◌≡◌, ℕ, zero, suc, ◌+◌, ◌<◌, ◌≤◌, Bool, true, false, not, ◌&&◌, List, [], ◌∷◌, length, get_or, refl, arith, nat_lt}
+use Rattle.std.proofs.Common.{◌≡◌, ℕ, zero, suc, ◌+◌, ◌<◌, ◌≤◌, Bool, true, List, [], ◌∷◌, length, get_or, arith, nat_lt}
 use Rattle.std.specs.Prelude.{nat_le, nat_eq}
-use Rattle.std.proofs.lemmas.Bool.{eqb-true}
+use Rattle.std.proofs.lemmas.Bool.{eqb-true, and_parts, and_from}
 use Rattle.std.proofs.lemmas.Bool.Decides.{nat_tests}
 use Rattle.std.specs.List.{list_all}
-
-pub and_left : (a b : Bool) → (a && b) ≡ true → a ≡ true
-and_left true b h = refl
-and_left false b h = cc
-
-pub and_right : (a b : Bool) → (a && b) ≡ true → b ≡ true
-and_right true b h = h
-and_right false b h = cc
-
-pub and_both : (a b : Bool) → a ≡ true → b ≡ true → (a && b) ≡ true
-and_both a b x y = λ i. x i && y i
-
-pub not_true : (b : Bool) → not b ≡ true → b ≡ false
-not_true true h = cc
-not_true false h = refl
+use Rattle.shq_base.proofs.Bools.{false_from_not}
 
 pub le_true : (m n : ℕ) → m ≤ n → nat_le m n ≡ true
 le_true m n h = grind (arith, nat_tests)
@@ -34,8 +20,8 @@ true_lt m n h = grind (arith, nat_tests)
 
 pub all_at : (p : List ℕ → Bool) (names : List (List ℕ)) (k : ℕ) → list_all p names ≡ true → k < length names → p (get_or names k []) ≡ true
 all_at p [] k all less = absurd (omega (arith, less))
-all_at p (w ∷ names) zero all less = and_left (p w) (list_all p names) all
-all_at p (w ∷ names) (suc k) all less = all_at p names k (and_right (p w) (list_all p names) all) (omega (arith, less))
+all_at p (w ∷ names) zero all less = (and_parts (p w) (list_all p names) all).0
+all_at p (w ∷ names) (suc k) all less = all_at p names k (and_parts (p w) (list_all p names) all).1 (omega (arith, less))
 
 pub eq_true : (m n : ℕ) → nat_eq m n ≡ true → m ≡ n
 eq_true m n h = eqb-true m n h

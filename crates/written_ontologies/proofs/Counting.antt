@@ -3,6 +3,7 @@ use Rattle.std.proofs.Common.{◌≡◌, ℕ, ◌+◌, ◌≤◌, Bool, true, fa
 use Rattle.std.specs.List.{list_all}
 use Rattle.std.specs.Str.{bytes_eq}
 use Rattle.std.proofs.lemmas.List.Folds.{list_all-append}
+use Rattle.std.proofs.lemmas.Bool.{and_from}
 use Rattle.shq_terms.specs.Names.{with_at, with_name}
 use Rattle.shq_terms.specs.Distinct.{AreDistinct}
 use Rattle.shq_terms.proofs.Distinct.{pushed_distinct}
@@ -13,7 +14,7 @@ use Rattle.ofn_expressions.specs.declared.refusal.Refusal.{Refusal}
 use Rattle.ofn_expressions.proofs.Walks.{walked-cons, walked_append, then}
 use Rattle.ofn_expressions.proofs.Kept.{keeps_keeps, walked_keeps}
 use Rattle.written_ontologies.specs.Writable.{is_class_iri, is_role_iri}
-use Rattle.written_ontologies.proofs.Checks.{and_both, true_le}
+use Rattle.written_ontologies.proofs.Checks.{true_le}
 
 -- ---- lists of tests that hold
 
@@ -79,7 +80,7 @@ all_with p names w all good = by (position (bytes_eq w) names)
   where
     by : (r : Option ℕ) → list_all p (with_at r names w) ≡ true
     by (Some k) = all
-    by None = list_all-append p names (w ∷ []) ∙ and_both (list_all p names) (list_all p (w ∷ [])) all (and_both (p w) true good refl)
+    by None = list_all-append p names (w ∷ []) ∙ and_from (list_all p names) (list_all p (w ∷ [])) all (and_from (p w) true good refl)
 
 distinct_with : (names : List (List ℕ)) (w : List ℕ) → AreDistinct names → AreDistinct (with_name names w)
 distinct_with names w distinct = by (position (bytes_eq w) names) refl

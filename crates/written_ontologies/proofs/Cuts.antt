@@ -3,13 +3,15 @@ use Rattle.std.proofs.Common.{◌≡◌, ℕ, suc, ◌+◌, Bool, true, false, n
 use Rattle.std.proofs.lemmas.Grind.{common_steps}
 use Rattle.std.proofs.Math.Seq.{take-append_seam}
 use Rattle.std.specs.List.{list_all, prefix_len}
+use Rattle.std.proofs.lemmas.Bool.{and_parts}
+use Rattle.shq_base.proofs.Bools.{false_from_not}
 use Rattle.ofn_tree.specs.declared.token.Kind.TheVariants.{OpenBracket, CloseBracket, Equals, Iri, Name}
 use Rattle.ofn_tree.specs.Token.{PlainToken}
 use Rattle.ofn_tree.specs.Spans.{width}
 use Rattle.ofn_tree.specs.Lexemes as lexemes
 use Rattle.ofn_tree.specs.Lexemes.{is_whitespace, is_iri_byte, is_name_byte, is_tag_byte, is_comment_byte, is_line_feed, line_behind, Lexeme, Cut, gap, wrong, cut_short, sign_at, string_at, quoted, tag_at, carets_at, iri_at, name_at, cut_at, Piece, whole, token_of, pieces_with, pieces_from}
 use Rattle.ofn_writer.specs.Canonical.{iri_text, items_text, group_text, line}
-use Rattle.written_ontologies.proofs.Checks.{and_left, and_right, not_true, no_more, one_further}
+use Rattle.written_ontologies.proofs.Checks.{no_more, one_further}
 use Rattle.written_ontologies.proofs.Phrases.{Phrase, word, iri, call, Phrases, none, more, text_of, texts_of, is_name, can_stand, can_all_stand, token, tokens_of, all_tokens, lines_text, all_can_stand, lines_tokens}
 
 -- tokens as pieces
@@ -62,16 +64,16 @@ one_more n m same = omega arith
 front : (p : ℕ → Bool) (bs : List ℕ) (b : ℕ) (rest : List ℕ) → list_all p bs ≡ true → p b ≡ false → prefix_len p (bs ++ b ∷ rest) ≡ length bs
 front p [] b rest all fails = ap (λ v. cond v (1 + prefix_len p rest) 0) fails
 front p (c ∷ bs) b rest all fails =
-    ap (λ v. cond v (1 + prefix_len p (bs ++ b ∷ rest)) 0) (and_left (p c) (list_all p bs) all)
-    ∙ one_more (prefix_len p (bs ++ b ∷ rest)) (length bs) (front p bs b rest (and_right (p c) (list_all p bs) all) fails)
+    ap (λ v. cond v (1 + prefix_len p (bs ++ b ∷ rest)) 0) (and_parts (p c) (list_all p bs) all).0
+    ∙ one_more (prefix_len p (bs ++ b ∷ rest)) (length bs) (front p bs b rest (and_parts (p c) (list_all p bs) all).1 fails)
 
 -- bytes that are no line feeds are gone over
 gone : (p : ℕ → Bool) → ((b : ℕ) → p b ≡ true → is_line_feed b ≡ false) → (bad : Option ℕ) (place n : ℕ) (bs rest : List ℕ) → list_all p bs ≡ true
     → pieces_from bad (length bs) place n (bs ++ rest) ≡ pieces_from bad 0 (place + length bs) n rest
 gone p plain bad place n [] rest all = ap (λ k. pieces_from bad 0 k n rest) (no_more place)
 gone p plain bad place n (c ∷ bs) rest all =
-    ap (λ v. pieces_from bad (length bs) (place + 1) (cond v (n + 1) n) (bs ++ rest)) (plain c (and_left (p c) (list_all p bs) all))
-    ∙ gone p plain bad (place + 1) n bs rest (and_right (p c) (list_all p bs) all)
+    ap (λ v. pieces_from bad (length bs) (place + 1) (cond v (n + 1) n) (bs ++ rest)) (plain c (and_parts (p c) (list_all p bs) all).0)
+    ∙ gone p plain bad (place + 1) n bs rest (and_parts (p c) (list_all p bs) all).1
     ∙ ap (λ k. pieces_from bad 0 k n rest) (one_further place (length bs))
 
 name_no_feed : (b : ℕ) → is_name_byte b ≡ true → is_line_feed b ≡ false
@@ -110,18 +112,18 @@ name_begins b bs h =
 all_front : (p : ℕ → Bool) (bs : List ℕ) → list_all p bs ≡ true → prefix_len p (bs ++ []) ≡ length bs
 all_front p [] all = refl
 all_front p (c ∷ bs) all =
-    ap (λ v. cond v (1 + prefix_len p (bs ++ [])) 0) (and_left (p c) (list_all p bs) all)
-    ∙ one_more (prefix_len p (bs ++ [])) (length bs) (all_front p bs (and_right (p c) (list_all p bs) all))
+    ap (λ v. cond v (1 + prefix_len p (bs ++ [])) 0) (and_parts (p c) (list_all p bs) all).0
+    ∙ one_more (prefix_len p (bs ++ [])) (length bs) (all_front p bs (and_parts (p c) (list_all p bs) all).1)
 
 name_length : (bs rest : List ℕ) → list_all is_name_byte bs ≡ true → stops rest ≡ true → prefix_len is_name_byte (bs ++ rest) ≡ length bs
 name_length bs [] all end = all_front is_name_byte bs all
-name_length bs (c ∷ rest) all end = front is_name_byte bs c rest all (not_true (is_name_byte c) end)
+name_length bs (c ∷ rest) all end = front is_name_byte bs c rest all (false_from_not (is_name_byte c) end)
 
 pub cuts_name : (bad : Option ℕ) (place n : ℕ) (w rest : List ℕ) → is_name w ≡ true → stops rest ≡ true → Cuts bad place n (w ++ rest) (token Name w place n ∷ []) (place + length w) n rest
 cuts_name bad place n [] rest h end = cc
 cuts_name bad place n (b ∷ bs) rest h end =
-    let first : is_name_byte b ≡ true = and_left (is_name_byte b) (list_all is_name_byte bs) h in
-    let others : list_all is_name_byte bs ≡ true = and_right (is_name_byte b) (list_all is_name_byte bs) h in
+    let first : is_name_byte b ≡ true = (and_parts (is_name_byte b) (list_all is_name_byte bs) h).0 in
+    let others : list_all is_name_byte bs ≡ true = (and_parts (is_name_byte b) (list_all is_name_byte bs) h).1 in
     let long : prefix_len is_name_byte (bs ++ rest) ≡ length bs = name_length bs rest others end in
     let here : cut_at b (bs ++ rest) ≡ name_at (length bs) b (bs ++ rest) = name_begins b (bs ++ rest) first ∙ ap (λ k. name_at k b (bs ++ rest)) long in
     let go : ℕ → List Piece = λ k. pieces_from bad k (place + 1) (line_behind b n) (bs ++ rest) in
@@ -144,8 +146,8 @@ byte_at (c ∷ bs) b rest = byte_at bs b rest
 no_feeds : (bs : List ℕ) → list_all is_iri_byte bs ≡ true → list_all (λ b. not (is_line_feed b)) (bs ++ 62 ∷ []) ≡ true
 no_feeds [] h = refl
 no_feeds (b ∷ bs) h =
-    let here : not (is_line_feed b) ≡ true = ap not (iri_no_feed b (and_left (is_iri_byte b) (list_all is_iri_byte bs) h)) in
-    let others : list_all (λ b. not (is_line_feed b)) (bs ++ 62 ∷ []) ≡ true = no_feeds bs (and_right (is_iri_byte b) (list_all is_iri_byte bs) h) in
+    let here : not (is_line_feed b) ≡ true = ap not (iri_no_feed b (and_parts (is_iri_byte b) (list_all is_iri_byte bs) h).0) in
+    let others : list_all (λ b. not (is_line_feed b)) (bs ++ 62 ∷ []) ≡ true = no_feeds bs (and_parts (is_iri_byte b) (list_all is_iri_byte bs) h).1 in
     λ i. here i && others i
 
 pub cuts_iri : (bad : Option ℕ) (place n : ℕ) (w rest : List ℕ) → list_all is_iri_byte w ≡ true → Cuts bad place n (iri_text w ++ rest) (token Iri w place n ∷ []) (place + length (iri_text w)) n rest
@@ -161,7 +163,7 @@ cuts_iri bad place n w rest h =
     let count : length w + 1 ≡ length text = sym (length-append w (62 ∷ [])) in
     let behind : pieces_from bad (length w + 1) (place + 1) n (text ++ rest) ≡ pieces_from bad 0 (place + suc (length text)) n rest =
     ap (λ k. pieces_from bad k (place + 1) n (text ++ rest)) count
-    ∙ gone (λ b. not (is_line_feed b)) (λ b. not_true (is_line_feed b)) bad (place + 1) n text rest (no_feeds w h)
+    ∙ gone (λ b. not (is_line_feed b)) (λ b. false_from_not (is_line_feed b)) bad (place + 1) n text rest (no_feeds w h)
     ∙ ap (λ k. pieces_from bad 0 k n rest) (one_further place (length text)) in
     let inner : take (length w) (w ++ 62 ∷ rest) ≡ w = take-append_seam w (62 ∷ rest) in
     let far : place + (length w + 1 + 1) ≡ place + (1 + (length w + 1)) = omega arith in
@@ -197,11 +199,11 @@ mutual
       (in_brackets w inner rest) (long_brackets w inner place)
       (cuts_both bad place n (w ++ (40 ∷ (inner ++ (41 ∷ rest)))) (token Name w place n ∷ []) p1 n (40 ∷ (inner ++ (41 ∷ rest)))
       (token OpenBracket (40 ∷ []) p1 n ∷ (all_tokens n p2 ps ++ token CloseBracket (41 ∷ []) p3 n ∷ [])) (p3 + 1) n rest
-      (cuts_name bad place n w (40 ∷ (inner ++ (41 ∷ rest))) (and_left (is_name w) (can_all_stand ps) h) refl)
+      (cuts_name bad place n w (40 ∷ (inner ++ (41 ∷ rest))) (and_parts (is_name w) (can_all_stand ps) h).0 refl)
       (cuts_both bad p1 n (40 ∷ (inner ++ (41 ∷ rest))) (token OpenBracket (40 ∷ []) p1 n ∷ []) p2 n (inner ++ (41 ∷ rest)) (all_tokens n p2 ps ++ token CloseBracket (41 ∷ []) p3 n ∷ []) (p3 + 1) n rest
       (cuts_open bad p1 n (inner ++ (41 ∷ rest)))
       (cuts_both bad p2 n (inner ++ (41 ∷ rest)) (all_tokens n p2 ps) p3 n (41 ∷ rest) (token CloseBracket (41 ∷ []) p3 n ∷ []) (p3 + 1) n rest
-      (cuts_phrases bad p2 n ps (41 ∷ rest) (and_right (is_name w) (can_all_stand ps) h) refl)
+      (cuts_phrases bad p2 n ps (41 ∷ rest) (and_parts (is_name w) (can_all_stand ps) h).1 refl)
       (cuts_close bad p3 n rest))))
 
   pub cuts_phrases : (bad : Option ℕ) (place n : ℕ) (ps : Phrases) (rest : List ℕ) → can_all_stand ps ≡ true → stops rest ≡ true
@@ -213,7 +215,7 @@ mutual
       let there : place + length text ≡ place + length (text ++ []) = ap (λ l. place + length l) (sym (append-nil text)) in
       at_text bad place n (text ++ rest) ((text ++ []) ++ rest) (tokens_of n place p ++ []) (place + length text) (place + length (text ++ [])) n rest alone there
       (cuts_both bad place n (text ++ rest) (tokens_of n place p) (place + length text) n rest [] (place + length text) n rest
-      (cuts_phrase bad place n p rest (and_left (can_stand p) true h) end)
+      (cuts_phrase bad place n p rest (and_parts (can_stand p) true h).0 end)
       (cuts_nothing bad (place + length text) n rest))
   cuts_phrases bad place n (more p (more q qs)) rest h end =
       let text : List ℕ = text_of p in
@@ -224,10 +226,10 @@ mutual
       at_text bad place n (text ++ (32 ∷ (others ++ rest))) ((text ++ 32 ∷ others) ++ rest) (all_tokens n place (more p (more q qs))) p3 (place + length (text ++ 32 ∷ others)) n rest
       (sym (append_assoc text (32 ∷ others) rest)) (long_spaced text others place)
       (cuts_both bad place n (text ++ (32 ∷ (others ++ rest))) (tokens_of n place p) p1 n (32 ∷ (others ++ rest)) (all_tokens n p2 (more q qs)) p3 n rest
-      (cuts_phrase bad place n p (32 ∷ (others ++ rest)) (and_left (can_stand p) (can_all_stand (more q qs)) h) refl)
+      (cuts_phrase bad place n p (32 ∷ (others ++ rest)) (and_parts (can_stand p) (can_all_stand (more q qs)) h).0 refl)
       (cuts_both bad p1 n (32 ∷ (others ++ rest)) [] p2 n (others ++ rest) (all_tokens n p2 (more q qs)) p3 n rest
       (cuts_blank bad p1 n (others ++ rest))
-      (cuts_phrases bad p2 n (more q qs) rest (and_right (can_stand p) (can_all_stand (more q qs)) h) end)))
+      (cuts_phrases bad p2 n (more q qs) rest (and_parts (can_stand p) (can_all_stand (more q qs)) h).1 end)))
 
 -- ---- lines
 
@@ -248,10 +250,10 @@ cuts_lines bad place n (p ∷ ps) rest h =
     let whole_text : text ++ (10 ∷ (others ++ rest)) ≡ (line text ++ others) ++ rest =
     sym (append_assoc text (10 ∷ []) (others ++ rest)) ∙ sym (append_assoc (line text) others rest) in
     let below : Cuts bad p2 (n + 1) (others ++ rest) (lines_tokens (n + 1) p2 ps) p3 m rest =
-    subst (λ k. Cuts bad p2 (n + 1) (others ++ rest) (lines_tokens (n + 1) p2 ps) p3 k rest) (one_further n (length ps)) (cuts_lines bad p2 (n + 1) ps rest (and_right (can_stand p) (all_can_stand ps) h)) in
+    subst (λ k. Cuts bad p2 (n + 1) (others ++ rest) (lines_tokens (n + 1) p2 ps) p3 k rest) (one_further n (length ps)) (cuts_lines bad p2 (n + 1) ps rest (and_parts (can_stand p) (all_can_stand ps) h).1) in
     at_text bad place n (text ++ (10 ∷ (others ++ rest))) ((line text ++ others) ++ rest) (lines_tokens n place (p ∷ ps)) p3 (place + length (line text ++ others)) m rest
     whole_text (long_line text others place)
     (cuts_both bad place n (text ++ (10 ∷ (others ++ rest))) (tokens_of n place p) p1 n (10 ∷ (others ++ rest)) (lines_tokens (n + 1) p2 ps) p3 m rest
-    (cuts_phrase bad place n p (10 ∷ (others ++ rest)) (and_left (can_stand p) (all_can_stand ps) h) refl)
+    (cuts_phrase bad place n p (10 ∷ (others ++ rest)) (and_parts (can_stand p) (all_can_stand ps) h).0 refl)
     (cuts_both bad p1 n (10 ∷ (others ++ rest)) [] p2 (n + 1) (others ++ rest) (lines_tokens (n + 1) p2 ps) p3 m rest
     (cuts_feed bad p1 n (others ++ rest)) below))

@@ -3,6 +3,8 @@ use Rattle.std.proofs.Common.{◌≡◌, ℕ, suc, ◌+◌, ◌≤◌, Bool, tru
 use Rattle.std.specs.Prelude.{nat_le, is_none}
 use Rattle.std.specs.List.{list_all}
 use Rattle.std.specs.Str.{bytes_eq}
+use Rattle.std.proofs.lemmas.Bool.{and_parts}
+use Rattle.shq_base.proofs.Bools.{false_from_not}
 use Rattle.shq_terms.specs.Listed.{Listed}
 use Rattle.shq_terms.specs.Names.{with_at, with_name}
 use Rattle.shq_terms.specs.Uses.{axiom_uses_listed, all_use_listed}
@@ -20,7 +22,7 @@ use Rattle.ofn_reader.specs.Axioms.{axiom_tests, axioms_tests, axioms_in}
 use Rattle.written_ontologies.specs.Writable.{is_iri, is_class_iri, is_role_iri, axiom_expressions}
 use Rattle.written_ontologies.proofs.Whole.{is_whole_axiom, counted_parts, total}
 use Rattle.written_ontologies.specs.Laws.{axioms_of}
-use Rattle.written_ontologies.proofs.Checks.{and_left, and_right, not_true, le_true, no_more, one_further}
+use Rattle.written_ontologies.proofs.Checks.{le_true, no_more, one_further}
 use Rattle.written_ontologies.proofs.Phrases.{Phrase, iri, call, item_of, lines_items}
 use Rattle.written_ontologies.proofs.Terms.{one, axiom_phrase}
 use Rattle.written_ontologies.proofs.Keywords.{class_declared, role_declared, no_axiom}
@@ -59,8 +61,8 @@ module _ (kind : List ℕ) (holding : List (List ℕ) → Counts) (is_good : Lis
       let moved : (before ++ w ∷ []) ++ after ≡ before ++ w ∷ after = append_assoc before (w ∷ []) after in
       let long : length (before ++ w ∷ after) ≡ length before + suc (length after) = length-append before (w ∷ after) in
       goes_on (holding before) (holding (before ++ w ∷ [])) (axiom_tests predeclared (item_of n (declaration kind w))) (tests_on (n + 1) (declarations kind after ++ ps))
-      (declares before w n (fresh before w after distinct) (and_left (is_good w) (list_all is_good after) good) (omega (arith, long, few)))
-      ∙ names_walk (before ++ w ∷ []) after (n + 1) ps (subst AreDistinct (sym moved) distinct) (and_right (is_good w) (list_all is_good after) good) (subst (λ l. length l ≤ limit) (sym moved) few)
+      (declares before w n (fresh before w after distinct) (and_parts (is_good w) (list_all is_good after) good).0 (omega (arith, long, few)))
+      ∙ names_walk (before ++ w ∷ []) after (n + 1) ps (subst AreDistinct (sym moved) distinct) (and_parts (is_good w) (list_all is_good after) good).1 (subst (λ l. length l ≤ limit) (sym moved) few)
       ∙ (λ i. walked (holding (moved i)) (tests_on (one_further n (length after) i) ps))
 
 abbrev no_names : List (List ℕ)
@@ -79,9 +81,9 @@ one_longer before w limit few = le_true (length (before ++ w ∷ [])) limit (ome
 class_step : (roles before : List (List ℕ)) (w : List ℕ) (n : ℕ) → position (bytes_eq w) before ≡ None → is_class_iri w ≡ true → length before + 1 ≤ 20000
     → walked (naming before roles) (axiom_tests predeclared (item_of n (declaration (codes "Class") w))) ≡ Ok (naming (before ++ w ∷ []) roles)
 class_step roles before w n new good few =
-    let names : (not (is_thing w) && not (is_nothing w)) ≡ true = and_right (is_iri w) (not (is_thing w) && not (is_nothing w)) good in
-    let no_thing : is_thing w ≡ false = not_true (is_thing w) (and_left (not (is_thing w)) (not (is_nothing w)) names) in
-    let no_nothing : is_nothing w ≡ false = not_true (is_nothing w) (and_right (not (is_thing w)) (not (is_nothing w)) names) in
+    let names : (not (is_thing w) && not (is_nothing w)) ≡ true = (and_parts (is_iri w) (not (is_thing w) && not (is_nothing w)) good).1 in
+    let no_thing : is_thing w ≡ false = false_from_not (is_thing w) (and_parts (not (is_thing w)) (not (is_nothing w)) names).0 in
+    let no_nothing : is_nothing w ≡ false = false_from_not (is_nothing w) (and_parts (not (is_thing w)) (not (is_nothing w)) names).1 in
     let s : Counts = naming before roles in
     let same : with_name before w ≡ before ++ w ∷ [] = with_new before w new in
     ap (walked s) (class_declared predeclared n (iri_item w n))
@@ -94,7 +96,7 @@ class_step roles before w n new good few =
 role_step : (classes before : List (List ℕ)) (w : List ℕ) (n : ℕ) → position (bytes_eq w) before ≡ None → is_role_iri w ≡ true → length before + 1 ≤ 1000
     → walked (naming classes before) (axiom_tests predeclared (item_of n (declaration (codes "ObjectProperty") w))) ≡ Ok (naming classes (before ++ w ∷ []))
 role_step classes before w n new good few =
-    let included : excluded_role_name w ≡ None = none_of (excluded_role_name w) (and_right (is_iri w) (is_none (excluded_role_name w)) good) in
+    let included : excluded_role_name w ≡ None = none_of (excluded_role_name w) (and_parts (is_iri w) (is_none (excluded_role_name w)) good).1 in
     let s : Counts = naming classes before in
     let same : with_name before w ≡ before ++ w ∷ [] = with_new before w new in
     ap (walked s) (role_declared predeclared n (iri_item w n))
@@ -143,8 +145,8 @@ module _ (o : Listed) (names : AreKnown o) where
       let p_is : p + q + total counted_parts more ≡ p + (q + total counted_parts more) = omega arith in
       let k_is : k + e + total axiom_expressions more ≡ k + (e + total axiom_expressions more) = omega arith in
       goes_on (counted o x p k) (counted o (x + 1) (p + q) (k + e)) (axiom_tests predeclared (item_of n (axiom_phrase o a.axiom))) (tests_on (n + 1) (axiom_phrases o more))
-      (axiom_walk predeclared owl_known o names x p k n a.axiom (and_left (known a) others listed) (and_left (is_whole_axiom a.axiom) good whole) (omega (arith, few)) (omega (arith, few_parts)) (omega (arith, few_nodes)))
-      ∙ axioms_walk more (x + 1) (p + q) (k + e) (n + 1) (and_right (known a) others listed) (and_right (is_whole_axiom a.axiom) good whole) (omega (arith, few)) (omega (arith, few_parts)) (omega (arith, few_nodes))
+      (axiom_walk predeclared owl_known o names x p k n a.axiom (and_parts (known a) others listed).0 (and_parts (is_whole_axiom a.axiom) good whole).0 (omega (arith, few)) (omega (arith, few_parts)) (omega (arith, few_nodes)))
+      ∙ axioms_walk more (x + 1) (p + q) (k + e) (n + 1) (and_parts (known a) others listed).1 (and_parts (is_whole_axiom a.axiom) good whole).1 (omega (arith, few)) (omega (arith, few_parts)) (omega (arith, few_nodes))
       ∙ (λ i. Ok (counted o (x_is i) (p_is i) (k_is i)))
 
   pub axioms_value : (x p k : ℕ) (as_ : List Numbered) (n : ℕ) → all_use_listed (length o.classes) (length o.roles) as_ ≡ true → list_all (λ (a : Numbered). is_whole_axiom a.axiom) as_ ≡ true
@@ -154,5 +156,5 @@ module _ (o : Listed) (names : AreKnown o) where
       let s : Counts = counted o x p k in
       let others : Bool = all_use_listed (length o.classes) (length o.roles) more in
       let good : Bool = list_all (λ (b : Numbered). is_whole_axiom b.axiom) more in
-      ap (λ l. axioms_of (l ++ axioms_in predeclared s (lines_items (n + 1) (axiom_phrases o more)))) (axiom_value predeclared owl_known o names x p k n a.axiom (and_left (known a) others listed) (and_left (is_whole_axiom a.axiom) good whole))
-      ∙ ap (λ l. a.axiom ∷ l) (axioms_value x p k more (n + 1) (and_right (known a) others listed) (and_right (is_whole_axiom a.axiom) good whole))
+      ap (λ l. axioms_of (l ++ axioms_in predeclared s (lines_items (n + 1) (axiom_phrases o more)))) (axiom_value predeclared owl_known o names x p k n a.axiom (and_parts (known a) others listed).0 (and_parts (is_whole_axiom a.axiom) good whole).0)
+      ∙ ap (λ l. a.axiom ∷ l) (axioms_value x p k more (n + 1) (and_parts (known a) others listed).1 (and_parts (is_whole_axiom a.axiom) good whole).1)

@@ -4,7 +4,7 @@ use Rattle.std.proofs.lemmas.Grind.{common_steps}
 use Rattle.std.proofs.lemmas.List.{drop_all}
 use Rattle.std.proofs.lemmas.List.Folds.{list_all-append}
 use Rattle.std.proofs.lemmas.List.Sums.{prefix_len_stops}
-use Rattle.std.proofs.lemmas.Bool.{cases_lt}
+use Rattle.std.proofs.lemmas.Bool.{cases_lt, and_parts, and_from}
 use Rattle.std.proofs.lemmas.Str.{IsUtf8-nil, IsUtf8-append, IsUtf8-drop, IsCharBoundary-after_ascii}
 use Rattle.std.specs.List.{list_all, prefix_len}
 use Rattle.std.specs.Str.{IsUtf8, bytes_eq}
@@ -13,7 +13,6 @@ use Rattle.ofn_tree.specs.Items.{Item, name_item, iri_item, literal_item, sign_i
 use Rattle.ofn_expressions.specs.Names.{Prefix, predeclared, prefix_iri, is_colon, prefix_part, local_part, full_iri, iri_of}
 use Rattle.ofn_reader.specs.Groups.{inner_items}
 use Rattle.ofn_reader.specs.Prefixes.{declared_name, declared_iri, or_empty, declared_at, with_prefix_items, with_prefix, prefixes_behind}
-use Rattle.written_ontologies.proofs.Checks.{and_left, and_right, and_both}
 use Rattle.written_ontologies.proofs.Terms.{low_text}
 use Rattle.written_ontologies.proofs.GoodTokens.{IsGood, IsGoodItem, AreGoodItems}
 
@@ -51,12 +50,12 @@ name_is_iri_byte b h = grind (arith, common_steps, h)
 names_are_iri_bytes : (w : List ℕ) → list_all is_name_byte w ≡ true → list_all is_iri_byte w ≡ true
 names_are_iri_bytes [] h = refl
 names_are_iri_bytes (b ∷ w) h =
-    and_both (is_iri_byte b) (list_all is_iri_byte w) (name_is_iri_byte b (and_left (is_name_byte b) (list_all is_name_byte w) h)) (names_are_iri_bytes w (and_right (is_name_byte b) (list_all is_name_byte w) h))
+    and_from (is_iri_byte b) (list_all is_iri_byte w) (name_is_iri_byte b (and_parts (is_name_byte b) (list_all is_name_byte w) h).0) (names_are_iri_bytes w (and_parts (is_name_byte b) (list_all is_name_byte w) h).1)
 
 rest_passes : (p : ℕ → Bool) (n : ℕ) (w : List ℕ) → list_all p w ≡ true → list_all p (drop n w) ≡ true
 rest_passes p zero w h = h
 rest_passes p (suc n) [] h = refl
-rest_passes p (suc n) (b ∷ w) h = rest_passes p n w (and_right (p b) (list_all p w) h)
+rest_passes p (suc n) (b ∷ w) h = rest_passes p n w (and_parts (p b) (list_all p w) h).1
 
 colon_of : (b : ℕ) → not (is_colon b) ≡ false → b ≡ 58
 colon_of b h = grind (arith, common_steps, h)
@@ -88,7 +87,7 @@ found_good (p ∷ ps) name good = by (found_good ps name good.1) (bytes_eq name 
 
 joined_good : (v w : List ℕ) → IsGoodIri v → IsGoodIri w → IsGoodIri (v ++ w)
 joined_good v w first second = record {
-  bytes = list_all-append is_iri_byte v w ∙ and_both (list_all is_iri_byte v) (list_all is_iri_byte w) first.bytes second.bytes;
+  bytes = list_all-append is_iri_byte v w ∙ and_from (list_all is_iri_byte v) (list_all is_iri_byte w) first.bytes second.bytes;
   utf8 = IsUtf8-append v w first.utf8 second.utf8;
 }
 

@@ -6,6 +6,7 @@ use Rattle.std.specs.List.{list_all, prefix_len, starts_with}
 use Rattle.std.specs.Result.{result_ok}
 use Rattle.std.specs.Str.{IsUtf8, IsCharBoundary, is_utf8}
 use Rattle.std.specs.Str.Lossy.{valid_len_up_to, utf8_valid_len}
+use Rattle.std.proofs.lemmas.Bool.{and_from}
 use Rattle.ofn_tree.specs.declared.token.Kind.{Kind}
 use Rattle.ofn_tree.specs.declared.token.Kind.TheVariants.{OpenBracket, CloseBracket, Equals, Iri, String, Tag, Carets, Name}
 use Rattle.ofn_tree.specs.declared.fault.TextFault.{TextFault}
@@ -15,7 +16,7 @@ use Rattle.ofn_tree.specs.Lexemes as lexemes
 use Rattle.ofn_tree.specs.Document.{Met, DocumentTokens, is_last, met_after, nothing_met, with_token, document_front, document, reading}
 use Rattle.ofn_tree.specs.Items.{Item, name_item, iri_item, literal_item, sign_item, group_item, Items, no_items, item, items_of, Mark, opening, closing, single, mark_of, mark_at, is_head, unmarked, marks_from, written, written_all, IsTree}
 use Rattle.ofn_tree.proofs.Boundaries.{at_stop, behind_tag, behind_mark, space-low, name_stop-low, comment_stop-low}
-use Rattle.written_ontologies.proofs.Checks.{and_both, eq_true}
+use Rattle.written_ontologies.proofs.Checks.{eq_true}
 
 -- ---- bytes of a token
 
@@ -60,7 +61,7 @@ passing p (b ∷ bs) = either (λ n. list_all p (take n (b ∷ bs)) ≡ true) (1
     passes : list_all p (take (prefix_len p bs) bs) ≡ true → p b ≡ true → list_all p (take (1 + prefix_len p bs) (b ∷ bs)) ≡ true
     passes rest h =
         let e : 1 + prefix_len p bs ≡ suc (prefix_len p bs) = omega arith in
-        ap (λ k. list_all p (take k (b ∷ bs))) e ∙ and_both (p b) (list_all p (take (prefix_len p bs) bs)) h rest
+        ap (λ k. list_all p (take k (b ∷ bs))) e ∙ and_from (p b) (list_all p (take (prefix_len p bs) bs)) h rest
 
 same_rest : (b : ℕ) (bs : List ℕ) → bs ≡ take (length (b ∷ bs) - 1) (drop 1 (b ∷ bs))
 same_rest b bs = grind (arith, common_steps)
@@ -90,7 +91,7 @@ name_cut : (b : ℕ) (bs : List ℕ) → IsUtf8 (b ∷ bs) → is_name_byte b �
 name_cut b bs utf8 h =
     let n : ℕ = prefix_len is_name_byte bs in
     let both = front_of b bs n (1 + n) (omega arith) utf8 (at_stop is_name_byte name_stop-low (b ∷ bs) bs n (omega arith) (same_rest b bs) refl) in
-    (record { bytes = and_both (is_name_byte b) (list_all is_name_byte (take n bs)) h (passing is_name_byte bs); utf8 = both.0 }, both.1)
+    (record { bytes = and_from (is_name_byte b) (list_all is_name_byte (take n bs)) h (passing is_name_byte bs); utf8 = both.0 }, both.1)
 
 comment_cut : (b : ℕ) (bs : List ℕ) → IsUtf8 (b ∷ bs) → IsGoodCut bs (gap (prefix_len is_comment_byte bs))
 comment_cut b bs utf8 =

@@ -3,6 +3,8 @@ use Rattle.std.proofs.Common.{◌≡◌, ℕ, ◌+◌, ◌<◌, ◌≤◌, true,
 use Rattle.std.specs.Prelude.{slice_index_or, not, is_none}
 use Rattle.std.specs.Result.{result_ok}
 use Rattle.std.specs.Str.{IsUtf8}
+use Rattle.std.proofs.lemmas.Bool.{and_parts}
+use Rattle.shq_base.proofs.Bools.{false_from_not}
 use Rattle.shq_terms.specs.Listed.{Listed}
 use Rattle.shq_terms.specs.declared.axioms.Axiom.{Axiom}
 use Rattle.shq_terms.specs.declared.axioms.Axiom.TheVariants.{SubClassOf, EquivalentClasses, DisjointClasses, DisjointUnion, SubRole, EquivalentRoles, Domain, Range, Functional, Transitive}
@@ -28,7 +30,7 @@ use Rattle.ofn_writer.specs.Canonical.{ontology_text}
 use Rattle.written_ontologies.specs.Writable.{is_iri, is_class_iri, is_role_iri, axiom_expressions, CanBeWritten}
 use Rattle.written_ontologies.proofs.Whole.{counted_parts, total, whole_of, part_total, expression_total}
 use Rattle.written_ontologies.specs.Laws.{axioms_of, IsDocumentOf}
-use Rattle.written_ontologies.proofs.Checks.{and_left, and_right, not_true, all_at}
+use Rattle.written_ontologies.proofs.Checks.{all_at}
 use Rattle.written_ontologies.proofs.Phrases.{Phrase, item_of, token, lines_text, lines_items, lines_tokens, all_can_stand}
 use Rattle.written_ontologies.proofs.Cuts.{wholes, wholes_append, Cuts, cuts_both, cuts_name, cuts_open, cuts_close, cuts_feed, cuts_lines}
 use Rattle.written_ontologies.proofs.Alone.{pieces_of_utf8, with_ok}
@@ -164,18 +166,18 @@ known o can =
     let class_names : (a : ℕ) → a < length o.classes → (not (is_thing (slice_index_or o.classes a [])) && not (is_nothing (slice_index_or o.classes a []))) ≡ true =
     λ a less.
     let w : List ℕ = slice_index_or o.classes a [] in
-    and_right (is_iri w) (not (is_thing w) && not (is_nothing w)) (all_at is_class_iri o.classes a can.class_iris less) in
+    (and_parts (is_iri w) (not (is_thing w) && not (is_nothing w)) (all_at is_class_iri o.classes a can.class_iris less)).1 in
     record {
       no_thing = λ a less.
           let w : List ℕ = slice_index_or o.classes a [] in
-          not_true (is_thing w) (and_left (not (is_thing w)) (not (is_nothing w)) (class_names a less));
+          false_from_not (is_thing w) (and_parts (not (is_thing w)) (not (is_nothing w)) (class_names a less)).0;
       no_nothing = λ a less.
           let w : List ℕ = slice_index_or o.classes a [] in
-          not_true (is_nothing w) (and_right (not (is_thing w)) (not (is_nothing w)) (class_names a less));
+          false_from_not (is_nothing w) (and_parts (not (is_thing w)) (not (is_nothing w)) (class_names a less)).1;
       class_place = λ a less. own_place o.classes a can.distinct_classes less;
       no_excluded = λ r less.
           let w : List ℕ = slice_index_or o.roles r [] in
-          no_construct (excluded_role_name w) (and_right (is_iri w) (is_none (excluded_role_name w)) (all_at is_role_iri o.roles r can.role_iris less));
+          no_construct (excluded_role_name w) (and_parts (is_iri w) (is_none (excluded_role_name w)) (all_at is_role_iri o.roles r can.role_iris less)).1;
       role_place = λ r less. own_place o.roles r can.distinct_roles less;
       few_classes = can.within.few_classes;
       few_roles = can.within.few_roles;

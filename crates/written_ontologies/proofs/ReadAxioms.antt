@@ -3,6 +3,7 @@ use Rattle.std.proofs.Common.{◌≡◌, ℕ, ◌+◌, ◌-◌, ◌≤◌, Bool,
 use Rattle.std.specs.Prelude.{nat_eq, nat_le}
 use Rattle.std.specs.List.{list_all}
 use Rattle.std.proofs.lemmas.List.Folds.{list_all-append}
+use Rattle.std.proofs.lemmas.Bool.{and_parts, and_from}
 use Rattle.shq_base.specs.Concept.{Concept, Parts, no_parts, part, parts_of, part_list}
 use Rattle.shq_terms.specs.Uses.{uses_listed, parts_use_listed, axiom_uses_listed, all_use_listed}
 use Rattle.shq_terms.specs.declared.axioms.Axiom.{Axiom}
@@ -20,7 +21,7 @@ use Rattle.ofn_reader.specs.Declarations.{declared_classes_tests, declared_roles
 use Rattle.ofn_reader.specs.Axioms.{pair_count, role_and_class_tests, name_and_class_tests, axiom_tests, axioms_tests, axiom_in, axioms_in, numbered_at, sub_class_made, union_made, sub_role_made, domain_made, range_made, functional_made, transitive_made}
 use Rattle.written_ontologies.specs.Writable.{most_brackets, expressions, all_expressions, is_named, axiom_brackets, axiom_expressions}
 use Rattle.written_ontologies.proofs.Whole.{is_whole, are_whole, has_item_count, has_whole_items, is_whole_axiom, counted_parts, total}
-use Rattle.written_ontologies.proofs.Checks.{and_left, and_right, and_both, true_le, le_true, eq_true}
+use Rattle.written_ontologies.proofs.Checks.{true_le, le_true, eq_true}
 use Rattle.written_ontologies.proofs.Keywords as keywords
 use Rattle.written_ontologies.proofs.Keywords.{axiom_group_tests}
 use Rattle.written_ontologies.proofs.Terms.{named_alone}
@@ -41,7 +42,7 @@ total_append g (x ∷ xs) ys = omega (arith, total_append g xs ys)
 uses_append : (m n : ℕ) (xs ys : List Numbered) → all_use_listed m n xs ≡ true → all_use_listed m n ys ≡ true → all_use_listed m n (xs ++ ys) ≡ true
 uses_append m n [] ys first second = second
 uses_append m n (x ∷ xs) ys first second =
-    and_both (axiom_uses_listed m n x.axiom) (all_use_listed m n (xs ++ ys)) (and_left (axiom_uses_listed m n x.axiom) (all_use_listed m n xs) first) (uses_append m n xs ys (and_right (axiom_uses_listed m n x.axiom) (all_use_listed m n xs) first) second)
+    and_from (axiom_uses_listed m n x.axiom) (all_use_listed m n (xs ++ ys)) (and_parts (axiom_uses_listed m n x.axiom) (all_use_listed m n xs) first).0 (uses_append m n xs ys (and_parts (axiom_uses_listed m n x.axiom) (all_use_listed m n xs) first).1 second)
 
 -- items behind annotations
 pub plain_good : (is : Items) → AreGoodItems is → AreGoodItems (without_annotations is)
@@ -78,9 +79,9 @@ module _ (ps : List Prefix) (prefixes : AreGoodPrefixes ps) (f : Counts) where
       let e : axiom_expressions a ≡ axiom_expressions a + 0 = omega arith in
       record {
         rises = rises_as s new 1 (counted_parts a) (axiom_expressions a) 1 (counted_parts a + 0) (axiom_expressions a + 0) refl p e rises;
-        listed = and_both (axiom_uses_listed (length f.classes) (length f.roles) a) true listed refl;
-        whole = and_both (is_whole_axiom a) true (and_both (has_item_count a) (has_whole_items a) enough whole) refl;
-        nested = and_both (nat_le (axiom_brackets a) 63) true (le_true (axiom_brackets a) 63 nested) refl;
+        listed = and_from (axiom_uses_listed (length f.classes) (length f.roles) a) true listed refl;
+        whole = and_from (is_whole_axiom a) true (and_from (has_item_count a) (has_whole_items a) enough whole) refl;
+        nested = and_from (nat_le (axiom_brackets a) 63) true (le_true (axiom_brackets a) 63 nested) refl;
       }
 
   said_as : (s new : Counts) (xs ys : List Numbered) → ys ≡ xs → AreSaid s new xs → AreSaid s new ys
@@ -92,8 +93,8 @@ module _ (ps : List Prefix) (prefixes : AreGoodPrefixes ps) (f : Counts) where
         (sym (length-append xs ys)) (sym (total_append counted_parts xs ys)) (sym (total_append axiom_expressions xs ys))
         (rises_both s mid new (length xs) (total counted_parts xs) (total axiom_expressions xs) (length ys) (total counted_parts ys) (total axiom_expressions ys) first.rises second.rises);
     listed = uses_append (length f.classes) (length f.roles) xs ys first.listed second.listed;
-    whole = list_all-append (λ (a : Numbered). is_whole_axiom a.axiom) xs ys ∙ and_both (list_all (λ (a : Numbered). is_whole_axiom a.axiom) xs) (list_all (λ (a : Numbered). is_whole_axiom a.axiom) ys) first.whole second.whole;
-    nested = list_all-append (λ (a : Numbered). nat_le (axiom_brackets a.axiom) 63) xs ys ∙ and_both (list_all (λ (a : Numbered). nat_le (axiom_brackets a.axiom) 63) xs) (list_all (λ (a : Numbered). nat_le (axiom_brackets a.axiom) 63) ys) first.nested second.nested;
+    whole = list_all-append (λ (a : Numbered). is_whole_axiom a.axiom) xs ys ∙ and_from (list_all (λ (a : Numbered). is_whole_axiom a.axiom) xs) (list_all (λ (a : Numbered). is_whole_axiom a.axiom) ys) first.whole second.whole;
+    nested = list_all-append (λ (a : Numbered). nat_le (axiom_brackets a.axiom) 63) xs ys ∙ and_from (list_all (λ (a : Numbered). nat_le (axiom_brackets a.axiom) 63) xs) (list_all (λ (a : Numbered). nat_le (axiom_brackets a.axiom) 63) ys) first.nested second.nested;
   }
 
   -- ---- the head of an axiom
@@ -141,13 +142,13 @@ module _ (ps : List Prefix) (prefixes : AreGoodPrefixes ps) (f : Counts) where
       let c : Concept = concept_of ps f i in
       let d : Concept = concept_of ps f j in
       let nodes_are : 0 + (expressions c + (expressions d + 0)) ≡ expressions c + expressions d = omega arith in
-      let second : (listed d && true) ≡ true = and_right (listed c) (listed d && true) inner.listed in
-      let whole : (is_whole d && true) ≡ true = and_right (is_whole c) (is_whole d && true) inner.whole in
+      let second : (listed d && true) ≡ true = (and_parts (listed c) (listed d && true) inner.listed).1 in
+      let whole : (is_whole d && true) ≡ true = (and_parts (is_whole c) (is_whole d && true) inner.whole).1 in
       one_said s new n (SubClassOf c d)
       (rises_as s new 1 1 (0 + (expressions c + (expressions d + 0))) 1 1 (expressions c + expressions d) refl refl nodes_are (rises_both s b.mid new 1 1 0 0 0 (expressions c + (expressions d + 0)) b.rises inner.rises))
-      (and_both (listed c) (listed d) (and_left (listed c) (listed d && true) inner.listed) (and_left (listed d) true second))
+      (and_from (listed c) (listed d) (and_parts (listed c) (listed d && true) inner.listed).0 (and_parts (listed d) true second).0)
       refl
-      (and_both (is_whole c) (is_whole d) (and_left (is_whole c) (is_whole d && true) inner.whole) (and_left (is_whole d) true whole))
+      (and_from (is_whole c) (is_whole d) (and_parts (is_whole c) (is_whole d && true) inner.whole).0 (and_parts (is_whole d) true whole).0)
       (omega (arith, inner.nested, deep))
 
   -- equivalent and disjoint classes
@@ -196,9 +197,9 @@ module _ (ps : List Prefix) (prefixes : AreGoodPrefixes ps) (f : Counts) where
       one_said s new n (DisjointUnion c l)
       (rises_as s new 1 (k + (0 + 0)) (0 + (expressions c + all_expressions cs)) 1 (length l + 1 + pair_count (length l)) (1 + all_expressions (parts_of l)) refl parts_are nodes_are
       (rises_both s b.mid new 1 k 0 0 (0 + 0) (expressions c + all_expressions cs) b.rises (rises_both b.mid t.mid new 0 0 (expressions c) 0 0 (all_expressions cs) first.rises rest.rises)))
-      (and_both (listed c) (parts_use_listed (length f.classes) (length f.roles) (parts_of l)) first.listed (ap (parts_use_listed (length f.classes) (length f.roles)) back ∙ rest.listed))
+      (and_from (listed c) (parts_use_listed (length f.classes) (length f.roles) (parts_of l)) first.listed (ap (parts_use_listed (length f.classes) (length f.roles)) back ∙ rest.listed))
       (le_true 2 (length l) (omega (arith, many, three)))
-      (and_both (is_named c) (are_whole (parts_of l)) named (ap are_whole back ∙ rest.whole))
+      (and_from (is_named c) (are_whole (parts_of l)) named (ap are_whole back ∙ rest.whole))
       (omega (arith, ap most_brackets back, rest.nested, deep))
 
   -- roles
@@ -214,9 +215,9 @@ module _ (ps : List Prefix) (prefixes : AreGoodPrefixes ps) (f : Counts) where
       let inner = roles_read ps prefixes f is b.mid new good b.later keeps in
       let r : ℕ = role_of ps f i in
       let t : ℕ = role_of ps f j in
-      let second : (known_role t && true) ≡ true = and_right (known_role r) (known_role t && true) inner.listed in
+      let second : (known_role t && true) ≡ true = (and_parts (known_role r) (known_role t && true) inner.listed).1 in
       one_said s new n (SubRole r t) (rises_both s b.mid new 1 0 0 0 0 0 b.rises inner.rises)
-      (and_both (known_role r) (known_role t) (and_left (known_role r) (known_role t && true) inner.listed) (and_left (known_role t) true second)) refl refl (omega arith)
+      (and_from (known_role r) (known_role t) (and_parts (known_role r) (known_role t && true) inner.listed).0 (and_parts (known_role t) true second).0) refl refl (omega arith)
 
   count_roles : (is : Items) → length (roles_of ps f is) ≡ item_count is
   count_roles no_items = refl
@@ -236,7 +237,7 @@ module _ (ps : List Prefix) (prefixes : AreGoodPrefixes ps) (f : Counts) where
   functional_said n (item i no_items) good s new h keeps =
       let b = begins s new n true 1 (roles_tests ps (item i no_items)) h in
       let inner = roles_read ps prefixes f (item i no_items) b.mid new good b.later keeps in
-      one_said s new n (Functional (role_of ps f i)) (rises_both s b.mid new 1 1 0 0 0 0 b.rises inner.rises) (and_left (known_role (role_of ps f i)) true inner.listed) refl refl (omega arith)
+      one_said s new n (Functional (role_of ps f i)) (rises_both s b.mid new 1 1 0 0 0 0 b.rises inner.rises) (and_parts (known_role (role_of ps f i)) true inner.listed).0 refl refl (omega arith)
 
   transitive_said : (n : ℕ) (is : Items) → AreGoodItems is → (s new : Counts) → walked s (axiom_group_tests n (nat_eq (item_count is) 1) 0 (roles_tests ps is)) ≡ Ok new → Keeps new f → Said s new n (transitive_made ps f is)
   transitive_said n no_items good s new h keeps = let b = begins s new n (nat_eq 0 1) 0 [] h in let clash : false ≡ true = b.fits in absurd (cc clash)
@@ -246,7 +247,7 @@ module _ (ps : List Prefix) (prefixes : AreGoodPrefixes ps) (f : Counts) where
   transitive_said n (item i no_items) good s new h keeps =
       let b = begins s new n true 0 (roles_tests ps (item i no_items)) h in
       let inner = roles_read ps prefixes f (item i no_items) b.mid new good b.later keeps in
-      one_said s new n (Transitive (role_of ps f i)) (rises_both s b.mid new 1 0 0 0 0 0 b.rises inner.rises) (and_left (known_role (role_of ps f i)) true inner.listed) refl refl (omega arith)
+      one_said s new n (Transitive (role_of ps f i)) (rises_both s b.mid new 1 0 0 0 0 0 b.rises inner.rises) (and_parts (known_role (role_of ps f i)) true inner.listed).0 refl refl (omega arith)
 
   domain_said : (n : ℕ) (is : Items) → AreGoodItems is → nesting_all is ≤ 62 → (s new : Counts) → walked s (axiom_group_tests n (nat_eq (item_count is) 2) 1 (role_and_class_tests ps is)) ≡ Ok new → Keeps new f → Said s new n (domain_made ps f is)
   domain_said n no_items good deep s new h keeps = let b = begins s new n (nat_eq 0 2) 1 [] h in let clash : false ≡ true = b.fits in absurd (cc clash)
@@ -266,7 +267,7 @@ module _ (ps : List Prefix) (prefixes : AreGoodPrefixes ps) (f : Counts) where
       one_said s new n (Domain r c)
       (rises_as s new (1 + 0) (1 + 0) (0 + (0 + expressions c)) 1 1 (expressions c) refl refl nodes_are
       (rises_both s b.mid new 1 1 0 0 0 (0 + expressions c) b.rises (rises_both b.mid t.mid new 0 0 0 0 0 (expressions c) first.rises inner.rises)))
-      (and_both (known_role r) (listed c) first.listed inner.listed) refl inner.whole (omega (arith, inner.nested, deep))
+      (and_from (known_role r) (listed c) first.listed inner.listed) refl inner.whole (omega (arith, inner.nested, deep))
 
   range_said : (n : ℕ) (is : Items) → AreGoodItems is → nesting_all is ≤ 62 → (s new : Counts) → walked s (axiom_group_tests n (nat_eq (item_count is) 2) 1 (role_and_class_tests ps is)) ≡ Ok new → Keeps new f → Said s new n (range_made ps f is)
   range_said n no_items good deep s new h keeps = let b = begins s new n (nat_eq 0 2) 1 [] h in let clash : false ≡ true = b.fits in absurd (cc clash)
@@ -286,7 +287,7 @@ module _ (ps : List Prefix) (prefixes : AreGoodPrefixes ps) (f : Counts) where
       one_said s new n (Range r c)
       (rises_as s new (1 + 0) (1 + 0) (0 + (0 + expressions c)) 1 1 (expressions c) refl refl nodes_are
       (rises_both s b.mid new 1 1 0 0 0 (0 + expressions c) b.rises (rises_both b.mid t.mid new 0 0 0 0 0 (expressions c) first.rises inner.rises)))
-      (and_both (known_role r) (listed c) first.listed inner.listed) refl inner.whole (omega (arith, inner.nested, deep))
+      (and_from (known_role r) (listed c) first.listed inner.listed) refl inner.whole (omega (arith, inner.nested, deep))
 
   -- ---- declarations
 

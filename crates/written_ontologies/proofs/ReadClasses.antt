@@ -4,6 +4,7 @@ use Rattle.std.specs.Prelude.{nat_eq, nat_le, is_none, is_some}
 use Rattle.std.specs.List.{list_all}
 use Rattle.std.specs.Str.{is_utf8}
 use Rattle.std.proofs.lemmas.Str.{is_utf8-from_IsUtf8}
+use Rattle.std.proofs.lemmas.Bool.{and_from}
 use Rattle.shq_base.specs.Concept.{Concept, top, bottom, name, complement, intersection, union, some_of, all_of, at_least, at_most, exactly, Parts, part_list}
 use Rattle.shq_terms.specs.Names.{number_of, with_name}
 use Rattle.shq_terms.specs.Uses.{uses_listed, parts_use_listed}
@@ -20,7 +21,7 @@ use Rattle.ofn_expressions.specs.declared.construct.Construct.{Construct}
 use Rattle.ofn_expressions.proofs.Kept.{place_listed, place_within}
 use Rattle.written_ontologies.specs.Writable.{is_iri, is_class_iri, is_role_iri, brackets, most_brackets, expressions, all_expressions, is_named}
 use Rattle.written_ontologies.proofs.Whole.{is_whole, are_whole}
-use Rattle.written_ontologies.proofs.Checks.{and_both, true_le, le_true, eq_true}
+use Rattle.written_ontologies.proofs.Checks.{true_le, le_true, eq_true}
 use Rattle.written_ontologies.proofs.Keywords as keywords
 use Rattle.written_ontologies.proofs.GoodTokens.{IsGoodItem, AreGoodItems}
 use Rattle.written_ontologies.proofs.GoodNames.{IsGoodIri, AreGoodPrefixes, iri_good}
@@ -28,7 +29,7 @@ use Rattle.written_ontologies.proofs.Counting.{held, both, nothing_held, never, 
 use Rattle.written_ontologies.proofs.Words.{NoClass, class_words}
 
 good_is_iri : (w : List ℕ) → IsGoodIri w → is_iri w ≡ true
-good_is_iri w good = and_both (is_utf8 w) (list_all is_iri_byte w) (is_utf8-from_IsUtf8 w good.utf8) good.bytes
+good_is_iri w good = and_from (is_utf8 w) (list_all is_iri_byte w) (is_utf8-from_IsUtf8 w good.utf8) good.bytes
 
 module _ (ps : List Prefix) (prefixes : AreGoodPrefixes ps) (f : Counts) where
   -- ---- names
@@ -56,7 +57,7 @@ module _ (ps : List Prefix) (prefixes : AreGoodPrefixes ps) (f : Counts) where
   role_by w n s new good None is h keeps =
       let test = held s (role n w) [] new h in
       let there : counts_after s (role n w) ≡ new = nothing_held (counts_after s (role n w)) new test.later in
-      let is_role : is_role_iri w ≡ true = and_both (is_iri w) (is_none (excluded_role_name w)) (good_is_iri w good) (ap is_none is) in
+      let is_role : is_role_iri w ≡ true = and_from (is_iri w) (is_none (excluded_role_name w)) (good_is_iri w good) (ap is_none is) in
       record {
         rises = subst (λ t. Rises s t 0 0 0) there (rises_role s n w test.now is_role);
         listed = role_found w s (subst (λ t. Keeps t f) (sym there) keeps);
@@ -91,7 +92,7 @@ module _ (ps : List Prefix) (prefixes : AreGoodPrefixes ps) (f : Counts) where
       let rest = roles_read is b.mid new good.1 b.second keeps in
       record {
         rises = rises_both s b.mid new 0 0 0 0 0 0 first.rises rest.rises;
-        listed = and_both (nat_lt (role_of ps f i) (length f.roles)) (list_all (λ r. nat_lt r (length f.roles)) (roles_of ps f is)) first.listed rest.listed;
+        listed = and_from (nat_lt (role_of ps f i) (length f.roles)) (list_all (λ r. nat_lt r (length f.roles)) (roles_of ps f is)) first.listed rest.listed;
       }
 
   -- a role that is declared
@@ -147,7 +148,7 @@ module _ (ps : List Prefix) (prefixes : AreGoodPrefixes ps) (f : Counts) where
       let test = held s (class n w) [] new h in
       let there : counts_after s (class n w) ≡ new = nothing_held (counts_after s (class n w)) new test.later in
       let named : (not (is_thing w) && not (is_nothing w)) ≡ true = λ i. not (thing i) && not (nothing i) in
-      let is_class : is_class_iri w ≡ true = and_both (is_iri w) (not (is_thing w) && not (is_nothing w)) (good_is_iri w good) named in
+      let is_class : is_class_iri w ≡ true = and_from (is_iri w) (not (is_thing w) && not (is_nothing w)) (good_is_iri w good) named in
       let kept : Keeps (counts_after s (class n w)) f = subst (λ t. Keeps t f) (sym there) keeps in
       let found : place w f.classes ≡ Some (number_of s.classes w) = kept.classes w (number_of s.classes w) (place_listed w s.classes) in (
         subst (λ t. Rises s t 0 0 0) there (rises_class s n w test.now is_class),
@@ -206,8 +207,8 @@ module _ (ps : List Prefix) (prefixes : AreGoodPrefixes ps) (f : Counts) where
       let rest = parts_read is reads.1 b.mid new b.second keeps in
       record {
         rises = rises_both s b.mid new 0 0 (expressions c) 0 0 (all_expressions cs) first.rises rest.rises;
-        listed = and_both (listed c) (all_listed cs) first.listed rest.listed;
-        whole = and_both (is_whole c) (are_whole cs) first.whole rest.whole;
+        listed = and_from (listed c) (all_listed cs) first.listed rest.listed;
+        whole = and_from (is_whole c) (are_whole cs) first.whole rest.whole;
         nested = omega (arith, first.nested, rest.nested);
       }
 
@@ -252,7 +253,7 @@ module _ (ps : List Prefix) (prefixes : AreGoodPrefixes ps) (f : Counts) where
       record {
         rises = rises_as s new 0 0 (1 + all_expressions cs) 0 0 (expressions (con cs)) refl refl (sym (counts cs)) (rises_both s mid new 0 0 1 0 0 (all_expressions cs) o.rises inner.rises);
         listed = lists cs ∙ inner.listed;
-        whole = wholes cs ∙ and_both (nat_le 2 (length (part_list cs))) (are_whole cs) many inner.whole;
+        whole = wholes cs ∙ and_from (nat_le 2 (length (part_list cs))) (are_whole cs) many inner.whole;
         nested = omega (arith, nests cs, inner.nested);
       }
 
@@ -308,7 +309,7 @@ module _ (ps : List Prefix) (prefixes : AreGoodPrefixes ps) (f : Counts) where
       let total_is : 1 + (0 + expressions c) ≡ expressions (con k c) = omega (arith, counts k c) in
       record {
         rises = rises_as s new 0 0 (1 + (0 + expressions c)) 0 0 (expressions (con k c)) refl refl total_is rises;
-        listed = lists k c ∙ and_both (nat_lt k (length f.roles)) (listed c) role.listed inner.listed;
+        listed = lists k c ∙ and_from (nat_lt k (length f.roles)) (listed c) role.listed inner.listed;
         whole = wholes k c ∙ inner.whole;
         nested = omega (arith, nests k c, inner.nested);
       }
@@ -395,8 +396,8 @@ module _ (ps : List Prefix) (prefixes : AreGoodPrefixes ps) (f : Counts) where
       let total_is : head + (0 + e) ≡ expressions (con m role c) = omega (arith, sum, counts m role c) in
       record {
         rises = rises_as s new 0 0 (head + (0 + e)) 0 0 (expressions (con m role c)) refl refl total_is rises;
-        listed = lists m role c ∙ and_both (nat_lt role (length f.roles)) (listed c) is_role.listed inner.3;
-        whole = wholes m role c ∙ and_both (nat_le m 100) (is_whole c) (le_true m 100 number.0) inner.4;
+        listed = lists m role c ∙ and_from (nat_lt role (length f.roles)) (listed c) is_role.listed inner.3;
+        whole = wholes m role c ∙ and_from (nat_le m 100) (is_whole c) (le_true m 100 number.0) inner.4;
         nested = omega (arith, nests m role c, inner.5);
       }
 

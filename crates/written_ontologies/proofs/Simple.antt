@@ -2,6 +2,7 @@
 use Rattle.std.proofs.Common.{◌≡◌, ℕ, zero, suc, ◌-◌, true, List, [], ◌∷◌, ◌++◌, length, Ok, refl, ap, ◌∙◌}
 use Rattle.std.specs.Prelude.{slice_get}
 use Rattle.std.specs.List.{list_all, range_with_len}
+use Rattle.std.proofs.lemmas.Bool.{and_parts, and_from}
 use Rattle.shq_terms.specs.declared.axioms.Numbered.{Numbered}
 use Rattle.role_box.specs.declared.role_axiom.RoleAxiom.{RoleAxiom}
 use Rattle.role_box.specs.RoleAxioms.{role_part, role_part_at, role_axioms}
@@ -11,7 +12,6 @@ use Rattle.ofn_expressions.specs.Counts.{Counts}
 use Rattle.ofn_expressions.specs.Walk.{simple, walked}
 use Rattle.ofn_reader.specs.Documents.{simple_tests, all_simple_tests}
 use Rattle.written_ontologies.specs.Laws.{axioms_of}
-use Rattle.written_ontologies.proofs.Checks.{and_left, and_right, and_both}
 use Rattle.written_ontologies.proofs.Counting.{held, nothing_held}
 use Rattle.written_ontologies.proofs.Walks.{step}
 
@@ -46,15 +46,15 @@ all_simple roles (x ∷ xs) [] same h = cc
 all_simple roles (x ∷ xs) (y ∷ ys) same h =
     let first : x.axiom ≡ y.axiom = cc in
     let rest : axioms_of xs ≡ axioms_of ys = cc in
-    and_both (counts_simple roles x) (list_all (counts_simple roles) xs)
-    (ap (λ a. are_simple roles (counted_by a)) first ∙ and_left (counts_simple roles y) (list_all (counts_simple roles) ys) h)
-    (all_simple roles xs ys rest (and_right (counts_simple roles y) (list_all (counts_simple roles) ys) h))
+    and_from (counts_simple roles x) (list_all (counts_simple roles) xs)
+    (ap (λ a. are_simple roles (counted_by a)) first ∙ (and_parts (counts_simple roles y) (list_all (counts_simple roles) ys) h).0)
+    (all_simple roles xs ys rest (and_parts (counts_simple roles y) (list_all (counts_simple roles) ys) h).1)
 
 simple_walk : (roles : List RoleAxiom) (xs : List Numbered) (s : Counts) → list_all (counts_simple roles) xs ≡ true → walked s (simple_tests roles xs) ≡ Ok s
 simple_walk roles [] s h = refl
 simple_walk roles (x ∷ xs) s h =
-    step s (simple x.line (counts_simple roles x)) (simple_tests roles xs) (and_left (counts_simple roles x) (list_all (counts_simple roles) xs) h)
-    ∙ simple_walk roles xs s (and_right (counts_simple roles x) (list_all (counts_simple roles) xs) h)
+    step s (simple x.line (counts_simple roles x)) (simple_tests roles xs) (and_parts (counts_simple roles x) (list_all (counts_simple roles) xs) h).0
+    ∙ simple_walk roles xs s (and_parts (counts_simple roles x) (list_all (counts_simple roles) xs) h).1
 
 -- lines apart, the tests hold again
 pub simple_again : (xs ys : List Numbered) (s : Counts) → axioms_of xs ≡ axioms_of ys → list_all (counts_simple (all_role_axioms ys)) ys ≡ true → walked s (all_simple_tests xs) ≡ Ok s
@@ -65,4 +65,4 @@ simple_held roles [] s new h = (nothing_held s new h, refl)
 simple_held roles (x ∷ xs) s new h =
     let first = held s (simple x.line (counts_simple roles x)) (simple_tests roles xs) new h in
     let rest = simple_held roles xs s new first.later in
-    (rest.0, and_both (counts_simple roles x) (list_all (counts_simple roles) xs) first.now rest.1)
+    (rest.0, and_from (counts_simple roles x) (list_all (counts_simple roles) xs) first.now rest.1)

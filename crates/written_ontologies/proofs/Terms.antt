@@ -8,6 +8,7 @@ use Rattle.std.proofs.lemmas.Str.{IsUtf8-from_ascii, IsUtf8-from_is_utf8}
 use Rattle.std.proofs.lemmas.Str.Parse.{digit_from_value}
 use Rattle.std.proofs.lemmas.Fmt.{decimal_is_IsNumeral, IsAscii-decimal}
 use Rattle.std.proofs.lemmas.Grind.{common_steps}
+use Rattle.std.proofs.lemmas.Bool.{and_parts, and_from}
 use Rattle.shq_base.specs.Concept.{Concept, top, bottom, name, complement, intersection, union, some_of, all_of, at_least, at_most, exactly, Parts, no_parts, part, parts_of, part_list}
 use Rattle.shq_terms.specs.Listed.{Listed}
 use Rattle.shq_terms.specs.Uses.{uses_listed, parts_use_listed, axiom_uses_listed}
@@ -20,7 +21,7 @@ use Rattle.ofn_expressions.specs.Classes.{is_digit, cardinality_in, is_thing, is
 use Rattle.ofn_writer.specs.Canonical.{group_text, concept_text, part_texts, role_text, role_texts, axiom_text}
 use Rattle.written_ontologies.specs.Writable.{is_iri, is_class_iri, is_role_iri, brackets, most_brackets, is_named, axiom_brackets, expressions}
 use Rattle.written_ontologies.proofs.Whole.{is_whole, are_whole, has_whole_items}
-use Rattle.written_ontologies.proofs.Checks.{and_left, and_right, and_both, true_lt, true_le}
+use Rattle.written_ontologies.proofs.Checks.{true_lt, true_le}
 use Rattle.written_ontologies.proofs.Phrases.{Phrase, word, iri, call, Phrases, none, more, text_of, texts_of, is_name, can_stand, can_all_stand, item_of, all_items}
 
 abbrev pub class_phrase : Listed → ℕ → Phrase
@@ -164,7 +165,7 @@ module _ (o : Listed) where
   axiom_nests n (SubClassOf c d) h = omega (arith, concept_nests n c, concept_nests n d)
   axiom_nests n (EquivalentClasses cs) h = ap (λ k. k + 1) (parts_nest n (parts_of cs))
   axiom_nests n (DisjointClasses cs) h = ap (λ k. k + 1) (parts_nest n (parts_of cs))
-  axiom_nests n (DisjointUnion c cs) h = omega (arith, named_nests n c (and_left (is_named c) (are_whole (parts_of cs)) h), parts_nest n (parts_of cs))
+  axiom_nests n (DisjointUnion c cs) h = omega (arith, named_nests n c (and_parts (is_named c) (are_whole (parts_of cs)) h).0, parts_nest n (parts_of cs))
   axiom_nests n (SubRole r s) h = refl
   axiom_nests n (EquivalentRoles rs) h = ap (λ k. k + 1) (roles_nest n rs)
   axiom_nests n (Domain r c) h = omega (arith, concept_nests n c)
@@ -190,8 +191,8 @@ is_low b = nat_lt b 128
 
 low_at : (bs : List ℕ) → list_all is_low bs ≡ true → IsAscii bs
 low_at [] all i = omega arith
-low_at (b ∷ bs) all zero = true_lt b 128 (and_left (is_low b) (list_all is_low bs) all)
-low_at (b ∷ bs) all (suc i) = low_at bs (and_right (is_low b) (list_all is_low bs) all) i
+low_at (b ∷ bs) all zero = true_lt b 128 (and_parts (is_low b) (list_all is_low bs) all).0
+low_at (b ∷ bs) all (suc i) = low_at bs (and_parts (is_low b) (list_all is_low bs) all).1 i
 
 pub low_text : (bs : List ℕ) → list_all is_low bs ≡ true → IsUtf8 bs
 low_text bs all = IsUtf8-from_ascii bs (low_at bs all)
@@ -205,7 +206,7 @@ digits_pass (d ∷ ds) all =
     let range = digit_from_value d all.0 in
     let here = digit_passes d range.0 range.1 in
     let others = digits_pass ds all.1 in
-    (and_both (is_digit d) (list_all is_digit ds) here.0 others.0, and_both (is_name_byte d) (list_all is_name_byte ds) here.1 others.1)
+    (and_from (is_digit d) (list_all is_digit ds) here.0 others.0, and_from (is_name_byte d) (list_all is_name_byte ds) here.1 others.1)
 
 name_of : (ds : List ℕ) → 0 < length ds → list_all is_name_byte ds ≡ true → is_name ds ≡ true
 name_of [] some all = absurd (omega (arith, some))
@@ -233,8 +234,8 @@ pub record AreSpelled (o : Listed) : Type 0 where
 
 pub iri_stands : (w : List ℕ) (also : Bool) → (is_iri w && also) ≡ true → (list_all is_iri_byte w ≡ true) × IsUtf8 w
 iri_stands w also h =
-    let both : is_iri w ≡ true = and_left (is_iri w) also h in
-    (and_right (is_utf8 w) (list_all is_iri_byte w) both, IsUtf8-from_is_utf8 w (and_left (is_utf8 w) (list_all is_iri_byte w) both))
+    let both : is_iri w ≡ true = (and_parts (is_iri w) also h).0 in
+    ((and_parts (is_utf8 w) (list_all is_iri_byte w) both).1, IsUtf8-from_is_utf8 w (and_parts (is_utf8 w) (list_all is_iri_byte w) both).0)
 
 abbrev pub Stands : Phrase → Type 0
 Stands p = (can_stand p ≡ true) × IsText p
@@ -243,10 +244,10 @@ abbrev pub AllStand : Phrases → Type 0
 AllStand ps = (can_all_stand ps ≡ true) × AreTexts ps
 
 pub stands_call : (w : List ℕ) (ps : Phrases) → is_name w ≡ true → list_all is_low w ≡ true → AllStand ps → Stands (call w ps)
-stands_call w ps named low inner = (and_both (is_name w) (can_all_stand ps) named inner.0, (low_text w low, inner.1))
+stands_call w ps named low inner = (and_from (is_name w) (can_all_stand ps) named inner.0, (low_text w low, inner.1))
 
 pub stand_more : (p : Phrase) (ps : Phrases) → Stands p → AllStand ps → AllStand (more p ps)
-stand_more p ps first others = (and_both (can_stand p) (can_all_stand ps) first.0 others.0, (first.1, others.1))
+stand_more p ps first others = (and_from (can_stand p) (can_all_stand ps) first.0 others.0, (first.1, others.1))
 
 stand_none : AllStand none
 stand_none = (refl, tt)
@@ -299,56 +300,56 @@ module _ (o : Listed) (names : AreSpelled o) where
     concept_stands (complement c) known whole =
         stands_call (codes "ObjectComplementOf") (one (concept_phrase o c)) refl refl (stand_one (concept_phrase o c) (concept_stands c known whole))
     concept_stands (intersection cs) known whole =
-        stands_call (codes "ObjectIntersectionOf") (part_phrases o cs) refl refl (parts_stand cs known (and_right (nat_le 2 (length (part_list cs))) (are_whole cs) whole))
+        stands_call (codes "ObjectIntersectionOf") (part_phrases o cs) refl refl (parts_stand cs known (and_parts (nat_le 2 (length (part_list cs))) (are_whole cs) whole).1)
     concept_stands (union cs) known whole =
-        stands_call (codes "ObjectUnionOf") (part_phrases o cs) refl refl (parts_stand cs known (and_right (nat_le 2 (length (part_list cs))) (are_whole cs) whole))
+        stands_call (codes "ObjectUnionOf") (part_phrases o cs) refl refl (parts_stand cs known (and_parts (nat_le 2 (length (part_list cs))) (are_whole cs) whole).1)
     concept_stands (some_of r c) known whole =
-        valued_stands (codes "ObjectSomeValuesFrom") r c refl refl (and_left (nat_lt r (length o.roles)) (listed c) known) (concept_stands c (and_right (nat_lt r (length o.roles)) (listed c) known) whole)
+        valued_stands (codes "ObjectSomeValuesFrom") r c refl refl (and_parts (nat_lt r (length o.roles)) (listed c) known).0 (concept_stands c (and_parts (nat_lt r (length o.roles)) (listed c) known).1 whole)
     concept_stands (all_of r c) known whole =
-        valued_stands (codes "ObjectAllValuesFrom") r c refl refl (and_left (nat_lt r (length o.roles)) (listed c) known) (concept_stands c (and_right (nat_lt r (length o.roles)) (listed c) known) whole)
+        valued_stands (codes "ObjectAllValuesFrom") r c refl refl (and_parts (nat_lt r (length o.roles)) (listed c) known).0 (concept_stands c (and_parts (nat_lt r (length o.roles)) (listed c) known).1 whole)
     concept_stands (at_least n r c) known whole =
-        bounded_stands (codes "ObjectMinCardinality") n r c refl refl (and_left (nat_le n 100) (is_whole c) whole) (and_left (nat_lt r (length o.roles)) (listed c) known)
-        (concept_stands c (and_right (nat_lt r (length o.roles)) (listed c) known) (and_right (nat_le n 100) (is_whole c) whole))
+        bounded_stands (codes "ObjectMinCardinality") n r c refl refl (and_parts (nat_le n 100) (is_whole c) whole).0 (and_parts (nat_lt r (length o.roles)) (listed c) known).0
+        (concept_stands c (and_parts (nat_lt r (length o.roles)) (listed c) known).1 (and_parts (nat_le n 100) (is_whole c) whole).1)
     concept_stands (at_most n r c) known whole =
-        bounded_stands (codes "ObjectMaxCardinality") n r c refl refl (and_left (nat_le n 100) (is_whole c) whole) (and_left (nat_lt r (length o.roles)) (listed c) known)
-        (concept_stands c (and_right (nat_lt r (length o.roles)) (listed c) known) (and_right (nat_le n 100) (is_whole c) whole))
+        bounded_stands (codes "ObjectMaxCardinality") n r c refl refl (and_parts (nat_le n 100) (is_whole c) whole).0 (and_parts (nat_lt r (length o.roles)) (listed c) known).0
+        (concept_stands c (and_parts (nat_lt r (length o.roles)) (listed c) known).1 (and_parts (nat_le n 100) (is_whole c) whole).1)
     concept_stands (exactly n r c) known whole =
-        bounded_stands (codes "ObjectExactCardinality") n r c refl refl (and_left (nat_le n 100) (is_whole c) whole) (and_left (nat_lt r (length o.roles)) (listed c) known)
-        (concept_stands c (and_right (nat_lt r (length o.roles)) (listed c) known) (and_right (nat_le n 100) (is_whole c) whole))
+        bounded_stands (codes "ObjectExactCardinality") n r c refl refl (and_parts (nat_le n 100) (is_whole c) whole).0 (and_parts (nat_lt r (length o.roles)) (listed c) known).0
+        (concept_stands c (and_parts (nat_lt r (length o.roles)) (listed c) known).1 (and_parts (nat_le n 100) (is_whole c) whole).1)
 
     pub parts_stand : (cs : Parts) → all_listed cs ≡ true → are_whole cs ≡ true → AllStand (part_phrases o cs)
     parts_stand no_parts known whole = stand_none
     parts_stand (part c cs) known whole =
-        stand_more (concept_phrase o c) (part_phrases o cs) (concept_stands c (and_left (listed c) (all_listed cs) known) (and_left (is_whole c) (are_whole cs) whole))
-        (parts_stand cs (and_right (listed c) (all_listed cs) known) (and_right (is_whole c) (are_whole cs) whole))
+        stand_more (concept_phrase o c) (part_phrases o cs) (concept_stands c (and_parts (listed c) (all_listed cs) known).0 (and_parts (is_whole c) (are_whole cs) whole).0)
+        (parts_stand cs (and_parts (listed c) (all_listed cs) known).1 (and_parts (is_whole c) (are_whole cs) whole).1)
 
   roles_stand : (rs : List ℕ) → list_all (λ r. nat_lt r (length o.roles)) rs ≡ true → AllStand (role_phrases o rs)
   roles_stand [] known = stand_none
   roles_stand (r ∷ rs) known =
       let here : Bool = nat_lt r (length o.roles) in
       let others : Bool = list_all (λ s. nat_lt s (length o.roles)) rs in
-      stand_more (role_phrase o r) (role_phrases o rs) (role_stands r (and_left here others known)) (roles_stand rs (and_right here others known))
+      stand_more (role_phrase o r) (role_phrases o rs) (role_stands r (and_parts here others known).0) (roles_stand rs (and_parts here others known).1)
 
   pub axiom_stands : (a : Axiom) → axiom_uses_listed (length o.classes) (length o.roles) a ≡ true → has_whole_items a ≡ true → Stands (axiom_phrase o a)
   axiom_stands (SubClassOf c d) known whole =
       stands_call (codes "SubClassOf") (two (concept_phrase o c) (concept_phrase o d)) refl refl
       (stand_two (concept_phrase o c) (concept_phrase o d)
-      (concept_stands c (and_left (listed c) (listed d) known) (and_left (is_whole c) (is_whole d) whole))
-      (concept_stands d (and_right (listed c) (listed d) known) (and_right (is_whole c) (is_whole d) whole)))
+      (concept_stands c (and_parts (listed c) (listed d) known).0 (and_parts (is_whole c) (is_whole d) whole).0)
+      (concept_stands d (and_parts (listed c) (listed d) known).1 (and_parts (is_whole c) (is_whole d) whole).1))
   axiom_stands (EquivalentClasses cs) known whole = stands_call (codes "EquivalentClasses") (part_phrases o (parts_of cs)) refl refl (parts_stand (parts_of cs) known whole)
   axiom_stands (DisjointClasses cs) known whole = stands_call (codes "DisjointClasses") (part_phrases o (parts_of cs)) refl refl (parts_stand (parts_of cs) known whole)
   axiom_stands (DisjointUnion c cs) known whole =
       stands_call (codes "DisjointUnion") (more (concept_phrase o c) (part_phrases o (parts_of cs))) refl refl
       (stand_more (concept_phrase o c) (part_phrases o (parts_of cs))
-      (concept_stands c (and_left (listed c) (all_listed (parts_of cs)) known) (named_alone c (and_left (is_named c) (are_whole (parts_of cs)) whole)).0)
-      (parts_stand (parts_of cs) (and_right (listed c) (all_listed (parts_of cs)) known) (and_right (is_named c) (are_whole (parts_of cs)) whole)))
+      (concept_stands c (and_parts (listed c) (all_listed (parts_of cs)) known).0 (named_alone c (and_parts (is_named c) (are_whole (parts_of cs)) whole).0).0)
+      (parts_stand (parts_of cs) (and_parts (listed c) (all_listed (parts_of cs)) known).1 (and_parts (is_named c) (are_whole (parts_of cs)) whole).1))
   axiom_stands (SubRole r s) known whole =
       stands_call (codes "SubObjectPropertyOf") (two (role_phrase o r) (role_phrase o s)) refl refl
-      (stand_two (role_phrase o r) (role_phrase o s) (role_stands r (and_left (nat_lt r (length o.roles)) (nat_lt s (length o.roles)) known)) (role_stands s (and_right (nat_lt r (length o.roles)) (nat_lt s (length o.roles)) known)))
+      (stand_two (role_phrase o r) (role_phrase o s) (role_stands r (and_parts (nat_lt r (length o.roles)) (nat_lt s (length o.roles)) known).0) (role_stands s (and_parts (nat_lt r (length o.roles)) (nat_lt s (length o.roles)) known).1))
   axiom_stands (EquivalentRoles rs) known whole = stands_call (codes "EquivalentObjectProperties") (role_phrases o rs) refl refl (roles_stand rs known)
   axiom_stands (Domain r c) known whole =
-      valued_stands (codes "ObjectPropertyDomain") r c refl refl (and_left (nat_lt r (length o.roles)) (listed c) known) (concept_stands c (and_right (nat_lt r (length o.roles)) (listed c) known) whole)
+      valued_stands (codes "ObjectPropertyDomain") r c refl refl (and_parts (nat_lt r (length o.roles)) (listed c) known).0 (concept_stands c (and_parts (nat_lt r (length o.roles)) (listed c) known).1 whole)
   axiom_stands (Range r c) known whole =
-      valued_stands (codes "ObjectPropertyRange") r c refl refl (and_left (nat_lt r (length o.roles)) (listed c) known) (concept_stands c (and_right (nat_lt r (length o.roles)) (listed c) known) whole)
+      valued_stands (codes "ObjectPropertyRange") r c refl refl (and_parts (nat_lt r (length o.roles)) (listed c) known).0 (concept_stands c (and_parts (nat_lt r (length o.roles)) (listed c) known).1 whole)
   axiom_stands (Functional r) known whole = stands_call (codes "FunctionalObjectProperty") (one (role_phrase o r)) refl refl (stand_one (role_phrase o r) (role_stands r known))
   axiom_stands (Transitive r) known whole = stands_call (codes "TransitiveObjectProperty") (one (role_phrase o r)) refl refl (stand_one (role_phrase o r) (role_stands r known))

@@ -4,6 +4,7 @@ use Rattle.std.specs.Prelude.{nat_le, is_none, not}
 use Rattle.std.specs.List.{list_all}
 use Rattle.std.specs.Str.{IsUtf8}
 use Rattle.std.proofs.lemmas.Str.{IsUtf8-append, IsUtf8-nil}
+use Rattle.std.proofs.lemmas.Bool.{and_parts, and_from}
 use Rattle.shq_terms.specs.Listed.{Listed}
 use Rattle.shq_terms.specs.Uses.{axiom_uses_listed, all_use_listed}
 use Rattle.shq_terms.specs.declared.axioms.Numbered.{Numbered}
@@ -13,7 +14,7 @@ use Rattle.ofn_expressions.specs.Classes.{is_thing, is_nothing}
 use Rattle.ofn_writer.specs.Canonical.{items_text, line, declaration_lines, axiom_lines, ontology_text}
 use Rattle.written_ontologies.specs.Writable.{is_iri, axiom_brackets, CanBeWritten}
 use Rattle.written_ontologies.proofs.Whole.{has_item_count, has_whole_items, is_whole_axiom, whole_of}
-use Rattle.written_ontologies.proofs.Checks.{and_left, and_right, and_both, true_le}
+use Rattle.written_ontologies.proofs.Checks.{true_le}
 use Rattle.written_ontologies.proofs.Phrases.{Phrase, word, iri, call, Phrases, none, more, text_of, texts_of, can_stand, all_can_stand, item_of, lines_text, lines_items}
 use Rattle.written_ontologies.proofs.Terms.{one, axiom_phrase, axiom_written, axiom_nests, IsText, AreTexts, AreSpelled, Stands, iri_stands, stands_call, stand_one, low_text, axiom_stands}
 use Rattle.written_ontologies.proofs.Declared.{declaration, declarations, axiom_phrases}
@@ -97,11 +98,11 @@ AllStand ps = (all_can_stand ps ≡ true) × AllText ps
 append_stand : (ps qs : List Phrase) → AllStand ps → AllStand qs → AllStand (ps ++ qs)
 append_stand [] qs first second = second
 append_stand (p ∷ ps) qs first second =
-    let others : AllStand (ps ++ qs) = append_stand ps qs (and_right (can_stand p) (all_can_stand ps) first.0, first.1.1) second in
-    (and_both (can_stand p) (all_can_stand (ps ++ qs)) (and_left (can_stand p) (all_can_stand ps) first.0) others.0, (first.1.0, others.1))
+    let others : AllStand (ps ++ qs) = append_stand ps qs ((and_parts (can_stand p) (all_can_stand ps) first.0).1, first.1.1) second in
+    (and_from (can_stand p) (all_can_stand (ps ++ qs)) (and_parts (can_stand p) (all_can_stand ps) first.0).0 others.0, (first.1.0, others.1))
 
 cons_stand : (p : Phrase) (ps : List Phrase) → Stands p → AllStand ps → AllStand (p ∷ ps)
-cons_stand p ps first others = (and_both (can_stand p) (all_can_stand ps) first.0 others.0, (first.1, others.1))
+cons_stand p ps first others = (and_from (can_stand p) (all_can_stand ps) first.0 others.0, (first.1, others.1))
 
 class_stands : (w : List ℕ) → Stands (iri w) → Stands (declaration (codes "Class") w)
 class_stands w h =
@@ -116,8 +117,8 @@ role_stands w h =
 declarations_stand : (kind : List ℕ) → ((w : List ℕ) → Stands (iri w) → Stands (declaration kind w)) → (also : List ℕ → Bool) (ws : List (List ℕ)) → list_all (λ w. is_iri w && also w) ws ≡ true → AllStand (declarations kind ws)
 declarations_stand kind stands also [] h = (refl, tt)
 declarations_stand kind stands also (w ∷ ws) h =
-    cons_stand (declaration kind w) (declarations kind ws) (stands w (iri_stands w (also w) (and_left (is_iri w && also w) (list_all (λ v. is_iri v && also v) ws) h)))
-    (declarations_stand kind stands also ws (and_right (is_iri w && also w) (list_all (λ v. is_iri v && also v) ws) h))
+    cons_stand (declaration kind w) (declarations kind ws) (stands w (iri_stands w (also w) (and_parts (is_iri w && also w) (list_all (λ v. is_iri v && also v) ws) h).0))
+    (declarations_stand kind stands also ws (and_parts (is_iri w && also w) (list_all (λ v. is_iri v && also v) ws) h).1)
 
 module _ (o : Listed) (names : AreSpelled o) where
   abbrev known : Numbered → Bool
@@ -128,10 +129,10 @@ module _ (o : Listed) (names : AreSpelled o) where
   axioms_stand (a ∷ rest) listed whole =
       let others : Bool = all_use_listed (length o.classes) (length o.roles) rest in
       let good : Bool = list_all (λ (b : Numbered). is_whole_axiom b.axiom) rest in
-      let here : is_whole_axiom a.axiom ≡ true = and_left (is_whole_axiom a.axiom) good whole in
+      let here : is_whole_axiom a.axiom ≡ true = (and_parts (is_whole_axiom a.axiom) good whole).0 in
       cons_stand (axiom_phrase o a.axiom) (axiom_phrases o rest)
-      (axiom_stands o names a.axiom (and_left (known a) others listed) (and_right (has_item_count a.axiom) (has_whole_items a.axiom) here))
-      (axioms_stand rest (and_right (known a) others listed) (and_right (is_whole_axiom a.axiom) good whole))
+      (axiom_stands o names a.axiom (and_parts (known a) others listed).0 (and_parts (has_item_count a.axiom) (has_whole_items a.axiom) here).1)
+      (axioms_stand rest (and_parts (known a) others listed).1 (and_parts (is_whole_axiom a.axiom) good whole).1)
 
   pub document_stands : CanBeWritten o → AllStand (document_phrases o)
   document_stands can =
@@ -161,10 +162,10 @@ axioms_nest o [] whole nested n = omega arith
 axioms_nest o (a ∷ rest) whole nested n =
     let good : Bool = list_all (λ (b : Numbered). is_whole_axiom b.axiom) rest in
     let flat : Bool = list_all (λ (b : Numbered). nat_le (axiom_brackets b.axiom) 63) rest in
-    let here : is_whole_axiom a.axiom ≡ true = and_left (is_whole_axiom a.axiom) good whole in
-    let deep : nesting (item_of n (axiom_phrase o a.axiom)) ≡ axiom_brackets a.axiom = axiom_nests o n a.axiom (and_right (has_item_count a.axiom) (has_whole_items a.axiom) here) in
-    let few : axiom_brackets a.axiom ≤ 63 = true_le (axiom_brackets a.axiom) 63 (and_left (nat_le (axiom_brackets a.axiom) 63) flat nested) in
-    let others : nesting_all (lines_items (n + 1) (axiom_phrases o rest)) ≤ 63 = axioms_nest o rest (and_right (is_whole_axiom a.axiom) good whole) (and_right (nat_le (axiom_brackets a.axiom) 63) flat nested) (n + 1) in
+    let here : is_whole_axiom a.axiom ≡ true = (and_parts (is_whole_axiom a.axiom) good whole).0 in
+    let deep : nesting (item_of n (axiom_phrase o a.axiom)) ≡ axiom_brackets a.axiom = axiom_nests o n a.axiom (and_parts (has_item_count a.axiom) (has_whole_items a.axiom) here).1 in
+    let few : axiom_brackets a.axiom ≤ 63 = true_le (axiom_brackets a.axiom) 63 (and_parts (nat_le (axiom_brackets a.axiom) 63) flat nested).0 in
+    let others : nesting_all (lines_items (n + 1) (axiom_phrases o rest)) ≤ 63 = axioms_nest o rest (and_parts (is_whole_axiom a.axiom) good whole).1 (and_parts (nat_le (axiom_brackets a.axiom) 63) flat nested).1 (n + 1) in
     omega (arith, deep, few, others)
 
 pub document_nests : (o : Listed) → CanBeWritten o → (n : ℕ) → Nests n (document_phrases o)

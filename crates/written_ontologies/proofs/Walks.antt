@@ -2,6 +2,7 @@
 use Rattle.std.proofs.Common.{◌≡◌, ℕ, ◌+◌, ◌<◌, ◌≤◌, Bool, true, false, cond, List, [], ◌∷◌, ◌++◌, length, Option, Some, None, Ok, Err, refl, ap, ◌∙◌, arith, codes, decimal, nat_lt}
 use Rattle.std.specs.Prelude.{nat_le, slice_index_or, is_some}
 use Rattle.std.specs.List.{list_all}
+use Rattle.std.proofs.lemmas.Bool.{and_parts}
 use Rattle.shq_base.specs.Concept.{Concept, top, bottom, name, complement, intersection, union, some_of, all_of, at_least, at_most, exactly, Parts, no_parts, part, part_list}
 use Rattle.shq_terms.specs.Listed.{Listed}
 use Rattle.shq_terms.specs.Names.{with_at, with_name}
@@ -16,7 +17,7 @@ use Rattle.ofn_expressions.proofs.Walks.{walked-cons, goes_on}
 use Rattle.written_ontologies.specs.Writable.{expressions, all_expressions}
 use Rattle.written_ontologies.specs.Laws.{owl_iri, KnowsOwl}
 use Rattle.written_ontologies.proofs.Whole.{is_whole, are_whole}
-use Rattle.written_ontologies.proofs.Checks.{and_left, and_right, le_true, true_lt, true_le}
+use Rattle.written_ontologies.proofs.Checks.{le_true, true_lt, true_le}
 use Rattle.written_ontologies.proofs.Phrases.{item_of, all_items}
 use Rattle.written_ontologies.proofs.Terms.{class_phrase, role_phrase, concept_phrase, part_phrases, role_phrases, decimal_number}
 use Rattle.written_ontologies.proofs.Keywords.{group_tests, intersection_tests, union_tests, complement_tests, some_tests, all_tests, least_tests, most_tests, exact_tests}
@@ -172,30 +173,30 @@ module _ (ps : List Prefix) (knows : KnowsOwl ps) (o : Listed) (names : AreKnown
         ∙ ap (λ m. Ok (counted o a p m)) (sum_of n 1 (expressions c))
     concept_walk n line (intersection cs) known whole few =
         let inner : n + 1 + all_expressions cs ≤ 262144 = omega (arith, few) in
-        parts_walk_in n line cs (class_tests ps (item_of line (concept_phrase o (intersection cs)))) (intersection_tests ps line (all_items line (part_phrases o cs))) (and_left (nat_le 2 (length (part_list cs))) (are_whole cs) whole) few
-        (parts_walk (n + 1) line cs known (and_right (nat_le 2 (length (part_list cs))) (are_whole cs) whole) inner)
+        parts_walk_in n line cs (class_tests ps (item_of line (concept_phrase o (intersection cs)))) (intersection_tests ps line (all_items line (part_phrases o cs))) (and_parts (nat_le 2 (length (part_list cs))) (are_whole cs) whole).0 few
+        (parts_walk (n + 1) line cs known (and_parts (nat_le 2 (length (part_list cs))) (are_whole cs) whole).1 inner)
     concept_walk n line (union cs) known whole few =
         let inner : n + 1 + all_expressions cs ≤ 262144 = omega (arith, few) in
-        parts_walk_in n line cs (class_tests ps (item_of line (concept_phrase o (union cs)))) (union_tests ps line (all_items line (part_phrases o cs))) (and_left (nat_le 2 (length (part_list cs))) (are_whole cs) whole) few
-        (parts_walk (n + 1) line cs known (and_right (nat_le 2 (length (part_list cs))) (are_whole cs) whole) inner)
+        parts_walk_in n line cs (class_tests ps (item_of line (concept_phrase o (union cs)))) (union_tests ps line (all_items line (part_phrases o cs))) (and_parts (nat_le 2 (length (part_list cs))) (are_whole cs) whole).0 few
+        (parts_walk (n + 1) line cs known (and_parts (nat_le 2 (length (part_list cs))) (are_whole cs) whole).1 inner)
     concept_walk n line (some_of r c) known whole few =
         let inner : n + 1 + expressions c ≤ 262144 = omega (arith, few) in
-        valued_walk n line r c (class_tests ps (item_of line (concept_phrase o (some_of r c)))) (some_tests ps line (item_of line (role_phrase o r)) (item_of line (concept_phrase o c))) (and_left (nat_lt r (length o.roles)) (listed c) known) few (concept_walk (n + 1) line c (and_right (nat_lt r (length o.roles)) (listed c) known) whole inner)
+        valued_walk n line r c (class_tests ps (item_of line (concept_phrase o (some_of r c)))) (some_tests ps line (item_of line (role_phrase o r)) (item_of line (concept_phrase o c))) (and_parts (nat_lt r (length o.roles)) (listed c) known).0 few (concept_walk (n + 1) line c (and_parts (nat_lt r (length o.roles)) (listed c) known).1 whole inner)
     concept_walk n line (all_of r c) known whole few =
         let inner : n + 1 + expressions c ≤ 262144 = omega (arith, few) in
-        valued_walk n line r c (class_tests ps (item_of line (concept_phrase o (all_of r c)))) (all_tests ps line (item_of line (role_phrase o r)) (item_of line (concept_phrase o c))) (and_left (nat_lt r (length o.roles)) (listed c) known) few (concept_walk (n + 1) line c (and_right (nat_lt r (length o.roles)) (listed c) known) whole inner)
+        valued_walk n line r c (class_tests ps (item_of line (concept_phrase o (all_of r c)))) (all_tests ps line (item_of line (role_phrase o r)) (item_of line (concept_phrase o c))) (and_parts (nat_lt r (length o.roles)) (listed c) known).0 few (concept_walk (n + 1) line c (and_parts (nat_lt r (length o.roles)) (listed c) known).1 whole inner)
     concept_walk n line (at_least k r c) known whole few =
         let inner : n + 1 + expressions c ≤ 262144 = omega (arith, few) in
-        bounded_walk n line k r c (class_tests ps (item_of line (concept_phrase o (at_least k r c)))) (least_tests ps line (name_item (decimal k) line) (item_of line (role_phrase o r)) (item_of line (concept_phrase o c))) (and_left (nat_le k 100) (is_whole c) whole) (and_left (nat_lt r (length o.roles)) (listed c) known) few
-        (concept_walk (n + 1) line c (and_right (nat_lt r (length o.roles)) (listed c) known) (and_right (nat_le k 100) (is_whole c) whole) inner)
+        bounded_walk n line k r c (class_tests ps (item_of line (concept_phrase o (at_least k r c)))) (least_tests ps line (name_item (decimal k) line) (item_of line (role_phrase o r)) (item_of line (concept_phrase o c))) (and_parts (nat_le k 100) (is_whole c) whole).0 (and_parts (nat_lt r (length o.roles)) (listed c) known).0 few
+        (concept_walk (n + 1) line c (and_parts (nat_lt r (length o.roles)) (listed c) known).1 (and_parts (nat_le k 100) (is_whole c) whole).1 inner)
     concept_walk n line (at_most k r c) known whole few =
         let inner : n + 1 + expressions c ≤ 262144 = omega (arith, few) in
-        bounded_walk n line k r c (class_tests ps (item_of line (concept_phrase o (at_most k r c)))) (most_tests ps line (name_item (decimal k) line) (item_of line (role_phrase o r)) (item_of line (concept_phrase o c))) (and_left (nat_le k 100) (is_whole c) whole) (and_left (nat_lt r (length o.roles)) (listed c) known) few
-        (concept_walk (n + 1) line c (and_right (nat_lt r (length o.roles)) (listed c) known) (and_right (nat_le k 100) (is_whole c) whole) inner)
+        bounded_walk n line k r c (class_tests ps (item_of line (concept_phrase o (at_most k r c)))) (most_tests ps line (name_item (decimal k) line) (item_of line (role_phrase o r)) (item_of line (concept_phrase o c))) (and_parts (nat_le k 100) (is_whole c) whole).0 (and_parts (nat_lt r (length o.roles)) (listed c) known).0 few
+        (concept_walk (n + 1) line c (and_parts (nat_lt r (length o.roles)) (listed c) known).1 (and_parts (nat_le k 100) (is_whole c) whole).1 inner)
     concept_walk n line (exactly k r c) known whole few =
         let inner : n + 1 + expressions c ≤ 262144 = omega (arith, few) in
-        bounded_walk n line k r c (class_tests ps (item_of line (concept_phrase o (exactly k r c)))) (exact_tests ps line (name_item (decimal k) line) (item_of line (role_phrase o r)) (item_of line (concept_phrase o c))) (and_left (nat_le k 100) (is_whole c) whole) (and_left (nat_lt r (length o.roles)) (listed c) known) few
-        (concept_walk (n + 1) line c (and_right (nat_lt r (length o.roles)) (listed c) known) (and_right (nat_le k 100) (is_whole c) whole) inner)
+        bounded_walk n line k r c (class_tests ps (item_of line (concept_phrase o (exactly k r c)))) (exact_tests ps line (name_item (decimal k) line) (item_of line (role_phrase o r)) (item_of line (concept_phrase o c))) (and_parts (nat_le k 100) (is_whole c) whole).0 (and_parts (nat_lt r (length o.roles)) (listed c) known).0 few
+        (concept_walk (n + 1) line c (and_parts (nat_lt r (length o.roles)) (listed c) known).1 (and_parts (nat_le k 100) (is_whole c) whole).1 inner)
 
     pub parts_walk : (n line : ℕ) (cs : Parts) → all_listed cs ≡ true → are_whole cs ≡ true → n + all_expressions cs ≤ 262144
         → walked (counted o a p n) (joined (each_class ps (all_items line (part_phrases o cs)))) ≡ Ok (counted o a p (n + all_expressions cs))
@@ -204,8 +205,8 @@ module _ (ps : List Prefix) (knows : KnowsOwl ps) (o : Listed) (names : AreKnown
         let first : n + expressions c ≤ 262144 = omega (arith, few) in
         let others : n + expressions c + all_expressions cs ≤ 262144 = omega (arith, few) in
         goes_on (counted o a p n) (counted o a p (n + expressions c)) (class_tests ps (item_of line (concept_phrase o c))) (joined (each_class ps (all_items line (part_phrases o cs))))
-        (concept_walk n line c (and_left (listed c) (all_listed cs) known) (and_left (is_whole c) (are_whole cs) whole) first)
-        ∙ parts_walk (n + expressions c) line cs (and_right (listed c) (all_listed cs) known) (and_right (is_whole c) (are_whole cs) whole) others
+        (concept_walk n line c (and_parts (listed c) (all_listed cs) known).0 (and_parts (is_whole c) (are_whole cs) whole).0 first)
+        ∙ parts_walk (n + expressions c) line cs (and_parts (listed c) (all_listed cs) known).1 (and_parts (is_whole c) (are_whole cs) whole).1 others
         ∙ ap (λ m. Ok (counted o a p m)) (sum_of n (expressions c) (all_expressions cs))
 
   pub roles_walk : (n line : ℕ) (rs : List ℕ) → list_all (λ r. nat_lt r (length o.roles)) rs ≡ true → walked (counted o a p n) (roles_tests ps (all_items line (role_phrases o rs))) ≡ Ok (counted o a p n)
@@ -213,5 +214,5 @@ module _ (ps : List Prefix) (knows : KnowsOwl ps) (o : Listed) (names : AreKnown
   roles_walk n line (r ∷ rs) known =
       let here : Bool = nat_lt r (length o.roles) in
       let others : Bool = list_all (λ s. nat_lt s (length o.roles)) rs in
-      goes_on (counted o a p n) (counted o a p n) (role_tests ps (item_of line (role_phrase o r))) (roles_tests ps (all_items line (role_phrases o rs))) (role_walk n line r (true_lt r (length o.roles) (and_left here others known)))
-      ∙ roles_walk n line rs (and_right here others known)
+      goes_on (counted o a p n) (counted o a p n) (role_tests ps (item_of line (role_phrase o r))) (roles_tests ps (all_items line (role_phrases o rs))) (role_walk n line r (true_lt r (length o.roles) (and_parts here others known).0))
+      ∙ roles_walk n line rs (and_parts here others known).1

@@ -3,7 +3,9 @@ use Rattle.std.proofs.Common.{◌≡◌, ℕ, ◌+◌, Bool, true, false, ◌&&�
 use Rattle.std.specs.Prelude.{nat_le}
 use Rattle.std.specs.List.{list_all}
 use Rattle.std.proofs.lemmas.Bool.{and_parts}
+use Rattle.std.proofs.Math.Bool.{and_assoc}
 use Rattle.shq_base.specs.Concept.{Concept, top, bottom, name, complement, intersection, union, some_of, all_of, at_least, at_most, exactly, Parts, no_parts, part, parts_of, part_list}
+use Rattle.shq_base.proofs.Bools.{and_turned, and_exchange}
 use Rattle.shq_terms.specs.Listed.{Listed}
 use Rattle.shq_terms.specs.declared.axioms.Axiom.{Axiom}
 use Rattle.shq_terms.specs.declared.axioms.Axiom.TheVariants.{SubClassOf, EquivalentClasses, DisjointClasses, DisjointUnion, SubRole, EquivalentRoles, Domain, Range, Functional, Transitive}
@@ -82,41 +84,26 @@ total f (a ∷ more) = f a.axiom + total f more
 
 -- ---- they are those of the specification
 
-assoc : (a b c : Bool) → (a && (b && c)) ≡ ((a && b) && c)
-assoc true b c = refl
-assoc false b c = refl
-
-swap : (a b c : Bool) → (a && (b && c)) ≡ (b && (a && c))
-swap true b c = refl
-swap false true c = refl
-swap false false c = refl
-
-cross : (a b c d : Bool) → ((a && b) && (c && d)) ≡ ((a && c) && (b && d))
-cross true true c d = refl
-cross true false true d = refl
-cross true false false d = refl
-cross false b c d = refl
-
 mutual
   pub whole_is : (c : Concept) → is_whole c ≡ (has_enough_parts c && has_counts_within 100 c)
   whole_is top = refl
   whole_is bottom = refl
   whole_is (name a) = refl
   whole_is (complement c) = whole_is c
-  whole_is (intersection cs) = ap (λ b. nat_le 2 (length (part_list cs)) && b) (all_whole_is cs) ∙ assoc (nat_le 2 (length (part_list cs))) (have_enough_parts cs) (have_counts_within 100 cs)
-  whole_is (union cs) = ap (λ b. nat_le 2 (length (part_list cs)) && b) (all_whole_is cs) ∙ assoc (nat_le 2 (length (part_list cs))) (have_enough_parts cs) (have_counts_within 100 cs)
+  whole_is (intersection cs) = ap (λ b. nat_le 2 (length (part_list cs)) && b) (all_whole_is cs) ∙ sym (and_assoc (nat_le 2 (length (part_list cs))) (have_enough_parts cs) (have_counts_within 100 cs))
+  whole_is (union cs) = ap (λ b. nat_le 2 (length (part_list cs)) && b) (all_whole_is cs) ∙ sym (and_assoc (nat_le 2 (length (part_list cs))) (have_enough_parts cs) (have_counts_within 100 cs))
   whole_is (some_of r c) = whole_is c
   whole_is (all_of r c) = whole_is c
-  whole_is (at_least n r c) = ap (λ b. nat_le n 100 && b) (whole_is c) ∙ swap (nat_le n 100) (has_enough_parts c) (has_counts_within 100 c)
-  whole_is (at_most n r c) = ap (λ b. nat_le n 100 && b) (whole_is c) ∙ swap (nat_le n 100) (has_enough_parts c) (has_counts_within 100 c)
-  whole_is (exactly n r c) = ap (λ b. nat_le n 100 && b) (whole_is c) ∙ swap (nat_le n 100) (has_enough_parts c) (has_counts_within 100 c)
+  whole_is (at_least n r c) = ap (λ b. nat_le n 100 && b) (whole_is c) ∙ and_turned (nat_le n 100) (has_enough_parts c) (has_counts_within 100 c)
+  whole_is (at_most n r c) = ap (λ b. nat_le n 100 && b) (whole_is c) ∙ and_turned (nat_le n 100) (has_enough_parts c) (has_counts_within 100 c)
+  whole_is (exactly n r c) = ap (λ b. nat_le n 100 && b) (whole_is c) ∙ and_turned (nat_le n 100) (has_enough_parts c) (has_counts_within 100 c)
 
   pub all_whole_is : (cs : Parts) → are_whole cs ≡ (have_enough_parts cs && have_counts_within 100 cs)
   all_whole_is no_parts = refl
-  all_whole_is (part c cs) = (λ i. whole_is c i && all_whole_is cs i) ∙ cross (has_enough_parts c) (has_counts_within 100 c) (have_enough_parts cs) (have_counts_within 100 cs)
+  all_whole_is (part c cs) = (λ i. whole_is c i && all_whole_is cs i) ∙ and_exchange (has_enough_parts c) (has_counts_within 100 c) (have_enough_parts cs) (have_counts_within 100 cs)
 
 many_whole : (enough : Bool) (cs : Parts) → (enough && are_whole cs) ≡ ((enough && have_enough_parts cs) && have_counts_within 100 cs)
-many_whole enough cs = ap (λ b. enough && b) (all_whole_is cs) ∙ assoc enough (have_enough_parts cs) (have_counts_within 100 cs)
+many_whole enough cs = ap (λ b. enough && b) (all_whole_is cs) ∙ sym (and_assoc enough (have_enough_parts cs) (have_counts_within 100 cs))
 
 no_name : (enough whole : Bool) → (enough && (false && whole)) ≡ false
 no_name true whole = refl
@@ -136,7 +123,7 @@ union_whole (at_most n r c) cs = no_name (nat_le 2 (length cs)) (are_whole (part
 union_whole (exactly n r c) cs = no_name (nat_le 2 (length cs)) (are_whole (parts_of cs))
 
 axiom_whole_is : (a : Axiom) → is_whole_axiom a ≡ (unites_named a && (has_enough_items a && axiom_has_counts_within 100 a))
-axiom_whole_is (SubClassOf c d) = (λ i. whole_is c i && whole_is d i) ∙ cross (has_enough_parts c) (has_counts_within 100 c) (has_enough_parts d) (has_counts_within 100 d)
+axiom_whole_is (SubClassOf c d) = (λ i. whole_is c i && whole_is d i) ∙ and_exchange (has_enough_parts c) (has_counts_within 100 c) (has_enough_parts d) (has_counts_within 100 d)
 axiom_whole_is (EquivalentClasses cs) = many_whole (nat_le 2 (length cs)) (parts_of cs)
 axiom_whole_is (DisjointClasses cs) = many_whole (nat_le 2 (length cs)) (parts_of cs)
 axiom_whole_is (DisjointUnion c cs) = union_whole c cs
@@ -168,8 +155,8 @@ axioms_whole_are (a ∷ xs) =
     let e = has_enough_items a.axiom in
     let k = axiom_has_counts_within 100 a.axiom in
     (λ i. axiom_whole_is a.axiom i && axioms_whole_are xs i)
-    ∙ cross n (e && k) (all_named xs) (all_enough xs && all_counts xs)
-    ∙ ap (λ b. (n && all_named xs) && b) (cross e k (all_enough xs) (all_counts xs))
+    ∙ and_exchange n (e && k) (all_named xs) (all_enough xs && all_counts xs)
+    ∙ ap (λ b. (n && all_named xs) && b) (and_exchange e k (all_enough xs) (all_counts xs))
 
 whole_from_limits : (xs : List Numbered) → all_named xs ≡ true → all_enough xs ≡ true → all_counts xs ≡ true → all_whole xs ≡ true
 whole_from_limits xs named enough counts = axioms_whole_are xs ∙ (λ i. named i && (enough i && counts i))
