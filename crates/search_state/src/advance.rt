@@ -158,6 +158,7 @@ impl<'b, A: Allocator + Copy> Progress<'b, A> {
         requires countable { self.old.steps + 1 < 2 ^ 64 }
         ensures { IfOk result (IsStepped (R.context rules.now) self.old self.new) }
     {
+        self.effort = self.effort.with_scan();
         match self.next_step(rules)? {
             Some(step) => {
                 self.make(rules, &step)?;

@@ -85,6 +85,7 @@ impl<'b, A: Allocator + Copy> Progress<'b, A> {
         alternatives_speak_of_nodes();
         self.steps += 1;
         self.agenda = self.agenda.back_to(place);
+        self.effort = self.effort.with_back();
         Ok(fact)
     }
 }

@@ -8,6 +8,7 @@ ghost use Rattle.search_state.specs.Beginning.{by_start, begun_entries};
 ghost use Rattle.search_state.specs.Progress.{IsAsked, IsClashOf};
 ghost use Rattle.search_state.specs.Stepping.{HasBegun};
 
+use crate::effort::Effort;
 use crate::looking::find_clash_by;
 use crate::{NoMemory, Progress};
 use blocking::{Prints, blocks_stay};
@@ -57,6 +58,7 @@ impl<'b, A: Allocator + Copy> Progress<'b, A> {
             clash,
             steps: 0,
             agenda: Agenda::new(),
+            effort: Effort::new(),
         })
     }
 }

@@ -5,12 +5,14 @@ mod advance;
 mod alternatives;
 mod backing;
 mod beginning;
+mod effort;
 mod looking;
 mod next_alternative;
 mod progress;
 mod resting;
 mod stepping;
 
+pub use effort::Effort;
 pub use progress::Progress;
 pub use shq_base::NoMemory;
 pub use stepping::{Rested, Stepped};

@@ -18,6 +18,7 @@ ghost use Rattle.search_state.specs.Progress.{IsStanding, IsClashOf, IsSearching
 
 use crate::NoMemory;
 use crate::alternatives::with_mark;
+use crate::effort::Effort;
 use crate::looking::{find_clash_by, find_clash_by_new};
 use crate::resting::RestingLine;
 use blocking::{Prints, blocks_stay, still_current};
@@ -45,8 +46,9 @@ pub struct Progress<'b, A: Allocator> {
     pub(crate) clash: Option<Clash>,
     pub(crate) steps: u64,
 
-    // Where a next step is looked for first. No contract speaks of it.
+    // Where a next step is looked for first, and what was done beside steps. No contract speaks of them.
     pub(crate) agenda: Agenda,
+    pub(crate) effort: Effort,
 }
 
 impl<'b, A: Allocator> Model for Progress<'b, A> {

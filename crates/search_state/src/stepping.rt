@@ -10,7 +10,7 @@ ghost use Rattle.search_state.specs.Progress.{IsAsked, IsClashOf, IsSearching, I
 ghost use Rattle.search_state.specs.Stepping.{HasBegun, IsStepped, IsRested};
 
 use crate::resting::{RestingLine, rest_clash};
-use crate::{NoMemory, Progress};
+use crate::{Effort, NoMemory, Progress};
 use blocking::Prints;
 use completion_tree::Tree;
 use search_trace::{Back, Trace};
@@ -126,6 +126,7 @@ impl<'b, A: Allocator + Copy> Progress<'b, A> {
         ensures left { self.new ≡ record self.old { trace = begun } }
     {
         let heap = self.heap;
+        self.effort = self.effort.with_trace(&self.trace);
         mem::replace(&mut self.trace, Trace::new(heap))
     }
 
@@ -148,5 +149,10 @@ impl<'b, A: Allocator + Copy> Progress<'b, A> {
         ensures { result ≡ self.now.steps }
     {
         self.steps
+    }
+
+    /// What was done beside the steps.
+    pub fn effort(&self) -> Effort {
+        self.effort.with_trace(&self.trace)
     }
 }

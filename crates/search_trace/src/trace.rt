@@ -57,6 +57,13 @@ impl Trace {
         self.next
     }
 
+    /// How many lines there are behind `start`.
+    pub fn line_count(&self) -> usize
+        ensures { result ≡ length self.now.lines }
+    {
+        self.lines.len()
+    }
+
     /// How many branchings are open.
     pub fn open_count(&self) -> usize
         ensures { result ≡ length self.now.opens }

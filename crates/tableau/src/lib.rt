@@ -7,4 +7,5 @@ mod search;
 
 pub use refutation_tree::Refutation;
 pub use search::{End, Event, Search};
+pub use search_state::Effort;
 pub use shq_base::NoMemory;

@@ -13,7 +13,7 @@ use blocking::Prints;
 use completion_tree::Tree;
 use search_bounds::{few_marks, few_steps_without_going_back};
 use search_rules::SearchRules;
-use search_state::Progress;
+use search_state::{Effort, Progress};
 use shq_terms::Query;
 use std::alloc::{Allocator, Global};
 use std::marker::Model;
@@ -226,6 +226,11 @@ impl<'b, A: Allocator + Copy> Search<'b, A> {
         few_steps_without_going_back();
         few_marks();
         self.steps
+    }
+
+    /// What was done beside the steps. No contract speaks of these counts.
+    pub fn effort(&self) -> Effort {
+        self.progress.effort()
     }
 
     /// Whether the search has ended.
