@@ -1,7 +1,8 @@
 -- How far a classification has come.
-use Rattle.std.specs.Prelude.{◌≡◌, ℕ, ◌+◌, ◌<◌, ◌||◌, Bool, true, false, length, Option, Some, None}
+use Rattle.std.specs.Prelude.{◌≡◌, ℕ, ◌+◌, ◌<◌, ◌||◌, Bool, true, false, length, Option, Some, None, MatchOption}
 use Rattle.std.specs.List.{list_any}
-use Rattle.axiom_sets.specs.Sets.{IsFull}
+use Rattle.std.specs.FinSet as set
+use Rattle.axiom_sets.specs.Sets.{Limited, IsFull}
 use Rattle.ontology_limits.specs.Limits.{IsOntologyInLimit}
 use Rattle.run_log.specs.Entries.{is_spent}
 use Rattle.run_log.specs.HonestLog.{IsWhole, IsClassificationLog}
@@ -30,6 +31,11 @@ pub record HasStopped (l : OracleLists) (stop : Stop) : Type 0 where
   pub honest : IsClassificationLog l.ontology l.budget l.log
   pub excluded : AsksNoExcluded l.log
   pub is_stop : IsStop l.budget l.log stop
+
+-- one of the classes of a set, whose numbers are greater by one there, or none where it has none
+abbrev pub IsOneOf : ℕ → Limited → Option ℕ → Type 0
+IsOneOf size classes found =
+    MatchOption found ((y : ℕ) → y < size → set.contains classes.members (y + 1) ≡ false) (λ y. (y < size) × (set.contains classes.members (y + 1) ≡ true))
 
 -- ---- pairs
 

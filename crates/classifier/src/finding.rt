@@ -1,6 +1,6 @@
 // The choice of the next question.
-ghost use Rattle.std.specs.Prelude.{◌≡◌, ℕ, ◌+◌, ◌<◌, false, true, IfSome, IsNone, IsTrue, MatchOption};
-ghost use Rattle.std.specs.FinSet as set;
+ghost use Rattle.std.specs.Prelude.{◌≡◌, ◌+◌, ◌<◌, IfSome, IsNone, IsTrue};
+ghost use Rattle.classifier.specs.Progress.{IsOneOf};
 
 use axiom_sets::AxiomSet;
 use subsumption_rows::Relation;
@@ -9,7 +9,7 @@ use subsumption_rows::Relation;
 /// both are equal; none where there are no classes.
 pub(crate) fn most_general(known: &Relation, classes: &AxiomSet) -> Option<u32>
     requires { classes.now.limit ≡ known.now.count + 2 }
-    ensures { MatchOption result ((y : ℕ) → y < known.now.count + 2 → set.contains classes.now.members (y + 1) ≡ false) (λ y. (y < known.now.count + 2) × (set.contains classes.now.members (y + 1) ≡ true)) }
+    ensures { IsOneOf (known.now.count + 2) classes.now result }
 {
     let mut best = None;
     for class in 0..classes.limit() {

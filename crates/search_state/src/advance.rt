@@ -107,7 +107,11 @@ impl<'b, A: Allocator + Copy> Progress<'b, A> {
         ensures same { self.new ≡ self.old }
     {
         let state = TreeState::new(&self.tree, &self.prints);
-        self.agenda.next(self.heap, &self.tree, &state, rules)
+        let found = self.agenda.next(self.heap, &self.tree, &state, rules)?;
+        if found.is_none() {
+            self.effort = self.effort.with_scan();
+        }
+        Ok(found)
     }
 
     // The next step where there is no plain clash; none exactly where there is none.
@@ -158,7 +162,6 @@ impl<'b, A: Allocator + Copy> Progress<'b, A> {
         requires countable { self.old.steps + 1 < 2 ^ 64 }
         ensures { IfOk result (IsStepped (R.context rules.now) self.old self.new) }
     {
-        self.effort = self.effort.with_scan();
         match self.next_step(rules)? {
             Some(step) => {
                 self.make(rules, &step)?;

@@ -1,5 +1,5 @@
 -- Relations on the numbers below a size, as one set of numbers for each.
-use Rattle.std.specs.Prelude.{◌≡◌, ℕ, ◌+◌, ◌^◌, ◌<◌, ◌||◌, Bool, List, length, slice_index_or, refl}
+use Rattle.std.specs.Prelude.{◌≡◌, ℕ, ◌+◌, ◌^◌, ◌<◌, ◌&&◌, ◌||◌, Bool, List, length, slice_index_or, refl}
 use Rattle.std.specs.FinSet as set
 use Rattle.std.specs.Coded.{Coded, code_by, coded×, coded_ℕ, coded_list}
 use Rattle.axiom_sets.specs.Sets.{Limited, limited_code}
@@ -22,6 +22,19 @@ row_in rows x = slice_index_or rows x no_row
 -- whether x is related to y
 abbrev pub has : Matrix → ℕ → ℕ → Bool
 has m x y = set.contains (row_in m.rows x).members (y + 1)
+
+-- whether the one set has x, and the other y
+abbrev pub both_have : Limited → Limited → ℕ → ℕ → Bool
+both_have chosen added x y = set.contains chosen.members (x + 1) && set.contains added.members (y + 1)
+
+-- whether row x has the number of a column, and the set has y
+abbrev pub has_column : List Limited → ℕ → Limited → ℕ → ℕ → Bool
+has_column rows column added x y = set.contains (row_in rows x).members (column + 1) && set.contains added.members (y + 1)
+
+-- the rows get those numbers more of which a test says so
+abbrev pub Gains : ℕ → (ℕ → ℕ → Bool) → List Limited → List Limited → Type 0
+Gains size test old new =
+    (x y : ℕ) → x < size → set.contains (row_in new x).members (y + 1) ≡ (set.contains (row_in old x).members (y + 1) || test x y)
 
 -- there are as many rows as the size, and each has room for as many numbers
 pub record IsSquare (size : ℕ) (rows : List Limited) : Type 0 where

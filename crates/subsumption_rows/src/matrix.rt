@@ -1,8 +1,8 @@
 // Pairs of numbers, as one row of bits for each first one.
-ghost use Rattle.std.specs.Prelude.{◌≡◌, ℕ, ◌+◌, ◌<◌, ◌||◌, ◌&&◌, ◌==◌, false, length, IfOk};
+ghost use Rattle.std.specs.Prelude.{◌≡◌, ◌+◌, ◌<◌, ◌&&◌, ◌==◌, false, length, IfOk};
 ghost use Rattle.std.specs.FinSet as set;
 ghost use Rattle.axiom_sets.specs.Sets.{IsWithin};
-ghost use Rattle.subsumption_rows.specs.Matrices.{has, row_in, IsSquare, IsMatrix, Adds};
+ghost use Rattle.subsumption_rows.specs.Matrices.{has, row_in, both_have, has_column, Gains, IsSquare, IsMatrix, Adds};
 
 use axiom_sets::AxiomSet;
 use shq_base::NoMemory;
@@ -102,7 +102,7 @@ fn unite_rows(rows: &mut [AxiomSet], chosen: &AxiomSet, added: &AxiomSet)
     requires square { IsSquare chosen.now.limit rows.old }
     requires added { added.now.limit ≡ chosen.now.limit }
     ensures square { IsSquare chosen.now.limit rows.new }
-    ensures rows { (x y : ℕ) → x < chosen.now.limit → set.contains (row_in rows.new x).members (y + 1) ≡ (set.contains (row_in rows.old x).members (y + 1) || (set.contains chosen.now.members (x + 1) && set.contains added.now.members (y + 1))) }
+    ensures rows { Gains chosen.now.limit (both_have chosen.now added.now) rows.old rows.new }
 {
     for place in 0..chosen.limit() {
         if chosen.has(place + 1) {
@@ -116,7 +116,7 @@ fn unite_rows_where(rows: &mut [AxiomSet], column: u32, added: &AxiomSet)
     requires square { IsSquare added.now.limit rows.old }
     requires column { column < added.now.limit }
     ensures square { IsSquare added.now.limit rows.new }
-    ensures rows { (x y : ℕ) → x < added.now.limit → set.contains (row_in rows.new x).members (y + 1) ≡ (set.contains (row_in rows.old x).members (y + 1) || (set.contains (row_in rows.old x).members (column + 1) && set.contains added.now.members (y + 1))) }
+    ensures rows { Gains added.now.limit (has_column rows.old column added.now) rows.old rows.new }
 {
     for place in 0..added.limit() {
         if rows[place as usize].has(column + 1) {

@@ -1,6 +1,6 @@
 -- The taxonomy of a relation `is part of` on some listed classes, owl:Thing and owl:Nothing. The classes have the numbers below
 -- their count, owl:Thing has the count as its number, and owl:Nothing the next one.
-use Rattle.std.specs.Prelude.{ℕ, ◌+◌, ◌==◌, Bool, not, ◌&&◌, map, if◌then◌else◌}
+use Rattle.std.specs.Prelude.{ℕ, ◌+◌, ◌==◌, Bool, List, not, ◌&&◌, map, if◌then◌else◌}
 use Rattle.lane_sieve.specs.Sets.{passing}
 use Rattle.shq_meaning.specs.Below.{all_below}
 use Rattle.taxonomy.specs.TaxonomyLists.{GroupLists, HierarchyLists}
@@ -53,11 +53,15 @@ is_parent count r x p = is_above count r x p && is_next count r x p
 unfoldable pub group_of : ℕ → Parthood → ℕ → GroupLists
 group_of count r x = record { classes = passing (is_equal count r x) 0 count; parents = passing (is_parent count r x) 0 count }
 
+-- a group for each class that is the first of its group
+abbrev pub groups_of : ℕ → Parthood → List GroupLists
+groups_of count r = map (group_of count r) (passing (is_first count r) 0 count)
+
 unfoldable pub hierarchy_of : ℕ → Parthood → HierarchyLists
 hierarchy_of count r = record {
   nothing = passing (is_empty count r) 0 count;
   thing = passing (holds_all count r) 0 count;
-  groups = map (group_of count r) (passing (is_first count r) 0 count);
+  groups = groups_of count r;
 }
 
 abbrev pub taxonomy_of : ℕ → Parthood → Taxonomy

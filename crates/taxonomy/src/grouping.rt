@@ -5,7 +5,7 @@ ghost use Rattle.lane_sieve.specs.Sets.{passing};
 ghost use Rattle.subsumption_rows.specs.Rows.{holds};
 ghost use Rattle.taxonomy.specs.ClassSets.{has_class, HoldsClasses};
 ghost use Rattle.taxonomy.specs.Listing.{is_listed};
-ghost use Rattle.taxonomy.specs.Taxonomies.{is_empty, holds_all, is_between, is_equal, is_first, is_above, is_parent, group_of, hierarchy_of, taxonomy_of};
+ghost use Rattle.taxonomy.specs.Taxonomies.{is_empty, holds_all, is_between, is_equal, is_first, is_above, is_parent, group_of, groups_of, hierarchy_of, taxonomy_of};
 
 use crate::class_sets::{classes_of, has_none_before, keep, push_if, put_if};
 use crate::groups::{Group, Hierarchy, Taxonomy};
@@ -67,7 +67,7 @@ fn full_classes(alloc: Global, relation: &Relation) -> Result<Vec<u32>, NoMemory
 
 // The groups of the other classes.
 fn groups(alloc: Global, relation: &Relation) -> Result<Vec<Group>, NoMemory>
-    ensures { IfOk result (λ gs. gs.items ≡ map (group_of relation.now.count (holds relation.now)) (passing (is_first relation.now.count (holds relation.now)) 0 relation.now.count)) }
+    ensures { IfOk result (λ gs. gs.items ≡ groups_of relation.now.count (holds relation.now)) }
 {
     let between = classes_between(alloc, relation)?;
     let firsts = first_classes(alloc, relation, &between)?;
