@@ -1,0 +1,2 @@
+pub mod WorkloadAxioms
+pub mod Laws
