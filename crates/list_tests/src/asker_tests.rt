@@ -4,7 +4,7 @@ ghost use Rattle.std.specs.List.{All};
 ghost use Rattle.ontology_limits.specs.Limits.{IsInLimit};
 
 use axiom_sets::AxiomSet;
-use hitting_set_tree::enumerate;
+use hitting_set_tree::{Found, enumerate};
 use module_extract::module;
 use ofn_reader::{Refusal, read_ontology, read_query};
 use query_asker::Asker;
@@ -12,8 +12,9 @@ use repair_list::repairs;
 use run_log::RunLog;
 use set_questions::{Entail, SetOracle};
 use shq_oracle::Oracle;
-use shq_terms::{Ontology, Query};
+use shq_terms::{NoMemory, Ontology, Query};
 use std::alloc::Global;
+use std::process::Abort;
 use std::test::Fail;
 
 const DOCUMENT: &[u8] = b"Prefix(:=<e:>)Ontology(
@@ -31,7 +32,7 @@ struct Lists {
     repairs: Vec<u64>,
 }
 
-fn masks_of(alloc: Global, sets: &[AxiomSet]) -> Result<Vec<u64>, Fail> {
+fn masks_of(alloc: Global, sets: &[AxiomSet]) -> Result<Vec<u64>, NoMemory> {
     let mut masks = Vec::new(alloc);
     for set in sets {
         let mut mask = 0_u64;
@@ -43,26 +44,38 @@ fn masks_of(alloc: Global, sets: &[AxiomSet]) -> Result<Vec<u64>, Fail> {
     Ok(masks)
 }
 
+// What was found, and the repairs.
+fn lists_with(alloc: Global, found: &Found, cuts: &[AxiomSet]) -> Result<Lists, NoMemory> {
+    Ok(Lists {
+        finished: found.finished,
+        justs: masks_of(alloc, &found.justs)?,
+        repairs: masks_of(alloc, cuts)?,
+    })
+}
+
 // What is found over an object.
-fn lists_of<E: Entail>(alloc: Global, entail: &mut E) -> Result<Lists, Fail>
+fn lists_over<E: Entail>(alloc: Global, entail: &mut E) -> Result<Lists, NoMemory>
     requires { (E.meaning entail.old).taken ≡ [] }
 {
     let found = enumerate(alloc, entail)?;
     let cuts = repairs(alloc, &found)?;
-    Ok(Lists {
-        finished: found.finished,
-        justs: masks_of(alloc, &found.justs)?,
-        repairs: masks_of(alloc, &cuts)?,
-    })
+    lists_with(alloc, &found, &cuts)
+}
+
+// The same, where the object is let go.
+fn lists_of<E: Entail + Drop>(alloc: Global, mut entail: E) -> Result<Lists, NoMemory>
+    requires { (E.meaning entail).taken ≡ [] }
+{
+    lists_over(alloc, &mut entail)
 }
 
 // Over sets in memory.
-fn by_sets(alloc: Global) -> Result<Lists, Fail> {
+fn by_sets(alloc: Global) -> Result<Lists, NoMemory> {
     let sets = sets_of(alloc, &SETS)?;
-    lists_of(alloc, &mut SetOracle::new(alloc, 7, sets, 1000))
+    lists_of(alloc, SetOracle::new(alloc, 7, sets, 1000))
 }
 
-fn sets_of(alloc: Global, members: &[[u32; 3]]) -> Result<Vec<AxiomSet>, Fail>
+fn sets_of(alloc: Global, members: &[[u32; 3]]) -> Result<Vec<AxiomSet>, NoMemory>
     ensures { IfOk result (λ v. All (λ s. s.limit ≡ 7) v.items) }
 {
     let mut sets = Vec::new(alloc);
@@ -72,7 +85,7 @@ fn sets_of(alloc: Global, members: &[[u32; 3]]) -> Result<Vec<AxiomSet>, Fail>
     Ok(sets)
 }
 
-fn set_of(alloc: Global, numbers: &[u32; 3]) -> Result<AxiomSet, Fail>
+fn set_of(alloc: Global, numbers: &[u32; 3]) -> Result<AxiomSet, NoMemory>
     ensures { IfOk result (λ s. s.limit ≡ 7) }
 {
     let mut set = AxiomSet::empty(alloc, 7)?;
@@ -92,21 +105,21 @@ fn put(set: &mut AxiomSet, number: u32)
 }
 
 // Over an asker among all axioms.
-fn by_all(alloc: Global, ontology: &Ontology, query: &Query) -> Result<Lists, Fail>
+fn by_all(alloc: Global, ontology: &Ontology, query: &Query) -> Result<Lists, NoMemory>
     requires { IsInLimit ontology.now query.now }
 {
     let oracle = Oracle::new(alloc, ontology, 1000, RunLog::new(alloc));
-    lists_of(alloc, &mut Asker::new(alloc, oracle, query))
+    lists_of(alloc, Asker::new(alloc, oracle, query))
 }
 
 // Over an asker among the axioms of the local module.
-fn by_module(alloc: Global, ontology: &Ontology, query: &Query) -> Result<Lists, Fail>
+fn by_module(alloc: Global, ontology: &Ontology, query: &Query) -> Result<Lists, NoMemory>
     requires { IsInLimit ontology.now query.now }
 {
     let module = module(alloc, ontology, query)?;
     let oracle = Oracle::new(alloc, ontology, 1000, RunLog::new(alloc));
-    let mut asker = Asker::within(alloc, oracle, query, module);
-    lists_of(alloc, &mut asker)
+    let asker = Asker::within(alloc, oracle, query, module);
+    lists_of(alloc, asker)
 }
 
 // The document, and a query on it.
@@ -119,13 +132,46 @@ fn read(alloc: Global) -> Result<(Ontology, Query), Refusal>
     Ok((ontology, query))
 }
 
+fn assert_same(rt: &impl Abort, found: &Lists, wanted: &Lists) {
+    assert_eq!(rt; found, wanted);
+}
+
+fn check_lists(
+    rt: &impl Abort,
+    alloc: Global,
+    ontology: &Ontology,
+    query: &Query,
+    wanted: &Lists,
+) -> Result<(), NoMemory>
+    requires { IsInLimit ontology.now query.now }
+{
+    assert_same(rt, &by_all(alloc, ontology, query)?, wanted);
+    assert_same(rt, &by_module(alloc, ontology, query)?, wanted);
+    Ok(())
+}
+
+fn check_objects(rt: &impl Abort, alloc: Global, wanted: &Lists) -> Result<(), Refusal> {
+    let (ontology, query) = read(alloc)?;
+    check_on(rt, alloc, &ontology, &query, wanted)
+}
+
+fn check_on(
+    rt: &impl Abort,
+    alloc: Global,
+    ontology: &Ontology,
+    query: &Query,
+    wanted: &Lists,
+) -> Result<(), Refusal>
+    requires { IsInLimit ontology.now query.now }
+{
+    check_lists(rt, alloc, ontology, query, wanted)?;
+    Ok(())
+}
+
 #[test]
 fn objects_of_one_meaning_have_equal_lists(rt: HostRuntime) -> Result<(), Fail> {
-    let alloc = rt.alloc();
-    let (ontology, query) = read(alloc)?;
-    let wanted = by_sets(alloc)?;
+    let wanted = by_sets(rt.alloc())?;
     assert!(rt; wanted.finished);
-    assert_eq!(rt; by_all(alloc, &ontology, &query)?, wanted);
-    assert_eq!(rt; by_module(alloc, &ontology, &query)?, wanted);
+    check_objects(&rt, rt.alloc(), &wanted)?;
     Ok(())
 }

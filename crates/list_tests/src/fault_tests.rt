@@ -1,7 +1,8 @@
 // Inputs and outputs that fail at some call.
 
-use crate::runs::run_through;
-use ontology_jobs::Status;
+use job_runs::{Failing, NoMemory, Status, run_through};
+use std::alloc::Global;
+use std::process::Abort;
 use std::test::Fail;
 
 const WORDS: [&str; 2] = ["explain", "SubClassOf(:A :B)"];
@@ -12,37 +13,48 @@ const DOCUMENT: &[u8] = b"Prefix(:=<http://e.org/>)\nOntology(\n)\n";
 // It has 17 bytes, which five calls write.
 const ANSWER: &[u8] = b"justifications 0\n";
 
-#[test]
-fn answers_where_the_input_fails(rt: HostRuntime) -> Result<(), Fail> {
-    for call in 1..7_u32 {
-        let (status, sink) = run_through(rt.alloc(), &WORDS, DOCUMENT, [call, 0])?;
-        assert_eq!(rt; status, Status::ReadFault);
-        assert!(rt; sink.taken() == b"read fault\n".as_slice(), "{call}");
-    }
-    let (status, sink) = run_through(rt.alloc(), &WORDS, DOCUMENT, [7, 0])?;
-    assert_eq!(rt; status, Status::Done);
-    assert!(rt; sink.taken() == ANSWER);
+// The call that fails, how the run ends, and what is written.
+type Case = (Failing, Status, &'static [u8]);
+
+// Each call that reads fails in turn; a seventh is not made.
+const READS: &[Case] = &[
+    (Failing::Read(1), Status::ReadFault, b"read fault\n"),
+    (Failing::Read(2), Status::ReadFault, b"read fault\n"),
+    (Failing::Read(3), Status::ReadFault, b"read fault\n"),
+    (Failing::Read(4), Status::ReadFault, b"read fault\n"),
+    (Failing::Read(5), Status::ReadFault, b"read fault\n"),
+    (Failing::Read(6), Status::ReadFault, b"read fault\n"),
+    (Failing::Read(7), Status::Done, ANSWER),
+];
+
+// Each call that writes fails in turn; a sixth is not made.
+const WRITES: &[Case] = &[
+    (Failing::Write(1), Status::WriteFault, b""),
+    (Failing::Write(2), Status::WriteFault, b"just"),
+    (Failing::Write(3), Status::WriteFault, b"justific"),
+    (Failing::Write(4), Status::WriteFault, b"justificatio"),
+    (Failing::Write(5), Status::WriteFault, b"justifications 0"),
+    (Failing::Write(6), Status::Done, ANSWER),
+];
+
+fn check_fault(
+    rt: &impl Abort,
+    alloc: Global,
+    (failing, status, text): &Case,
+) -> Result<(), NoMemory> {
+    let answer = run_through(alloc, &WORDS, DOCUMENT, *failing)?;
+    assert_eq!(rt; answer.status, *status);
+    assert!(rt; answer.text() == *text, "{failing:?}");
     Ok(())
 }
 
 #[test]
-fn stops_where_the_output_fails(rt: HostRuntime) -> Result<(), Fail> {
-    let parts: [&[u8]; 5] = [
-        b"",
-        b"just",
-        b"justific",
-        b"justificatio",
-        b"justifications 0",
-    ];
-    let mut call = 0_u32;
-    for part in parts {
-        call = call.saturating_add(1);
-        let (status, sink) = run_through(rt.alloc(), &WORDS, DOCUMENT, [0, call])?;
-        assert_eq!(rt; status, Status::WriteFault);
-        assert!(rt; sink.taken() == part, "{call}");
+fn answers_where_a_call_fails(rt: HostRuntime) -> Result<(), Fail> {
+    for case in READS {
+        check_fault(&rt, rt.alloc(), case)?;
     }
-    let (status, sink) = run_through(rt.alloc(), &WORDS, DOCUMENT, [0, 6])?;
-    assert_eq!(rt; status, Status::Done);
-    assert!(rt; sink.taken() == ANSWER);
+    for case in WRITES {
+        check_fault(&rt, rt.alloc(), case)?;
+    }
     Ok(())
 }

@@ -11,6 +11,4 @@ mod producer_tests;
 #[cfg(test)]
 mod relation;
 #[cfg(test)]
-mod runs;
-#[cfg(test)]
 mod taxonomy_tests;

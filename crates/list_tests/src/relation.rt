@@ -1,8 +1,7 @@
 // The taxonomy of a document by its definition, from the answers about all pairs of its classes, each asked by itself.
 
-use crate::runs::run_on;
+use job_runs::{NoMemory, run_on};
 use std::alloc::Global;
-use std::test::Fail;
 
 /// Class expressions, `owl:Thing` and `owl:Nothing` before the names of the document, and for each the places of those that contain
 /// it.
@@ -30,16 +29,26 @@ const NOTHING: usize = 1;
 const FIRST: usize = 2;
 
 /// Asks about all pairs of classes of the document, which lists these names in this order.
-pub(crate) fn relation_of(alloc: Global, document: &str, names: &[&str]) -> Result<Relation, Fail> {
+pub(crate) fn relation_of(
+    alloc: Global,
+    document: &str,
+    names: &[&str],
+) -> Result<Relation, NoMemory> {
     let classes = classes_of(alloc, names)?;
-    let mut above = Vec::new(alloc);
-    for class in classes.iter() {
-        above.push(those_above(alloc, document, &classes, class.as_str())?)?;
-    }
+    let above = all_above(alloc, document, &classes)?;
     Ok(Relation { classes, above })
 }
 
-fn classes_of(alloc: Global, names: &[&str]) -> Result<Vec<String>, Fail> {
+// For each class the places of those that contain it.
+fn all_above(alloc: Global, document: &str, classes: &[String]) -> Result<Vec<usize>, NoMemory> {
+    let mut above = Vec::new(alloc);
+    for class in classes {
+        above.push(those_above(alloc, document, classes, class.as_str())?)?;
+    }
+    Ok(above)
+}
+
+fn classes_of(alloc: Global, names: &[&str]) -> Result<Vec<String>, NoMemory> {
     let mut classes = Vec::new(alloc);
     classes.push(String::from_str(alloc, "owl:Thing")?)?;
     classes.push(String::from_str(alloc, "owl:Nothing")?)?;
@@ -55,7 +64,7 @@ fn those_above(
     document: &str,
     classes: &[String],
     class: &str,
-) -> Result<usize, Fail> {
+) -> Result<usize, NoMemory> {
     let mut above = 0;
     for (place, other) in classes.iter().enumerate() {
         if contains(alloc, document, class, other.as_str())? {
@@ -66,10 +75,10 @@ fn those_above(
 }
 
 // Whether the second class contains the first.
-fn contains(alloc: Global, document: &str, class: &str, other: &str) -> Result<bool, Fail> {
+fn contains(alloc: Global, document: &str, class: &str, other: &str) -> Result<bool, NoMemory> {
     let query = format!(in alloc; "SubClassOf({class} {other})")?;
-    let (_, sink) = run_on(alloc, &["entails", query.as_str()], document.as_bytes())?;
-    Ok(sink.taken().starts_with(b"entailed\n"))
+    let answer = run_on(alloc, &["entails", query.as_str()], document.as_bytes())?;
+    Ok(answer.verdict() == b"entailed".as_slice())
 }
 
 fn with(places: usize, place: usize) -> usize {
@@ -82,7 +91,7 @@ fn has(places: usize, place: usize) -> bool {
 
 impl Relation {
     /// The text of the taxonomy.
-    pub(crate) fn text(&self, alloc: Global) -> Result<String, Fail> {
+    pub(crate) fn text(&self, alloc: Global) -> Result<String, NoMemory> {
         if self.is_below(THING, NOTHING) {
             return Ok(String::from_str(alloc, "inconsistent\n")?);
         }
@@ -120,7 +129,7 @@ impl Relation {
     }
 
     // The line of the group whose first name stands at this place.
-    fn put_group(&self, text: &mut String, place: usize) -> Result<(), Fail> {
+    fn put_group(&self, text: &mut String, place: usize) -> Result<(), NoMemory> {
         text.push_str("class")?;
         self.put(text, self.places(Wanted::EqualTo(place)))?;
         text.push_str(" under")?;
@@ -138,7 +147,7 @@ impl Relation {
     }
 
     // The classes at these places, each after a blank.
-    fn put(&self, text: &mut String, places: usize) -> Result<(), Fail> {
+    fn put(&self, text: &mut String, places: usize) -> Result<(), NoMemory> {
         for (place, class) in self.classes.iter().enumerate() {
             if has(places, place) {
                 text.push_str(" ")?;

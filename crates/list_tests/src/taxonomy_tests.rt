@@ -1,12 +1,13 @@
 // Taxonomies compared with the answers about all pairs of their classes.
 
 use crate::relation::relation_of;
-use crate::runs::{document, run_on};
-use ontology_jobs::Status;
+use job_runs::{NoMemory, Status, document, run_on};
+use std::alloc::Global;
+use std::process::Abort;
 use std::test::Fail;
 
 // The class names in the order of the list, and the axioms.
-const ONTOLOGIES: [(&[&str], &str); 20] = [
+const ONTOLOGIES: &[(&[&str], &str)] = &[
     (
         &["A", "B", "C", "D", "E"],
         "SubClassOf(:A :B)\nSubClassOf(:A :C)\nSubClassOf(:B :D)\nSubClassOf(:C :D)\nSubClassOf(:D :E)",
@@ -89,15 +90,48 @@ const ONTOLOGIES: [(&[&str], &str); 20] = [
     ),
 ];
 
+// The taxonomy of the document by all pairs of these names.
+fn text_by_pairs(alloc: Global, document: &str, names: &[&str]) -> Result<String, NoMemory> {
+    let relation = relation_of(alloc, document, names)?;
+    relation.text(alloc)
+}
+
+fn check_answer(
+    rt: &impl Abort,
+    alloc: Global,
+    document: &str,
+    wanted: &str,
+) -> Result<(), NoMemory> {
+    let answer = run_on(alloc, &["classify"], document.as_bytes())?;
+    assert_eq!(rt; answer.status, Status::Done);
+    assert!(rt; answer.text() == wanted.as_bytes(), "{wanted}");
+    Ok(())
+}
+
+fn check_document(
+    rt: &impl Abort,
+    alloc: Global,
+    document: &str,
+    names: &[&str],
+) -> Result<(), NoMemory> {
+    let text = text_by_pairs(alloc, document, names)?;
+    check_answer(rt, alloc, document, text.as_str())
+}
+
+fn check_taxonomy(
+    rt: &impl Abort,
+    alloc: Global,
+    names: &[&str],
+    axioms: &str,
+) -> Result<(), NoMemory> {
+    let document = document(alloc, axioms)?;
+    check_document(rt, alloc, document.as_str(), names)
+}
+
 #[test]
 fn agrees_with_all_pairs(rt: HostRuntime) -> Result<(), Fail> {
     for (names, axioms) in ONTOLOGIES {
-        let document = document(rt.alloc(), axioms)?;
-        let relation = relation_of(rt.alloc(), document.as_str(), names)?;
-        let text = relation.text(rt.alloc())?;
-        let (status, sink) = run_on(rt.alloc(), &["classify"], document.as_bytes())?;
-        assert_eq!(rt; status, Status::Done);
-        assert!(rt; sink.taken() == text.as_bytes(), "{text}");
+        check_taxonomy(&rt, rt.alloc(), names, axioms)?;
     }
     Ok(())
 }
