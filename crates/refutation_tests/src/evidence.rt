@@ -1,8 +1,7 @@
 // What the program says of a question, and `check` of that.
 
-use crate::runs::{Answer, checked, document, run_on};
 use crate::short_words::spelled;
-use ontology_jobs::Status;
+use job_runs::{Answer, Status, checked, document, run_on};
 use std::alloc::Global;
 use std::test::Fail;
 
@@ -26,7 +25,7 @@ fn job_of(question: &str) -> &str {
 fn asked(alloc: Global, axioms: &str, words: [&str; 2]) -> Result<Evidence, Fail> {
     let document = document(alloc, axioms)?;
     let answer = run_on(alloc, &words, document.as_bytes())?;
-    let check = checked(alloc, words, document.as_str(), answer.sink.taken())?;
+    let check = checked(alloc, words, document.as_str(), answer.text())?;
     Ok(Evidence { answer, check })
 }
 
@@ -61,8 +60,8 @@ fn has_any(text: &str, kinds: &str) -> bool {
 
 // The certificate, where it is a refutation that `check` accepts; else an empty text.
 fn refutation_in(evidence: &Evidence) -> &str {
-    let is_accepted = evidence.check.sink.taken() == b"accepted entailed\n".as_slice();
-    match str::from_utf8(evidence.answer.sink.taken()) {
+    let is_accepted = evidence.check.text() == b"accepted entailed\n".as_slice();
+    match str::from_utf8(evidence.answer.text()) {
         Ok(text) if is_accepted && evidence.answer.status == Status::Done => text,
         _ => "",
     }
@@ -113,6 +112,6 @@ pub(crate) fn closes_by(
 /// Whether the search ends with a counter-model that `check` accepts.
 pub(crate) fn stays_open(alloc: Global, axioms: &str, question: &str) -> Result<bool, Fail> {
     let evidence = asked_in_short(alloc, axioms, question)?;
-    let is_accepted = evidence.check.sink.taken() == b"accepted not entailed\n".as_slice();
+    let is_accepted = evidence.check.text() == b"accepted not entailed\n".as_slice();
     Ok(is_accepted && evidence.answer.status == Status::Done)
 }

@@ -15,8 +15,6 @@ mod jump_tests;
 #[cfg(test)]
 mod naming_tests;
 #[cfg(test)]
-mod runs;
-#[cfg(test)]
 mod short_words;
 #[cfg(test)]
 mod successor_tests;
