@@ -1,11 +1,12 @@
 // Taxonomies that were worked out by hand.
 
-use crate::runs::{document, run_on};
-use ontology_jobs::Status;
+use job_runs::{NoMemory, Status, document, run_on};
+use std::alloc::Global;
+use std::process::Abort;
 use std::test::Fail;
 
 // Axioms, and the whole answer.
-const TAXONOMIES: [(&str, &str); 9] = [
+const TAXONOMIES: &[(&str, &str)] = &[
     ("", "consistent\nnothing\nthing\n"),
     ("SubClassOf(owl:Thing owl:Nothing)", "inconsistent\n"),
     (
@@ -39,7 +40,7 @@ const TAXONOMIES: [(&str, &str); 9] = [
 ];
 
 // Axioms that are refused, and the answer.
-const REFUSED: [(&str, &str); 4] = [
+const REFUSED: &[(&str, &str)] = &[
     (
         "TransitiveObjectProperty(:R)\nSubObjectPropertyOf(:R :S)\nFunctionalObjectProperty(:S)",
         "outside not-simple line 5\n",
@@ -52,32 +53,60 @@ const REFUSED: [(&str, &str); 4] = [
     (")\nx", "bad text shape line 4\n"),
 ];
 
-#[test]
-fn classifies(rt: HostRuntime) -> Result<(), Fail> {
-    for (axioms, text) in TAXONOMIES {
-        let document = document(rt.alloc(), axioms)?;
-        let answer = run_on(rt.alloc(), &["classify"], document.as_bytes())?;
-        assert_eq!(rt; answer.status, Status::Done);
-        assert!(rt; answer.sink.taken() == text.as_bytes(), "{text}");
-        let small = run_on(
-            rt.alloc(),
-            &["classify", "budget", "1"],
-            document.as_bytes(),
-        )?;
-        let spent = small.status == Status::Undecided && small.spent == 1;
-        let easy = small.status == Status::Done && answer.spent <= 1;
-        assert!(rt; spent || easy, "{text}");
-    }
+// The whole answer on a document, and how many steps it took.
+fn check_whole(
+    rt: &impl Abort,
+    alloc: Global,
+    document: &str,
+    text: &str,
+) -> Result<u64, NoMemory> {
+    let answer = run_on(alloc, &["classify"], document.as_bytes())?;
+    assert_eq!(rt; answer.status, Status::Done);
+    assert!(rt; answer.text() == text.as_bytes(), "{text}");
+    Ok(answer.spent)
+}
+
+// A budget of one step is spent, unless so many suffice.
+fn check_budget(
+    rt: &impl Abort,
+    alloc: Global,
+    document: &str,
+    steps: u64,
+) -> Result<(), NoMemory> {
+    let words = ["classify", "budget", "1"];
+    let answer = run_on(alloc, &words, document.as_bytes())?;
+    let spent = answer.status == Status::Undecided && answer.spent == 1;
+    let easy = answer.status == Status::Done && steps <= 1;
+    assert!(rt; spent || easy, "{document}");
+    Ok(())
+}
+
+fn check_taxonomy(
+    rt: &impl Abort,
+    alloc: Global,
+    axioms: &str,
+    text: &str,
+) -> Result<(), NoMemory> {
+    let document = document(alloc, axioms)?;
+    let steps = check_whole(rt, alloc, document.as_str(), text)?;
+    check_budget(rt, alloc, document.as_str(), steps)
+}
+
+fn check_refused(rt: &impl Abort, alloc: Global, axioms: &str, text: &str) -> Result<(), NoMemory> {
+    let document = document(alloc, axioms)?;
+    let answer = run_on(alloc, &["classify"], document.as_bytes())?;
+    assert!(rt; answer.text() == text.as_bytes(), "{text}");
+    assert_eq!(rt; answer.spent, 0);
     Ok(())
 }
 
 #[test]
-fn refuses_to_classify(rt: HostRuntime) -> Result<(), Fail> {
+fn classifies(rt: HostRuntime) -> Result<(), Fail> {
+    for (axioms, text) in TAXONOMIES {
+        check_taxonomy(&rt, rt.alloc(), axioms, text)?;
+    }
     for (axioms, text) in REFUSED {
-        let document = document(rt.alloc(), axioms)?;
-        let answer = run_on(rt.alloc(), &["classify"], document.as_bytes())?;
-        assert!(rt; answer.sink.taken() == text.as_bytes(), "{text}");
-        assert_eq!(rt; answer.spent, 0);
+        check_refused(&rt, rt.alloc(), axioms, text)?;
     }
     Ok(())
 }

@@ -11,6 +11,4 @@ mod listing_tests;
 #[cfg(test)]
 mod question_tests;
 #[cfg(test)]
-mod runs;
-#[cfg(test)]
 mod subset_tests;

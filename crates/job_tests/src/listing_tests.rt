@@ -1,12 +1,12 @@
 // Lists of justifications and repairs that were worked out by hand.
 
-use crate::runs::{Answer, document, run_on};
-use ontology_jobs::Status;
+use job_runs::{Answer, NoMemory, Status, document, run_on};
 use std::alloc::Global;
+use std::process::Abort;
 use std::test::Fail;
 
 // Axioms, what is asked of them, and the whole answer.
-const LISTS: [(&str, [&str; 2], &str); 9] = [
+const LISTS: &[(&str, [&str; 2], &str)] = &[
     (
         "SubClassOf(:A :B)\nSubClassOf(:B :C)",
         ["explain", "SubClassOf(:A :C)"],
@@ -43,7 +43,7 @@ const LISTS: [(&str, [&str; 2], &str); 9] = [
 ];
 
 // Axioms, what is asked of them, and how the answer begins.
-const FRONTS: [(&str, [&str; 2], &str); 3] = [
+const FRONTS: &[(&str, [&str; 2], &str)] = &[
     (
         "TransitiveObjectProperty(:R)\nSubObjectPropertyOf(:S :R)\nSubClassOf(:A ObjectSomeValuesFrom(:S ObjectSomeValuesFrom(:S :B)))\nSubClassOf(:A ObjectAllValuesFrom(:R ObjectComplementOf(:B)))",
         ["explain", "SubClassOf(:A owl:Nothing)"],
@@ -62,87 +62,131 @@ const FRONTS: [(&str, [&str; 2], &str); 3] = [
 ];
 
 // What is answered to these words on a document with these axioms.
-fn answer_to(alloc: Global, axioms: &str, words: [&str; 2]) -> Result<Answer, Fail> {
+fn answer_to(alloc: Global, axioms: &str, words: [&str; 2]) -> Result<Answer, NoMemory> {
     let document = document(alloc, axioms)?;
     run_on(alloc, &words, document.as_bytes())
+}
+
+fn check_list(
+    rt: &impl Abort,
+    alloc: Global,
+    axioms: &str,
+    words: [&str; 2],
+    text: &str,
+) -> Result<(), NoMemory> {
+    let answer = answer_to(alloc, axioms, words)?;
+    assert_eq!(rt; answer.status, Status::Done);
+    assert!(rt; answer.text() == text.as_bytes(), "{text}");
+    Ok(())
+}
+
+fn check_front(
+    rt: &impl Abort,
+    alloc: Global,
+    axioms: &str,
+    words: [&str; 2],
+    front: &str,
+) -> Result<(), NoMemory> {
+    let answer = answer_to(alloc, axioms, words)?;
+    assert_eq!(rt; answer.status, Status::Done);
+    assert!(rt; answer.text().starts_with(front.as_bytes()), "{front}");
+    Ok(())
 }
 
 #[test]
 fn lists_sets_of_axioms(rt: HostRuntime) -> Result<(), Fail> {
     for (axioms, words, text) in LISTS {
-        let answer = answer_to(rt.alloc(), axioms, words)?;
-        assert_eq!(rt; answer.status, Status::Done);
-        assert!(rt; answer.sink.taken() == text.as_bytes(), "{text}");
+        check_list(&rt, rt.alloc(), axioms, *words, text)?;
     }
-    Ok(())
-}
-
-#[test]
-fn begins_lists_with_sets(rt: HostRuntime) -> Result<(), Fail> {
     for (axioms, words, front) in FRONTS {
-        let answer = answer_to(rt.alloc(), axioms, words)?;
-        assert_eq!(rt; answer.status, Status::Done);
-        assert!(rt;
-            answer.sink.taken().starts_with(front.as_bytes()),
-            "{front}"
-        );
+        check_front(&rt, rt.alloc(), axioms, *words, front)?;
     }
     Ok(())
 }
 
-// A contradiction that has nothing to do with twenty unions.
-fn beside_unions(alloc: Global) -> Result<String, Fail> {
-    let mut axioms = String::new(alloc);
+// Twenty unions.
+fn push_unions(alloc: Global, axioms: &mut String) -> Result<(), NoMemory> {
     for i in 0..20_u32 {
-        axioms.push_str(&format!(in alloc; "SubClassOf(:A ObjectUnionOf(:B{i} :C{i}))\n")?)?;
+        let axiom = format!(in alloc; "SubClassOf(:A ObjectUnionOf(:B{i} :C{i}))\n")?;
+        axioms.push_str(axiom.as_str())?;
     }
-    axioms.push_str("SubClassOf(:A ObjectSomeValuesFrom(:R :D))\n")?;
-    axioms.push_str("SubClassOf(:D ObjectUnionOf(:E :F))\n")?;
-    axioms.push_str("SubClassOf(:D ObjectComplementOf(:E))\n")?;
-    axioms.push_str("SubClassOf(:D ObjectComplementOf(:F))")?;
-    document(alloc, &axioms)
+    Ok(())
+}
+
+// A contradiction that has nothing to do with them.
+const CONTRADICTION: &str =
+    "SubClassOf(:A ObjectSomeValuesFrom(:R :D))\nSubClassOf(:D ObjectUnionOf(:E :F))\nSubClassOf(:D ObjectComplementOf(:E))\nSubClassOf(:D ObjectComplementOf(:F))";
+
+fn beside_unions(alloc: Global) -> Result<String, NoMemory> {
+    let mut axioms = String::new(alloc);
+    push_unions(alloc, &mut axioms)?;
+    axioms.push_str(CONTRADICTION)?;
+    document(alloc, axioms.as_str())
+}
+
+fn check_start(
+    rt: &impl Abort,
+    alloc: Global,
+    document: &str,
+    words: &[&str],
+    front: &[u8],
+) -> Result<(), NoMemory> {
+    let answer = run_on(alloc, words, document.as_bytes())?;
+    assert!(rt; answer.text().starts_with(front));
+    Ok(())
+}
+
+fn check_beside_unions(rt: &impl Abort, alloc: Global, document: &str) -> Result<(), NoMemory> {
+    let few = ["sat", ":A", "budget", "1000"];
+    check_start(rt, alloc, document, &few, b"unsatisfiable\n")?;
+    let words = ["explain", "SubClassOf(:A owl:Nothing)"];
+    let front = b"justifications 1\n21 22 23 24\naxiom 21 line 23 ";
+    check_start(rt, alloc, document, &words, front)
 }
 
 #[test]
 fn leaves_unions_aside(rt: HostRuntime) -> Result<(), Fail> {
     let document = beside_unions(rt.alloc())?;
-    let few = ["sat", ":A", "budget", "1000"];
-    let decided = run_on(rt.alloc(), &few, document.as_bytes())?;
-    assert!(rt; decided.sink.taken().starts_with(b"unsatisfiable\n"));
-    let words = ["explain", "SubClassOf(:A owl:Nothing)"];
-    let answer = run_on(rt.alloc(), &words, document.as_bytes())?;
-    assert!(rt;
-        answer
-            .sink
-            .taken()
-            .starts_with(b"justifications 1\n21 22 23 24\naxiom 21 line 23 ")
-    );
+    check_beside_unions(&rt, rt.alloc(), document.as_str())?;
+    Ok(())
+}
+
+// What is asked without a document, how it ends, and the whole answer.
+const WORKLOADS: &[(&[&str], Status, &str)] = &[
+    (
+        &["workload", "1"],
+        Status::Done,
+        "workload 1\naxioms 11\njustifications 8\nrepairs 3\n",
+    ),
+    (
+        &["workload", "4000"],
+        Status::Done,
+        "workload 4000\naxioms 16007\njustifications 8\nrepairs 3\n",
+    ),
+    (
+        &["workload", "2", "budget", "1"],
+        Status::Undecided,
+        "undecided\n",
+    ),
+];
+
+fn check_workload(
+    rt: &impl Abort,
+    alloc: Global,
+    words: &[&str],
+    status: Status,
+    text: &str,
+) -> Result<(), NoMemory> {
+    let answer = run_on(alloc, words, b"it is not read")?;
+    assert_eq!(rt; answer.status, status);
+    assert!(rt; answer.text() == text.as_bytes(), "{text}");
     Ok(())
 }
 
 #[test]
 fn measures_workloads(rt: HostRuntime) -> Result<(), Fail> {
-    let cases: [(&[&str], Status, &str); 3] = [
-        (
-            &["workload", "1"],
-            Status::Done,
-            "workload 1\naxioms 11\njustifications 8\nrepairs 3\n",
-        ),
-        (
-            &["workload", "4000"],
-            Status::Done,
-            "workload 4000\naxioms 16007\njustifications 8\nrepairs 3\n",
-        ),
-        (
-            &["workload", "2", "budget", "1"],
-            Status::Undecided,
-            "undecided\n",
-        ),
-    ];
-    for (words, status, text) in cases {
-        let answer = run_on(rt.alloc(), words, b"it is not read")?;
-        assert_eq!(rt; answer.status, status);
-        assert!(rt; answer.sink.taken() == text.as_bytes(), "{text}");
+    for (words, status, text) in WORKLOADS {
+        check_workload(&rt, rt.alloc(), words, *status, text)?;
     }
     Ok(())
 }
@@ -166,39 +210,66 @@ fn is_among(part: &str, whole: &str) -> bool {
     true
 }
 
+// What is answered within a budget.
+fn list_within(alloc: Global, document: &str, job: &str, budget: u32) -> Result<Answer, NoMemory> {
+    let number = format!(in alloc; "{budget}")?;
+    let words = [job, "SubClassOf(:A :C)", "budget", number.as_str()];
+    run_on(alloc, &words, document.as_bytes())
+}
+
+// Whether the run is done, or ends with the verdict that its budget was spent.
+fn is_told(answer: &Answer, budget: u32) -> bool {
+    answer.status == Status::Done
+        || (answer.text().ends_with(b"undecided\n") && answer.spent == u64::from(budget))
+}
+
+// What an answer is as text, with whether it is done; nothing where it is no text, or says wrongly how the run ended.
+fn told_within(
+    alloc: Global,
+    document: &str,
+    job: &str,
+    budget: u32,
+) -> Result<Option<(String, bool)>, NoMemory> {
+    let answer = list_within(alloc, document, job, budget)?;
+    match str::from_utf8(answer.text()) {
+        Ok(text) if is_told(&answer, budget) => {
+            let text = String::from_str(alloc, text)?;
+            Ok(Some((text, answer.status == Status::Done)))
+        }
+        _ => Ok(None),
+    }
+}
+
 // Runs the job with budgets from 1 on up to the first that finishes: each smaller one is spent whole, and its list is part of the
 // next one's.
-fn grows(alloc: Global, document: &str, job: &str) -> Result<bool, Fail> {
+fn grows(alloc: Global, document: &str, job: &str) -> Result<bool, NoMemory> {
     let mut before = String::new(alloc);
     for budget in 1..500_u32 {
-        let number = format!(in alloc; "{budget}")?;
-        let words = [job, "SubClassOf(:A :C)", "budget", number.as_str()];
-        let answer = run_on(alloc, &words, document.as_bytes())?;
-        let Ok(text) = str::from_utf8(answer.sink.taken()) else {
+        let Some((text, done)) = told_within(alloc, document, job, budget)? else {
             return Ok(false);
         };
-        if !is_among(before.as_str(), text) {
+        if !is_among(before.as_str(), text.as_str()) {
             return Ok(false);
         }
-        if answer.status == Status::Done {
+        if done {
             return Ok(true);
         }
-        if !text.ends_with("undecided\n") || answer.spent != u64::from(budget) {
-            return Ok(false);
-        }
-        before = String::from_str(alloc, text)?;
+        before = text;
     }
     Ok(false)
+}
+
+fn check_growth(rt: &impl Abort, alloc: Global, document: &str) -> Result<(), NoMemory> {
+    assert!(rt; grows(alloc, document, "explain")?);
+    assert!(rt; grows(alloc, document, "repair")?);
+    let answer = list_within(alloc, document, "explain", 1)?;
+    assert!(rt; answer.text() == b"partial justifications 0\nundecided\n".as_slice());
+    Ok(())
 }
 
 #[test]
 fn lists_grow_with_the_budget(rt: HostRuntime) -> Result<(), Fail> {
     let document = document(rt.alloc(), PATHS)?;
-    for job in ["explain", "repair"] {
-        assert!(rt; grows(rt.alloc(), &document, job)?, "{job}");
-    }
-    let words = ["explain", "SubClassOf(:A :C)", "budget", "1"];
-    let answer = run_on(rt.alloc(), &words, document.as_bytes())?;
-    assert!(rt; answer.sink.taken() == b"partial justifications 0\nundecided\n".as_slice());
+    check_growth(&rt, rt.alloc(), document.as_str())?;
     Ok(())
 }

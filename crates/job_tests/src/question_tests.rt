@@ -1,12 +1,15 @@
 // Questions whose answers were worked out by hand.
 
-use crate::runs::{checked, document, run_on};
-use ontology_jobs::Status;
+use job_runs::{Answer, NoMemory, Status, checked, document, run_on};
 use std::alloc::Global;
+use std::process::Abort;
 use std::test::Fail;
 
-// Axioms, a question, and whether its query follows: classes.
-const CLASSES: [(&str, [&str; 2], bool); 21] = [
+// Axioms, a question, and whether its query follows.
+type Question = (&'static str, [&'static str; 2], bool);
+
+// Classes.
+const CLASSES: &[Question] = &[
     (
         "SubClassOf(:A :B)\nSubClassOf(:B :C)",
         ["entails", "SubClassOf(:A :C)"],
@@ -108,7 +111,7 @@ const CLASSES: [(&str, [&str; 2], bool); 21] = [
 ];
 
 // Role hierarchies, transitive roles, domains and ranges.
-const ROLES: [(&str, [&str; 2], bool); 19] = [
+const ROLES: &[Question] = &[
     (
         "TransitiveObjectProperty(:R)\nSubObjectPropertyOf(:S :R)\nSubClassOf(:A ObjectSomeValuesFrom(:S ObjectSomeValuesFrom(:S :B)))\nSubClassOf(:A ObjectAllValuesFrom(:R ObjectComplementOf(:B)))",
         ["sat", ":A"],
@@ -234,7 +237,7 @@ const ROLES: [(&str, [&str; 2], bool); 19] = [
 ];
 
 // Cardinality restrictions.
-const COUNTS: [(&str, [&str; 2], bool); 27] = [
+const COUNTS: &[Question] = &[
     (
         "SubClassOf(:A ObjectSomeValuesFrom(:R :B))\nSubClassOf(:A ObjectSomeValuesFrom(:R :C))\nSubClassOf(:A ObjectMaxCardinality(1 :R))\nDisjointClasses(:B :C)",
         ["sat", ":A"],
@@ -424,80 +427,88 @@ fn verdict(word: &str, follows: bool) -> &'static [u8] {
     }
 }
 
-// Whether the question has this answer, and `check` accepts what is printed.
-fn is_answered(alloc: Global, axioms: &str, words: [&str; 2], follows: bool) -> Result<bool, Fail> {
-    let document = document(alloc, axioms)?;
-    let answer = run_on(alloc, &words, document.as_bytes())?;
-    let text = answer.sink.taken();
-    let said = checked(alloc, words, document.as_str(), text)?;
+// Whether the answer says this, and `check` the like of its certificate.
+fn says(answer: &Answer, said: &Answer, job: &str, follows: bool) -> bool {
     let accepted: &[u8] = if follows {
         b"accepted entailed\n"
     } else {
         b"accepted not entailed\n"
     };
-    Ok(
-        answer.status == Status::Done
-            && text.starts_with(verdict(words[0], follows))
-            && said.taken() == accepted,
-    )
+    answer.status == Status::Done
+        && answer.text().starts_with(verdict(job, follows))
+        && said.text() == accepted
 }
 
-#[test]
-fn answers_questions_on_classes(rt: HostRuntime) -> Result<(), Fail> {
-    for (axioms, words, follows) in CLASSES {
-        assert!(rt;
-            is_answered(rt.alloc(), axioms, words, follows)?,
-            "{axioms}"
-        );
-    }
+// Whether the question has this answer, and `check` accepts what is printed.
+fn is_answered(
+    alloc: Global,
+    document: &str,
+    words: [&str; 2],
+    follows: bool,
+) -> Result<bool, NoMemory> {
+    let answer = run_on(alloc, &words, document.as_bytes())?;
+    let said = checked(alloc, words, document, answer.text())?;
+    Ok(says(&answer, &said, words[0], follows))
+}
+
+fn check_question(
+    rt: &impl Abort,
+    alloc: Global,
+    (axioms, words, follows): &Question,
+) -> Result<(), NoMemory> {
+    let document = document(alloc, axioms)?;
+    assert!(rt;
+        is_answered(alloc, document.as_str(), *words, *follows)?,
+        "{axioms}"
+    );
     Ok(())
 }
 
 #[test]
-fn answers_questions_on_roles(rt: HostRuntime) -> Result<(), Fail> {
-    for (axioms, words, follows) in ROLES {
-        assert!(rt;
-            is_answered(rt.alloc(), axioms, words, follows)?,
-            "{axioms}"
-        );
+fn answers_questions(rt: HostRuntime) -> Result<(), Fail> {
+    for questions in [CLASSES, ROLES, COUNTS] {
+        for question in questions {
+            check_question(&rt, rt.alloc(), question)?;
+        }
     }
     Ok(())
 }
 
-#[test]
-fn answers_questions_on_counts(rt: HostRuntime) -> Result<(), Fail> {
-    for (axioms, words, follows) in COUNTS {
-        assert!(rt;
-            is_answered(rt.alloc(), axioms, words, follows)?,
-            "{axioms}"
-        );
-    }
-    Ok(())
-}
-
-// B inside so many complements.
-fn inside_complements(alloc: Global, count: u32) -> Result<String, Fail> {
-    let mut text = String::from_str(alloc, "SubClassOf(:A ")?;
+fn push_times(text: &mut String, part: &str, count: u32) -> Result<(), NoMemory> {
     for _ in 0..count {
-        text.push_str("ObjectComplementOf(")?;
+        text.push_str(part)?;
     }
-    text.push_str(":B")?;
-    for _ in 0..count {
-        text.push_str(")")?;
-    }
-    text.push_str(")")?;
-    Ok(text)
+    Ok(())
+}
+
+// A document whose axiom has B inside so many complements.
+fn inside_complements(alloc: Global, count: u32) -> Result<String, NoMemory> {
+    let mut axioms = String::from_str(alloc, "SubClassOf(:A ")?;
+    push_times(&mut axioms, "ObjectComplementOf(", count)?;
+    axioms.push_str(":B")?;
+    push_times(&mut axioms, ")", count)?;
+    axioms.push_str(")")?;
+    document(alloc, axioms.as_str())
+}
+
+// What is asked of it.
+const NESTED: [&str; 2] = ["entails", "SubClassOf(:A :B)"];
+
+fn is_answered_inside(alloc: Global, count: u32) -> Result<bool, NoMemory> {
+    let document = inside_complements(alloc, count)?;
+    is_answered(alloc, document.as_str(), NESTED, true)
+}
+
+fn answer_inside(alloc: Global, count: u32) -> Result<Answer, NoMemory> {
+    let document = inside_complements(alloc, count)?;
+    run_on(alloc, &NESTED, document.as_bytes())
 }
 
 #[test]
 fn answers_on_nested_complements(rt: HostRuntime) -> Result<(), Fail> {
-    let axioms = inside_complements(rt.alloc(), 62)?;
-    let words = ["entails", "SubClassOf(:A :B)"];
-    assert!(rt; is_answered(rt.alloc(), &axioms, words, true)?);
-    let deeper = inside_complements(rt.alloc(), 63)?;
-    let document = document(rt.alloc(), &deeper)?;
-    let answer = run_on(rt.alloc(), &words, document.as_bytes())?;
+    assert!(rt; is_answered_inside(rt.alloc(), 62)?);
+    let answer = answer_inside(rt.alloc(), 63)?;
     assert_eq!(rt; answer.status, Status::Limit);
-    assert!(rt; answer.sink.taken() == b"limit nesting line 3\n".as_slice());
+    assert!(rt; answer.text() == b"limit nesting line 3\n".as_slice());
     Ok(())
 }

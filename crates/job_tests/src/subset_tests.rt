@@ -1,12 +1,12 @@
 // Lists compared with what all subsets of the axioms say, each asked by itself.
 
-use crate::runs::{document, run_on};
-use ontology_jobs::Status;
+use job_runs::{Answer, NoMemory, document, run_on};
 use std::alloc::Global;
+use std::process::Abort;
 use std::test::Fail;
 
 // Axioms, one on each line, and a query.
-const ONTOLOGIES: [(&[&str], &str); 20] = [
+const ONTOLOGIES: &[(&[&str], &str)] = &[
     (
         &[
             "SubClassOf(:A :B)",
@@ -191,8 +191,8 @@ fn without(subset: usize, place: usize) -> usize {
     subset & !(1_usize << (place % 16))
 }
 
-// Whether the query follows from the axioms of the subset.
-fn follows(alloc: Global, axioms: &[&str], query: &str, subset: usize) -> Result<bool, Fail> {
+// The document of the axioms of a subset.
+fn document_of(alloc: Global, axioms: &[&str], subset: usize) -> Result<String, NoMemory> {
     let mut lines = String::new(alloc);
     for (place, axiom) in axioms.iter().enumerate() {
         if is_in(subset, place) {
@@ -200,9 +200,20 @@ fn follows(alloc: Global, axioms: &[&str], query: &str, subset: usize) -> Result
             lines.push_str("\n")?;
         }
     }
-    let document = document(alloc, &lines)?;
+    document(alloc, lines.as_str())
+}
+
+// Whether the query follows from the axioms of the subset.
+fn follows(alloc: Global, axioms: &[&str], query: &str, subset: usize) -> Result<bool, NoMemory> {
+    let document = document_of(alloc, axioms, subset)?;
     let answer = run_on(alloc, &["entails", query], document.as_bytes())?;
-    Ok(answer.sink.taken().starts_with(b"entailed\n"))
+    Ok(answer.verdict() == b"entailed".as_slice())
+}
+
+// All axioms.
+fn whole(axioms: &[&str]) -> usize {
+    let count = 1_usize << (axioms.len() % 16);
+    count.saturating_sub(1)
 }
 
 // Whether the subset is wanted: the query follows from it, or does not follow without it.
@@ -212,7 +223,7 @@ fn is_asked_for(
     words: [&str; 2],
     subset: usize,
     all: usize,
-) -> Result<bool, Fail> {
+) -> Result<bool, NoMemory> {
     if words[0] == "explain" {
         follows(alloc, axioms, words[1], subset)
     } else {
@@ -222,11 +233,10 @@ fn is_asked_for(
 }
 
 // Of each subset of the axioms, whether it is wanted.
-fn wanted_subsets(alloc: Global, axioms: &[&str], words: [&str; 2]) -> Result<Vec<bool>, Fail> {
-    let count = 1_usize << (axioms.len() % 16);
-    let all = count.saturating_sub(1);
+fn wanted_subsets(alloc: Global, axioms: &[&str], words: [&str; 2]) -> Result<Vec<bool>, NoMemory> {
+    let all = whole(axioms);
     let mut wanted = Vec::new(alloc);
-    for subset in 0..count {
+    for subset in 0..all.saturating_add(1) {
         wanted.push(is_asked_for(alloc, axioms, words, subset, all)?)?;
     }
     Ok(wanted)
@@ -248,7 +258,7 @@ fn is_smallest(wanted: &[bool], subset: usize) -> bool {
 }
 
 // The numbers of the subset's axioms, as they are printed.
-fn line_of(alloc: Global, subset: usize) -> Result<String, Fail> {
+fn line_of(alloc: Global, subset: usize) -> Result<String, NoMemory> {
     let mut line = String::new(alloc);
     for place in 0..16_usize {
         if is_in(subset, place) {
@@ -264,21 +274,27 @@ fn line_of(alloc: Global, subset: usize) -> Result<String, Fail> {
     Ok(line)
 }
 
-// The list that the job should print, by all subsets. There are fewer than ten axioms, so lines and sets have one order.
-fn list_by_subsets(alloc: Global, axioms: &[&str], words: [&str; 2]) -> Result<String, Fail> {
-    let wanted = wanted_subsets(alloc, axioms, words)?;
+// The lines of the smallest subsets that are wanted. There are fewer than ten axioms, so lines and sets have one order.
+fn lines_of(alloc: Global, wanted: &[bool]) -> Result<Vec<String>, NoMemory> {
     let mut lines = Vec::new(alloc);
     for subset in 0..wanted.len() {
-        if is_smallest(&wanted, subset) {
+        if is_smallest(wanted, subset) {
             lines.push(line_of(alloc, subset)?)?;
         }
     }
     lines.sort_unstable();
+    Ok(lines)
+}
+
+// The list that the job should print, by all subsets.
+fn list_by_subsets(alloc: Global, axioms: &[&str], words: [&str; 2]) -> Result<String, NoMemory> {
+    let wanted = wanted_subsets(alloc, axioms, words)?;
+    let lines = lines_of(alloc, &wanted)?;
     list_text(alloc, words[0], &lines)
 }
 
 // The heading of the list, and its lines.
-fn list_text(alloc: Global, job: &str, lines: &[String]) -> Result<String, Fail> {
+fn list_text(alloc: Global, job: &str, lines: &[String]) -> Result<String, NoMemory> {
     let heading = if job == "explain" {
         "justifications"
     } else {
@@ -293,25 +309,29 @@ fn list_text(alloc: Global, job: &str, lines: &[String]) -> Result<String, Fail>
     Ok(text)
 }
 
-// What the job prints.
-fn printed(alloc: Global, axioms: &[&str], words: [&str; 2]) -> Result<Vec<u8>, Fail> {
-    let mut lines = String::new(alloc);
-    for axiom in axioms {
-        lines.push_str(axiom)?;
-        lines.push_str("\n")?;
-    }
-    let document = document(alloc, &lines)?;
-    let answer = run_on(alloc, &words, document.as_bytes())?;
-    Ok(Vec::from_slice(alloc, answer.sink.taken())?)
+// What the job answers on all axioms.
+fn answer_to(alloc: Global, axioms: &[&str], words: [&str; 2]) -> Result<Answer, NoMemory> {
+    let document = document_of(alloc, axioms, whole(axioms))?;
+    run_on(alloc, &words, document.as_bytes())
+}
+
+fn check_list(
+    rt: &impl Abort,
+    alloc: Global,
+    axioms: &[&str],
+    words: [&str; 2],
+) -> Result<(), NoMemory> {
+    let list = list_by_subsets(alloc, axioms, words)?;
+    let answer = answer_to(alloc, axioms, words)?;
+    assert!(rt; answer.text().starts_with(list.as_bytes()), "{list}");
+    Ok(())
 }
 
 #[test]
 fn agrees_with_all_subsets(rt: HostRuntime) -> Result<(), Fail> {
     for (axioms, query) in ONTOLOGIES {
         for job in ["explain", "repair"] {
-            let list = list_by_subsets(rt.alloc(), axioms, [job, query])?;
-            let text = printed(rt.alloc(), axioms, [job, query])?;
-            assert!(rt; text.starts_with(list.as_bytes()), "{list}");
+            check_list(&rt, rt.alloc(), axioms, [job, query])?;
         }
     }
     Ok(())
