@@ -1,4 +1,4 @@
--- No two names of a workload are the same, and each is at the place of its number.
+-- No two names of a workload are the same, and each stands at the place of its number.
 use Rattle.std.proofs.Common.{◌≡◌, ℕ, zero, suc, ◌+◌, ◌*◌, ◌<◌, ◌≤◌, Bool, true, false, not, cond, ◌&&◌, List, [], ◌∷◌, ◌++◌, length, position, Some, None, refl, ap, sym, ◌∙◌, subst, arith, append_assoc, append-nil, length-append, inl, inr, codes, decimal, nat_lt, nat_eq}
 use Rattle.std.proofs.lemmas.Bool.{cases_lt, and_parts, and_from}
 use Rattle.std.proofs.lemmas.Bool.Decides.{nat_tests}
@@ -201,12 +201,6 @@ pub record GroupPlaces (m : ℕ) (names : List (List ℕ)) : Type 0 where
   pub d : position (bytes_eq (numbered_class (codes "D") m)) names ≡ Some (class_d m)
 
 module _ (k : ℕ) (few : k + 1 ≤ 4000) (later : List (List ℕ)) where
-  abbrev m : ℕ
-  m = k + 1
-
-  abbrev names : List (List ℕ)
-  names = workload_classes (suc k) ++ later
-
   -- the names with some of the group in front
   cut_at : (first others : List (List ℕ)) → first ++ others ≡ group_classes (k + 1) ++ later → workload_classes (suc k) ++ later ≡ (workload_classes k ++ first) ++ others
   cut_at first others same =
