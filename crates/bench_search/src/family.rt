@@ -66,8 +66,8 @@ impl Family {
             Family::Ring => put_ring(list, size),
             Family::TransitiveRing => put_transitive_ring(list, size),
             Family::Tree => put_tree(list, size),
-            Family::Definitions => put_definitions(list, size, 1),
-            Family::MixedDefinitions => put_definitions(list, size, 0),
+            Family::Definitions => put_definitions(list, size, false),
+            Family::MixedDefinitions => put_definitions(list, size, true),
             Family::PigeonNames => put_pigeon_names(list, size),
             Family::PigeonNodes => put_pigeon_nodes(list, size),
             Family::Unions => put_unions(list, size, 0),
@@ -112,16 +112,16 @@ fn put_tree(list: &mut Vec<Statement>, size: u32) -> Result<(), NoMemory> {
     Ok(())
 }
 
-/// Of a tree in which the class 0 is the last, and each but the first is defined. Successors are in the class of half the
-/// number, or in as many further classes.
-fn put_definitions(list: &mut Vec<Statement>, size: u32, own: u32) -> Result<(), NoMemory> {
+/// Definitions of the classes of a tree but the first, of which the class 0 is the last. A successor is in a class of its own,
+/// or in that of half the number where the definitions are mixed.
+fn put_definitions(list: &mut Vec<Statement>, size: u32, is_mixed: bool) -> Result<(), NoMemory> {
     for number in 1..size {
         let class = size - 1 - number;
         let above = size - 1 - (number - 1) / 2;
-        let filler = if own == 1 {
-            size.wrapping_add(number)
-        } else {
+        let filler = if is_mixed {
             size - 1 - number / 2
+        } else {
+            size.wrapping_add(number)
         };
         put_definition(list, Term::Class(class), Term::Both(above, filler))?;
     }
