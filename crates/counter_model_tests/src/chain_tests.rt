@@ -1,10 +1,10 @@
 // Transitive roles.
 
-use crate::runs::is_refuted;
+use crate::models::is_refuted;
 use std::test::Fail;
 
 // Axioms, a question, and how many elements its model has.
-const CHAINS: [(&str, [&str; 2], u32); 8] = [
+const CHAINS: &[(&str, [&str; 2], u32)] = &[
     // A chain leads through a blocked node.
     (
         "TransitiveObjectProperty(:R)\nSubClassOf(:A ObjectSomeValuesFrom(:R :B))\nSubClassOf(:B ObjectSomeValuesFrom(:R :A))",
@@ -56,7 +56,7 @@ const CHAINS: [(&str, [&str; 2], u32); 8] = [
 fn chains_are_refuted(rt: HostRuntime) -> Result<(), Fail> {
     for (axioms, words, elements) in CHAINS {
         assert!(rt;
-            is_refuted(rt.alloc(), axioms, words, elements)?,
+            is_refuted(rt.alloc(), axioms, *words, *elements)?,
             "{axioms}"
         );
     }

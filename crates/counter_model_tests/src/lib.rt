@@ -5,10 +5,10 @@
 #[cfg(test)]
 mod chain_tests;
 #[cfg(test)]
+mod models;
+#[cfg(test)]
 mod ring_tests;
 #[cfg(test)]
 mod row_tests;
-#[cfg(test)]
-mod runs;
 #[cfg(test)]
 mod tree_tests;

@@ -1,11 +1,12 @@
 // Rings of existential restrictions.
 
-use crate::runs::is_refuted;
+use crate::models::is_refuted;
+use job_runs::NoMemory;
 use std::alloc::Global;
 use std::test::Fail;
 
 // Each of so many classes asks for a successor in the next, and the last for one in the first.
-fn ring(alloc: Global, length: u32) -> Result<String, Fail> {
+fn ring(alloc: Global, length: u32) -> Result<String, NoMemory> {
     let mut axioms = String::new(alloc);
     for class in 0..length {
         let next = if class + 1 == length { 0 } else { class + 1 };

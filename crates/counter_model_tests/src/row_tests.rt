@@ -1,11 +1,12 @@
 // Axioms of which an element uses few.
 
-use crate::runs::{is_refuted, steps_of};
+use crate::models::{is_refuted, steps_of};
+use job_runs::NoMemory;
 use std::alloc::Global;
 use std::test::Fail;
 
 // So many classes, each part of one that nothing else is part of.
-fn inclusions(alloc: Global, count: u32) -> Result<String, Fail> {
+fn inclusions(alloc: Global, count: u32) -> Result<String, NoMemory> {
     let mut axioms = String::new(alloc);
     for class in 0..count {
         let axiom = format!(in alloc; "SubClassOf(:A{class} :B{class})\n")?;

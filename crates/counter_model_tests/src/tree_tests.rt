@@ -1,10 +1,10 @@
 // Nodes that other nodes block, joined nodes, unions and complements.
 
-use crate::runs::is_refuted;
+use crate::models::is_refuted;
 use std::test::Fail;
 
 // Axioms, a question, and how many elements its model has.
-const TREES: [(&str, [&str; 2], u32); 10] = [
+const TREES: &[(&str, [&str; 2], u32)] = &[
     // A node that its grandparent blocks: the third, by the first.
     (
         "SubClassOf(:A ObjectSomeValuesFrom(:R :B))\nSubClassOf(:B ObjectSomeValuesFrom(:R :A))",
@@ -72,7 +72,7 @@ const TREES: [(&str, [&str; 2], u32); 10] = [
 fn trees_are_refuted(rt: HostRuntime) -> Result<(), Fail> {
     for (axioms, words, elements) in TREES {
         assert!(rt;
-            is_refuted(rt.alloc(), axioms, words, elements)?,
+            is_refuted(rt.alloc(), axioms, *words, *elements)?,
             "{axioms}"
         );
     }
