@@ -1,22 +1,22 @@
 -- What lists with the same numbers have in common, and the prints of labels.
-use Rattle.std.proofs.Common.{◌≡◌, ℕ, ◌+◌, ◌/◌, ◌%◌, ◌<◌, zero, suc, get_or, take, length, ◌||◌, Bool, true, false, eqb, List, [], ◌∷◌, ◌++◌, refl, ap, sym, ◌∙◌, inl, inr, eq-eqb}
+use Rattle.std.proofs.Common.{◌≡◌, ℕ, ◌+◌, ◌-◌, ◌/◌, ◌%◌, ◌^◌, ◌<◌, zero, suc, get_or, take, length, ◌||◌, Bool, true, false, eqb, List, [], ◌∷◌, ◌++◌, refl, ap, sym, ◌∙◌, inl, inr, eq-eqb, arith}
 use Rattle.std.specs.List.{list_any, list_all}
 use Rattle.std.specs.FinSet as set
 use Rattle.std.proofs.lemmas.Bool.{or_cases, and_parts, eqb-true, or_right}
 use Rattle.lane_sieve.specs.Sets.{NumberSet, number_set}
 use Rattle.std.specs.Int.{bit_at}
 use Rattle.std.proofs.lemmas.List.{take_more}
-use Rattle.std.proofs.lemmas.Nat.Bits.{bit_at-zero}
+use Rattle.std.proofs.lemmas.Nat.Bits.{bit_at-zero, bit_at_ones}
 use Rattle.lane_sieve.proofs.Bits.{has_bit-is, contains-number_set, contains_insert}
 use Rattle.fact_specs.proofs.Joined.{any-snoc}
 use Rattle.std.proofs.Math.Bool.{or_comm}
 use Rattle.shq_base.proofs.Bools.{same_truth}
 use Rattle.fact_specs.proofs.State.{eqb-comm}
 use Rattle.fact_specs.specs.declared.Fact.{Fact}
-use Rattle.fact_specs.specs.State.{has, label}
+use Rattle.fact_specs.specs.State.{label}
 use Rattle.fact_specs.specs.Listed.{IsLabel}
 use Rattle.fact_specs.proofs.State.{any-label}
-use Rattle.blocking.specs.Followed.{IsPrintOf}
+use Rattle.blocking.specs.Followed.{IsPrintOf, IsPrintWithin, ShowsAll}
 
 abbrev pub is_in : ℕ → List ℕ → Bool
 is_in c cs = list_any (λ d. eqb d c) cs
@@ -60,6 +60,14 @@ module _ (cs ds : List ℕ) (same : (c : ℕ) → is_in c cs ≡ is_in c ds) whe
       (λ h. let one = any_some q cs h in any_at q one.0 ds (sym (same one.0) ∙ one.1) one.2)
       (λ h. let one = any_some q ds h in any_at q one.0 cs (same one.0 ∙ one.1) one.2)
 
+any_front : (q : ℕ → Bool) (n : ℕ) (cs : List ℕ) → list_any q (take n cs) ≡ true → list_any q cs ≡ true
+any_front q zero cs h = cc
+any_front q (suc n) [] h = h
+any_front q (suc n) (d ∷ cs) h = elim (or_cases (q d) (list_any q (take n cs)) h) [
+  | inl here ↦ ap (λ (b : Bool). b || list_any q cs) here
+  | inr later ↦ or_right (q d) (list_any q cs) (any_front q n cs later)
+]
+
 -- ---- labels
 
 module _ (fs : List (Fact ℕ)) (x : ℕ) (cs : List ℕ) (is : IsLabel fs x cs) where
@@ -69,18 +77,21 @@ module _ (fs : List (Fact ℕ)) (x : ℕ) (cs : List ℕ) (is : IsLabel fs x cs)
   pub all_of_label : (p : ℕ → Bool) → list_all p cs ≡ list_all p (label fs x)
   all_of_label p = same_all cs (label fs x) same_label p
 
-  pub print_of_label : (print : List ℕ) → IsPrintOf cs print → IsPrintOf (label fs x) print
-  print_of_label print shows k = shows k ∙ same_any cs (label fs x) same_label (λ c. eqb (c % 256) k)
+  -- the print of the first of them shows nothing else
+  pub front_within : (n : ℕ) (print : List ℕ) → IsPrintOf (take n cs) print → IsPrintWithin (label fs x) print
+  front_within n print shows k h =
+      let q : ℕ → Bool = λ c. eqb (c % 256) k in
+      sym (same_any cs (label fs x) same_label q) ∙ any_front q n cs (sym (shows k) ∙ h)
 
--- what a node has is shown by its print
-pub shown : (fs : List (Fact ℕ)) (x : ℕ) (print : List ℕ) → IsPrintOf (label fs x) print → (c : ℕ) → has fs x c ≡ true → set.contains (number_set print) (c % 256) ≡ true
-shown fs x print shows c h = shows (c % 256) ∙ any_at (λ d. eqb (d % 256) (c % 256)) c (label fs x) (any-label fs x c ∙ h) (eq-eqb (c % 256) (c % 256) refl)
+  -- what a node has is shown by the print of all of them
+  pub shown : (print : List ℕ) → IsPrintOf cs print → ShowsAll fs x print
+  shown print shows c h = shows (c % 256) ∙ any_at (λ d. eqb (d % 256) (c % 256)) c cs (is c ∙ h) (eq-eqb (c % 256) (c % 256) refl)
 
 -- where a list's concepts are all shown by another print, their own print is part of it
-pub all_shown : (p : ℕ → Bool) (cs print other : List ℕ) → IsPrintOf cs print → list_all p cs ≡ true → ((c : ℕ) → p c ≡ true → set.contains (number_set other) (c % 256) ≡ true)
+pub all_shown : (p : ℕ → Bool) (cs print other : List ℕ) → IsPrintWithin cs print → list_all p cs ≡ true → ((c : ℕ) → p c ≡ true → set.contains (number_set other) (c % 256) ≡ true)
     → (k : ℕ) → set.contains (number_set print) k ≡ true → set.contains (number_set other) k ≡ true
 all_shown p cs print other shows all each k h =
-    let one = any_some (λ c. eqb (c % 256) k) cs (sym (shows k) ∙ h) in
+    let one = any_some (λ c. eqb (c % 256) k) cs (shows k h) in
     ap (set.contains (number_set other)) (sym (eqb-true (one.0 % 256) k one.2)) ∙ each one.0 (all_at p one.0 cs all one.1)
 
 -- ---- how a print is made
@@ -98,6 +109,22 @@ zero_at (suc (suc (suc (suc i)))) = refl
 pub none_shown : (k : ℕ) → set.contains (number_set empty_print) k ≡ false
 none_shown k =
     contains-number_set empty_print k ∙ has_bit-is empty_print k ∙ ap (λ (w : ℕ). eqb (bit_at w (k % 64)) 1) (zero_at (k / 64)) ∙ ap (λ (b : ℕ). eqb b 1) (bit_at-zero (k % 64))
+
+-- a print that shows everything
+abbrev pub full_print : List ℕ
+full_print = (2 ^ 64 - 1) ∷ (2 ^ 64 - 1) ∷ (2 ^ 64 - 1) ∷ (2 ^ 64 - 1) ∷ []
+
+full_at : (i : ℕ) → i < 4 → get_or full_print i 0 ≡ 2 ^ 64 - 1
+full_at zero h = refl
+full_at (suc zero) h = refl
+full_at (suc (suc zero)) h = refl
+full_at (suc (suc (suc zero))) h = refl
+full_at (suc (suc (suc (suc i)))) h = absurd (omega arith)
+
+pub each_shown : (k : ℕ) → k < 256 → set.contains (number_set full_print) k ≡ true
+each_shown k h =
+    contains-number_set full_print k ∙ has_bit-is full_print k ∙ ap (λ (w : ℕ). eqb (bit_at w (k % 64)) 1) (full_at (k / 64) (omega arith))
+    ∙ ap (λ (b : ℕ). eqb b 1) (bit_at_ones 64 (k % 64) (omega arith))
 
 pub one_shown : (before now cs : List ℕ) (i c : ℕ) → i < length cs → get_or cs i 0 ≡ c → number_set now ≡ set.insert (number_set before) (c % 256) → IsPrintOf (take i cs) before
     → IsPrintOf (take (i + 1) cs) now

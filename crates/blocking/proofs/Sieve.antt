@@ -9,7 +9,7 @@ use Rattle.fact_specs.specs.State.{parent, has, label, is_label_part}
 use Rattle.tableau_specs.specs.declared.Block.{Block}
 use Rattle.tableau_specs.specs.declared.Block.TheVariants.{Clear, By, Under}
 use Rattle.tableau_specs.specs.Blocked.{is_clear, is_parent_clear, may_block, blocked_from, blocks_to, block_of}
-use Rattle.blocking.specs.Followed.{Printed, IsPrintOf, IsFollowed, blocked_among}
+use Rattle.blocking.specs.Followed.{Printed, IsPrintWithin, IsFollowed, blocked_among}
 use Rattle.blocking.proofs.Labels.{all_shown}
 use Rattle.blocking.proofs.Blocks.{get-blocks_to}
 
@@ -39,7 +39,7 @@ clear_is Clear h = refl
 clear_is (By z) h = cc
 clear_is Under h = cc
 
-module _ (fs : List (Fact ℕ)) (x : ℕ) (p : Printed) (followed : IsFollowed fs x p) (print : List ℕ) (shows : IsPrintOf (label fs x) print) (four : length print ≡ 4)
+module _ (fs : List (Fact ℕ)) (x : ℕ) (p : Printed) (followed : IsFollowed fs x p) (print : List ℕ) (shows : IsPrintWithin (label fs x) print) (four : length print ≡ 4)
     (fits : (i : ℕ) → get_or print i 0 < 2 ^ 64) where
   kept : (z : ℕ) → z < x → may_block fs p.blocks x z ≡ true → is_subset print (get_or p.prints z []) ≡ true
   kept z lt may =

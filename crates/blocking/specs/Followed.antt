@@ -35,10 +35,18 @@ printed_first n p = record { blocks = take n p.blocks; prints = take n p.prints 
 abbrev pub IsPrintOf : List ℕ → List ℕ → Type 0
 IsPrintOf concepts print = (k : ℕ) → set.contains (number_set print) k ≡ list_any (λ c. c % 256 == k) concepts
 
+-- each bit of the print is that of some concept, so that what has all of the concepts has all of the bits
+abbrev pub IsPrintWithin : List ℕ → List ℕ → Type 0
+IsPrintWithin concepts print = (k : ℕ) → set.contains (number_set print) k ≡ true → list_any (λ c. c % 256 == k) concepts ≡ true
+
+-- each concept of the node has its bit in the print, and maybe there are more
+abbrev pub ShowsAll : List (Fact ℕ) → ℕ → List ℕ → Type 0
+ShowsAll fs z print = (c : ℕ) → has fs z c ≡ true → set.contains (number_set print) (c % 256) ≡ true
+
 -- what the print of node z is good for: where z may block others, each concept of it has its bit there
 pub record IsSound (fs : List (Fact ℕ)) (z : ℕ) (print : List ℕ) : Type 0 where
   pub words : length print ≡ 4
-  pub shows : rep fs z ≡ z → block_of fs z ≡ Clear → (c : ℕ) → has fs z c ≡ true → set.contains (number_set print) (c % 256) ≡ true
+  pub shows : rep fs z ≡ z → block_of fs z ≡ Clear → ShowsAll fs z print
 
 -- the prints of the first n nodes are good
 pub record AreSound (fs : List (Fact ℕ)) (n : ℕ) (prints : List (List ℕ)) : Type 0 where

@@ -6,15 +6,18 @@ ghost use Rattle.fact_specs.specs.State.{node_count, has as has_concept, label a
 ghost use Rattle.tableau_specs.specs.declared.Block.TheVariants.{Clear, By, Under};
 ghost use Rattle.tableau_specs.specs.Blocked.{is_parent_clear, may_block, is_clear as is_clear_of, block_of};
 ghost use Rattle.completion_tree.specs.Trail.{facts_in};
-ghost use Rattle.blocking.specs.Followed.{no_prints, printed_more, printed_first, IsPrintOf, IsSound, IsFollowed, AreBlocksBelow, IsCurrent, blocked_among};
+ghost use Rattle.blocking.specs.Followed.{no_prints, printed_more, printed_first, IsPrintWithin, ShowsAll, IsSound, IsFollowed, AreBlocksBelow, IsCurrent, blocked_among};
 
 use crate::Block;
-use crate::print::print_of;
+use crate::print::{full_print, print_of};
 use completion_tree::Tree;
 use lane_sieve::{Lanes, candidates};
 use shq_base::NoMemory;
 use std::alloc::{Allocator, Global};
 use std::marker::Model;
+
+// No more concepts than these are looked through for a print.
+const MANY: usize = 512;
 
 /// The blocks of a tree's nodes, and a print of what each has.
 #[derive(Drop)]
@@ -86,9 +89,8 @@ impl Prints {
         ensures followed { OnOk result (IsFollowed (facts_in tree.now) (node + 1) self.new) }
         ensures unchanged { OnErr result (self.new ≡ self.old) }
     {
-        let print = print_at(tree, node);
-        let block = self.find(tree, node, print);
-        self.put(block, print_to_keep(tree, node, block, print))
+        let block = self.find(tree, node, print_to_ask(tree, node));
+        self.put(block, print_to_keep(tree, node, block))
     }
 
     // Puts the block and the print of one node more last.
@@ -108,11 +110,11 @@ impl Prints {
         Ok(())
     }
 
-    // The block of the node behind those that are there, which has this print.
+    // The block of the node behind those that are there, which has what this print shows.
     fn find<A: Allocator + Copy>(&mut self, tree: &Tree<A>, node: u32, print: [u64; 4]) -> Block
         requires node { node < node_count (facts_in tree.now) }
         requires followed { IsFollowed (facts_in tree.now) node self.old }
-        requires print { IsPrintOf (label_of (facts_in tree.now) node) print }
+        requires print { IsPrintWithin (label_of (facts_in tree.now) node) print }
         requires words { length print ≡ 4 }
         ensures block { result ≡ block_of (facts_in tree.now) node }
         ensures unchanged { self.new ≡ self.old }
@@ -139,32 +141,38 @@ fn sift(print: &[u64; 4], prints: &Lanes, found: &mut Vec<u32>) -> usize
     candidates(*print, prints, found.as_mut_slice())
 }
 
-// The print that is kept of the node, which has this block and this print: of what can block no other node an empty one, which
-// has no print in it.
-fn print_to_keep<A: Allocator + Copy>(
-    tree: &Tree<A>,
-    node: u32,
-    block: Block,
-    print: [u64; 4],
-) -> [u64; 4]
-    requires block { block ≡ block_of (facts_in tree.now) node }
-    requires print { IsPrintOf (label_of (facts_in tree.now) node) print }
-    requires words { length print ≡ 4 }
+// The print that is kept of the node, which has this block: of what can block no other node an empty one, which has no print
+// in it.
+fn print_to_keep<A: Allocator + Copy>(tree: &Tree<A>, node: u32, block: Block) -> [u64; 4]
+    requires { block ≡ block_of (facts_in tree.now) node }
     ensures { IsSound (facts_in tree.now) node result }
 {
     if is_clear_block(block) && tree.representative(node) == node {
-        print
+        print_of_all(tree, node)
     } else {
         [0; 4]
     }
 }
 
-// The print of what a node has.
-fn print_at<A: Allocator + Copy>(tree: &Tree<A>, node: u32) -> [u64; 4]
-    ensures shows { IsPrintOf (label_of (facts_in tree.now) node) result }
+// A print with the bit of each concept that a node has. Where there are many, nearly every bit is one of theirs.
+fn print_of_all<A: Allocator + Copy>(tree: &Tree<A>, node: u32) -> [u64; 4]
+    ensures words { length result ≡ 4 }
+    ensures shows { ShowsAll (facts_in tree.now) node result }
+{
+    let label = tree.label(node);
+    if label.len() > MANY {
+        return full_print();
+    }
+    print_of(label)
+}
+
+// The print of what a node has, where it is much, of the first part of it: what has everything has that too.
+fn print_to_ask<A: Allocator + Copy>(tree: &Tree<A>, node: u32) -> [u64; 4]
+    ensures shows { IsPrintWithin (label_of (facts_in tree.now) node) result }
     ensures words { length result ≡ 4 }
 {
-    print_of(tree.label(node))
+    let label = tree.label(node);
+    print_of(&label[..label.len().min(MANY)])
 }
 
 /// Whether the search goes on below a representative.

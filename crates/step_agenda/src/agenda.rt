@@ -17,6 +17,8 @@ pub struct Agenda {
     makings: u32,
     mosts: u32,
     unions: u32,
+    // The first entry that was passed over since its node was not clear.
+    held: u32,
 }
 
 impl Agenda {
@@ -27,6 +29,7 @@ impl Agenda {
             makings: 0,
             mosts: 0,
             unions: 0,
+            held: u32::MAX,
         }
     }
 
@@ -38,11 +41,12 @@ impl Agenda {
             makings: self.makings.min(kept),
             mosts: 0,
             unions: 0,
+            held: self.held,
         }
     }
 
     /// A step that can be made, where one is seen at the facts that were not looked at before: concepts before new nodes, and
-    /// unions last.
+    /// unions after these. New nodes where a block was lifted come last.
     ///
     /// # Errors
     ///
@@ -74,9 +78,10 @@ impl Agenda {
     ) -> Result<Option<Step>, NoMemory>
         ensures { IfOk result (λ found. IfSome found (IsStep (R.context rules.now) (S.facts state.now) (R.files rules.now))) }
     {
-        let (place, making) = first_making(heap, tree, state, rules, self.makings)?;
-        self.makings = place;
-        match making {
+        let looked = first_making(heap, tree, state, rules, self.makings)?;
+        self.makings = looked.place;
+        self.held = self.held.min(looked.held);
+        match looked.making {
             Some(new) => Ok(Some(Step::Generate(new))),
             None => self.next_choice(heap, tree, state, rules),
         }
@@ -96,23 +101,42 @@ impl Agenda {
         self.mosts = place;
         match most {
             Some(choosing) => Ok(Some(Step::Choose(choosing))),
-            None => Ok(self.next_union(tree, state, rules)),
+            None => self.next_union(heap, tree, state, rules),
         }
     }
 
     fn next_union<A: Allocator + Copy, S: State, R: Rules>(
         &mut self,
+        heap: Global,
         tree: &Tree<A>,
         state: &S,
         rules: &R,
-    ) -> Option<Step>
-        ensures { IfSome result (IsStep (R.context rules.now) (S.facts state.now) (R.files rules.now)) }
+    ) -> Result<Option<Step>, NoMemory>
+        ensures { IfOk result (λ found. IfSome found (IsStep (R.context rules.now) (S.facts state.now) (R.files rules.now))) }
     {
         let (place, union) = first_union(tree, state, rules, self.unions);
         self.unions = place;
         match union {
-            Some(choosing) => Some(Step::Choose(choosing)),
-            None => None,
+            Some(choosing) => Ok(Some(Step::Choose(choosing))),
+            None => self.next_held(heap, tree, state, rules),
+        }
+    }
+
+    // New nodes below one that was not clear when it was looked at.
+    fn next_held<A: Allocator + Copy, S: State, R: Rules>(
+        &mut self,
+        heap: Global,
+        tree: &Tree<A>,
+        state: &S,
+        rules: &R,
+    ) -> Result<Option<Step>, NoMemory>
+        ensures { IfOk result (λ found. IfSome found (IsStep (R.context rules.now) (S.facts state.now) (R.files rules.now))) }
+    {
+        let looked = first_making(heap, tree, state, rules, self.held)?;
+        self.held = looked.held.min(looked.place);
+        match looked.making {
+            Some(new) => Ok(Some(Step::Generate(new))),
+            None => Ok(None),
         }
     }
 }

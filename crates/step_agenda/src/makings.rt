@@ -8,7 +8,18 @@ use fact_specs::Fact;
 use std::alloc::{Allocator, Global};
 use step_finders::{NewNodes, Rules, State, find_making_by};
 
-/// The first entry from this one on for which nodes are to be made, and which; or the length of the trail.
+/// How far a look for new nodes has come.
+#[derive(Clone, Copy, Debug, PartialEq, Eq)]
+pub(crate) struct Looked {
+    /// The first entry for which nodes are to be made, or the length of the trail.
+    pub(crate) place: u32,
+    /// The first entry before it whose node is not clear and may become so, or the greatest number.
+    pub(crate) held: u32,
+    /// The nodes that are to be made.
+    pub(crate) making: Option<NewNodes>,
+}
+
+/// Looks for new nodes from this entry on.
 ///
 /// # Errors
 ///
@@ -19,16 +30,37 @@ pub(crate) fn first_making<A: Allocator + Copy, S: State, R: Rules>(
     state: &S,
     rules: &R,
     from: u32,
-) -> Result<(u32, Option<NewNodes>), NoMemory>
-    ensures { IfOk result (λ p. IfSome p.1 (IsMaking (R.context rules.now) (S.facts state.now))) }
+) -> Result<Looked, NoMemory>
+    ensures { IfOk result (λ looked. IfSome looked.making (IsMaking (R.context rules.now) (S.facts state.now))) }
 {
+    let mut held = u32::MAX;
     for place in from..tree.len() {
-        match making_by(heap, tree.item(place), state, rules)? {
-            Some(new) => return Ok((place, Some(new))),
-            None => {}
+        let item = tree.item(place);
+        let making = making_by(heap, item, state, rules)?;
+        if making.is_some() {
+            return Ok(Looked {
+                place,
+                held,
+                making,
+            });
+        }
+        if is_held(item, state) {
+            held = held.min(place);
         }
     }
-    Ok((tree.len(), None))
+    Ok(Looked {
+        place: tree.len(),
+        held,
+        making: None,
+    })
+}
+
+// Whether the entry is a concept of a node that is not clear.
+fn is_held<S: State>(item: Item, state: &S) -> bool {
+    match item {
+        Item::Fact(Fact::Has(node, _)) => !state.is_clear(state.representative(node)),
+        _ => false,
+    }
 }
 
 // What nodes the entry asks for.
