@@ -17,7 +17,7 @@ pub struct Agenda {
     makings: u32,
     mosts: u32,
     unions: u32,
-    // The first entry that was passed over since its node was not clear.
+    // The first entry that was ever passed over since its node was not clear.
     held: u32,
 }
 
@@ -124,7 +124,7 @@ impl Agenda {
 
     // New nodes below one that was not clear when it was looked at.
     fn next_held<A: Allocator + Copy, S: State, R: Rules>(
-        &mut self,
+        &self,
         heap: Global,
         tree: &Tree<A>,
         state: &S,
@@ -133,7 +133,6 @@ impl Agenda {
         ensures { IfOk result (λ found. IfSome found (IsStep (R.context rules.now) (S.facts state.now) (R.files rules.now))) }
     {
         let looked = first_making(heap, tree, state, rules, self.held)?;
-        self.held = looked.held.min(looked.place);
         match looked.making {
             Some(new) => Ok(Some(Step::Generate(new))),
             None => Ok(None),
