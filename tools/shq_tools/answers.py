@@ -1,0 +1,233 @@
+"""The answers of the reasoner, read from their texts."""
+from dataclasses import dataclass, field
+
+from shq_tools.prefixes import Prefixes
+from shq_tools.terms import BOTTOM, TOP, Axiom
+from shq_tools.tokens import Refused, tokens
+from shq_tools.trees import trees
+from shq_tools.walk import NoLimits, Walk
+
+LISTS = ("justifications", "repairs")
+MODEL_VERDICTS = ("not entailed", "satisfiable")
+REFUTATION_VERDICTS = ("entailed", "unsatisfiable")
+
+
+class Unread(Exception):
+    """A text that begins as an answer, and goes on as none."""
+
+
+@dataclass
+class Plain:
+    """An answer of a few words, as `undecided`."""
+
+    lines: list
+
+
+@dataclass
+class ListedAxiom:
+    """An axiom below a list: its number, its line in the file, and what it says."""
+
+    number: int
+    line: int
+    axiom: Axiom
+
+
+@dataclass
+class SetList:
+    """Justifications or repairs: sets of axioms by their numbers, and the axioms."""
+
+    kind: str
+    is_partial: bool
+    sets: list
+    axioms: dict
+
+
+@dataclass
+class Group:
+    """Classes that are equal, and the first name of each group directly above; `None` stands for `owl:Thing`."""
+
+    names: list
+    parents: list
+
+
+@dataclass
+class Taxonomy:
+    is_consistent: bool
+    nothing: list = field(default_factory=list)
+    thing: list = field(default_factory=list)
+    groups: list = field(default_factory=list)
+
+
+@dataclass
+class Model:
+    """A finite world: its verdict, how many things there are, the members of each class and the pairs of each role."""
+
+    verdict: str
+    size: int
+    classes: dict
+    roles: dict
+
+
+@dataclass
+class RuleLine:
+    """A line of a refutation: its number in the certificate, its rule and its other words."""
+
+    number: int
+    rule: str
+    words: list
+
+
+@dataclass
+class Refutation:
+    verdict: str
+    axioms: list
+    concepts: dict
+    lines: list
+
+
+def iri_of(word):
+    if not (word.startswith("<") and word.endswith(">")):
+        raise Unread(f"{word} is no IRI")
+    return word[1:-1]
+
+
+def number_of(word):
+    if not word.isascii() or not word.isdigit():
+        raise Unread(f"{word} is no number")
+    return int(word)
+
+
+def axiom_of(text, line, number):
+    """The axiom of a canonical text."""
+    try:
+        found, _, _ = tokens(text.encode("utf-8"))
+        (item,) = trees(found, 1)
+        axiom = Walk(Prefixes(), NoLimits()).axiom(item)
+    except (Refused, ValueError) as fault:
+        raise Unread(f"axiom {number}: {fault}") from fault
+    if axiom is None:
+        raise Unread(f"axiom {number} has no number")
+    return Axiom(axiom.keyword, axiom.items, line, number)
+
+
+def listed_axiom(line):
+    words = line.split(" ", 4)
+    if len(words) != 5 or words[0] != "axiom" or words[2] != "line":
+        raise Unread(f"no line of an axiom: {line}")
+    number, place = number_of(words[1]), number_of(words[3])
+    return ListedAxiom(number, place, axiom_of(words[4], place, number))
+
+
+def set_list(lines):
+    """A list of justifications or repairs."""
+    words = lines[0].split(" ")
+    is_partial = words[0] == "partial"
+    kind, count = words[-2], number_of(words[-1])
+    sets = [[] if line == "empty" else list(map(number_of, line.split(" "))) for line in lines[1 : 1 + count]]
+    rest = [line for line in lines[1 + count :] if line != "undecided"]
+    axioms = {it.number: it for it in map(listed_axiom, rest)}
+    if len(sets) != count or any(number not in axioms for one in sets for number in one):
+        raise Unread("the list is not whole")
+    return SetList(kind, is_partial, sets, axioms)
+
+
+def group(line):
+    words = line.split(" ")
+    if words[0] != "class" or "under" not in words:
+        raise Unread(f"no line of a class: {line}")
+    at = words.index("under")
+    parents = [None if word == "owl:Thing" else iri_of(word) for word in words[at + 1 :]]
+    return Group([iri_of(word) for word in words[1:at]], parents)
+
+
+def named(line, head):
+    words = line.split(" ")
+    if words[0] != head:
+        raise Unread(f"no line that begins with {head}: {line}")
+    return [iri_of(word) for word in words[1:]]
+
+
+def taxonomy(lines):
+    if lines[0] == "inconsistent":
+        return Taxonomy(False)
+    if len(lines) < 3:
+        raise Unread("the taxonomy is not whole")
+    return Taxonomy(True, named(lines[1], "nothing"), named(lines[2], "thing"), [group(it) for it in lines[3:]])
+
+
+def model(lines):
+    if lines[-1] != "end":
+        raise Unread("the model is not whole")
+    size = number_of(lines[1].removeprefix("model "))
+    classes, roles = {}, {}
+    for line in lines[2:-1]:
+        head, name, *members = line.split(" ")
+        if head == "class":
+            classes[iri_of(name)] = list(map(number_of, members))
+        elif head == "role":
+            roles[iri_of(name)] = [tuple(map(number_of, it.split(","))) for it in members]
+        else:
+            raise Unread(f"no line of a model: {line}")
+    return Model(lines[0], size, classes, roles)
+
+
+def concept(words, concepts):
+    """The class expression of a concept line, behind its number."""
+    kind, *rest = words
+    if kind in ("top", "bottom"):
+        return TOP if kind == "top" else BOTTOM
+    if kind == "name":
+        return ("name", iri_of(rest[0]))
+    if kind == "not":
+        return ("not", ("name", iri_of(rest[0])))
+    if kind in ("and", "or"):
+        return (kind, tuple(concepts[number_of(it)] for it in rest))
+    if kind in ("some", "all"):
+        return (kind, iri_of(rest[0]), concepts[number_of(rest[1])])
+    if kind in ("least", "most"):
+        return (kind, number_of(rest[0]), iri_of(rest[1]), concepts[number_of(rest[2])])
+    raise Unread(f"no concept: {' '.join(words)}")
+
+
+def refutation(lines):
+    if lines[-1] != "end" or len(lines) < 4:
+        raise Unread("the refutation is not whole")
+    axioms = list(map(number_of, lines[2].split(" ")[1:]))
+    concepts, rules = {}, []
+    for number, line in enumerate(lines[3:-1], 4):
+        words = line.split(" ")
+        if words[0] == "concept":
+            concepts[number_of(words[1])] = concept(words[2:], concepts)
+        else:
+            rules.append(RuleLine(number, words[0], words[1:]))
+    return Refutation(lines[0], axioms, concepts, rules)
+
+
+def is_list(line):
+    words = line.split(" ")
+    return len(words) == 2 and words[0] in LISTS or len(words) == 3 and words[0] == "partial" and words[1] in LISTS
+
+
+def reader_for(lines):
+    """The call that reads an answer with these lines."""
+    second = lines[1] if len(lines) > 1 else ""
+    if lines[0] in ("consistent", "inconsistent"):
+        return taxonomy
+    if is_list(lines[0]):
+        return set_list
+    if lines[0] in MODEL_VERDICTS and second.startswith("model "):
+        return model
+    if lines[0] in REFUTATION_VERDICTS and second == "refutation":
+        return refutation
+    return Plain
+
+
+def answer(text):
+    """The answer of a text. Raises `Unread` where it is not whole, or damaged."""
+    lines = text.rstrip("\n").split("\n") if text.strip() else []
+    if not lines:
+        raise Unread("there is no answer")
+    try:
+        return reader_for(lines)(lines)
+    except (IndexError, KeyError, ValueError) as fault:
+        raise Unread("the answer is damaged") from fault

@@ -1,0 +1,166 @@
+"""Proves and builds the program, several crates at a time, and says on standard error how far it is.
+
+The libraries that the program stands on, and no others, are proved by the toolchain's own `rt all check` in the
+folder of the program. It keeps each library that it proved, so `rt run` proves none of them again.
+"""
+import os
+import re
+import shutil
+import subprocess
+import sys
+import tempfile
+import time
+
+from shq_tools import kit_command
+from shq_tools.places import CRATE_LIST, CRATES, PROGRAM, PROGRAM_CRATE
+
+# How long a build takes where nothing is kept: the one place that says so.
+TIME_FROM_NOTHING = "about half an hour on four processors"
+# What one check may take of the memory, in bytes.
+MEMORY_OF_A_CHECK = 4_000_000_000
+NOT_BUILT = 127
+LAST_LINES = 20
+
+
+def say(text):
+    print(f"shq: {text}", file=sys.stderr, flush=True)
+
+
+def crate_lines(text):
+    """The crates of a list like crates.txt, each with what it stands on, libraries of the toolchain too."""
+    crates = {}
+    for line in text.splitlines():
+        head, _, libraries = line.partition("#")[0].partition(":")
+        if head.strip():
+            crates[head.split()[0]] = libraries.replace(",", " ").split()
+    return crates
+
+
+def crates_below(crates, name):
+    """The crates of the list that a crate stands on."""
+    found, left = set(), [name]
+    while left:
+        new = {below for below in crates[left.pop()] if below in crates} - found
+        found |= new
+        left += new
+    return found
+
+
+def processors():
+    return len(os.sched_getaffinity(0))
+
+
+def number_in(path, pattern):
+    """The number that a pattern finds in a file, or None."""
+    try:
+        with open(path, encoding="utf-8") as file:
+            found = re.search(pattern, file.read())
+    except OSError:
+        return None
+    return int(found[1]) if found else None
+
+
+def free_memory():
+    """The bytes of memory that are free, under the limit of the control group too where there is one, or None."""
+    kilobytes = number_in("/proc/meminfo", r"MemAvailable:\s+(\d+)")
+    limit = number_in("/sys/fs/cgroup/memory.max", r"^(\d+)")
+    held = number_in("/sys/fs/cgroup/memory.stat", r"anon (\d+)")
+    found = [] if kilobytes is None else [1024 * kilobytes]
+    found += [] if None in (limit, held) else [limit - held]
+    return min(found, default=None)
+
+
+def checks_at_once():
+    """How many checks run side by side: those of RT_JOBS, else one a processor, as many as the memory holds."""
+    wanted = os.environ.get("RT_JOBS", "")
+    if wanted.isdigit() and int(wanted) > 0:
+        return int(wanted)
+    memory = free_memory()
+    room = processors() if memory is None else memory // MEMORY_OF_A_CHECK
+    return max(1, min(processors(), room))
+
+
+def kit(*words):
+    """The words that run a command of the toolchain."""
+    return [sys.executable, kit_command.__file__, *words]
+
+
+class Progress:
+    """Says of each crate whose check ended how many have, by the lines of the toolchain."""
+
+    def __init__(self, names):
+        self.names = names
+        self.count = 0
+
+    def line(self, line):
+        name = line[3:].strip() if line.startswith("== ") else None
+        if name in self.names:
+            self.count += 1
+            say(f"crate {self.count} of {len(self.names)}: {name}")
+
+
+class Making:
+    """Whether the toolchain went on to run the program, which it does once that is built."""
+
+    def __init__(self):
+        self.is_made = False
+
+    def line(self, line):
+        self.is_made = self.is_made or line.startswith(f"rt: running out/{PROGRAM_CRATE};")
+
+
+def run(words, log, watcher):
+    """Runs a command of the toolchain in the folder of the program, shows each line to the watcher, and returns the
+    status.
+    """
+    how = {"stdin": subprocess.DEVNULL, "stdout": subprocess.PIPE, "stderr": subprocess.STDOUT}
+    text = {"encoding": "utf-8", "errors": "replace"}
+    with subprocess.Popen(kit(*words), cwd=CRATES / PROGRAM_CRATE, **how, **text) as started:
+        for line in started.stdout:
+            log.write(line)
+            watcher.line(line)
+    return started.returncode
+
+
+def prove(log):
+    """Proves the program and all that it stands on, and returns whether that went well."""
+    crates = crate_lines(CRATE_LIST.read_text(encoding="utf-8"))
+    names = crates_below(crates, PROGRAM_CRATE) | {PROGRAM_CRATE}
+    at_once = checks_at_once()
+    say(f"proving and building the program: {len(names)} crates, {at_once} at a time")
+    say(f"where nothing is kept, this takes {TIME_FROM_NOTHING}")
+    return run(["all", "check", "--jobs", str(at_once)], log, Progress(names)) == 0
+
+
+def make(log):
+    """Makes the program over what was proved, and returns whether that went well."""
+    say("all crates are proved; making the program")
+    making = Making()
+    # the toolchain runs the program once, with no words, and its status is then that of bad words
+    run(["run"], log, making)
+    if making.is_made:
+        # where the toolchain found nothing changed, the file is as old as it was
+        os.utime(PROGRAM)
+    return making.is_made
+
+
+def show_end(path):
+    with open(path, encoding="utf-8") as log:
+        sys.stderr.writelines(log.readlines()[-LAST_LINES:])
+
+
+def main():
+    """Builds the program, and returns 0, or 127 where that failed."""
+    if shutil.which("rt") is None:
+        say("the program is not built, and the toolchain's command rt is not on the path")
+        return NOT_BUILT
+    begun = time.monotonic()
+    with tempfile.NamedTemporaryFile("w+", encoding="utf-8", prefix="shq-build-", delete=False) as log:
+        is_built = prove(log) and make(log)
+    if not is_built:
+        show_end(log.name)
+        say(f"the build failed; the whole log is {log.name}")
+        return NOT_BUILT
+    os.remove(log.name)
+    say(f"built in {round(time.monotonic() - begun)} seconds")
+    return 0
