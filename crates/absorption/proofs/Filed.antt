@@ -7,7 +7,7 @@ use Rattle.std.proofs.lemmas.Bool.{cases_Bool, eqb-true, eq-eqb}
 use Rattle.std.proofs.lemmas.List.Elements.{All-nil, All-cons, All-head, All-tail, All-push}
 use Rattle.std.proofs.lemmas.List.Sorted.{IsPermutation-refl, IsPermutation-sym, IsPermutation-trans, IsPermutation-middle, IsPermutation-to_front, IsPermutation-append_left, IsPermutation-append_right, IsPermutation-push_more}
 use Rattle.indexmap.specs.IndexMap.{insert_entry}
-use Rattle.shape_specs.specs.Shape.{Shape}
+use Rattle.calculus_specs.specs.Shape.{Shape}
 use Rattle.absorption.specs.declared.row.Row.{Row}
 use Rattle.absorption.specs.declared.place.Place.{Place}
 use Rattle.absorption.specs.declared.place.Place.TheVariants.{Name, Role, General}

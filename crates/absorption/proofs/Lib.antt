@@ -2,3 +2,8 @@ pub mod Listed
 pub mod Filed
 pub mod Found
 pub mod Made
+pub mod Positions
+pub mod Meets
+pub mod Carried
+pub mod Lacking
+pub use Rattle.row_cache.proofs.Numbered

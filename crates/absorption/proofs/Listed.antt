@@ -2,22 +2,22 @@
 use Rattle.std.proofs.Common.{◌≡◌, ℕ, zero, suc, ◌+◌, ◌<◌, Bool, true, false, cond, List, [], ◌∷◌, ◌++◌, map, take, drop, length, get_or, Option, Some, None, refl, ap, sym, subst, ◌∙◌, arith, append_assoc, append-nil}
 use Rattle.std.specs.Option.{option_or}
 use Rattle.std.proofs.lemmas.List.{take_more, drop_more}
-use Rattle.shq_base.specs.Concept.{Concept}
-use Rattle.shape_specs.specs.Shape.{Shape, shape_of, IsTable}
-use Rattle.shape_specs.specs.Shape.Shape.{top as top_shape, bottom as bottom_shape, name as name_shape, not_name, intersection as intersection_shape, union as union_shape, some_of as some_shape, all_of as all_shape, at_least as least_shape, at_most as most_shape}
-use Rattle.shape_specs.specs.Tree.{tree_over, trees_of, tree_of}
-use Rattle.shape_specs.specs.Rows.{Part, inclusion, range, NumberedPart, is_name, conjunct_at, row_concept}
+use Rattle.shq_terms.specs.Concept.{Concept}
+use Rattle.calculus_specs.specs.Shape.{Shape, shape_of, IsTable}
+use Rattle.calculus_specs.specs.Shape.Shape.{top as top_shape, bottom as bottom_shape, name as name_shape, not_name, intersection as intersection_shape, union as union_shape, some_of as some_shape, all_of as all_shape, at_least as least_shape, at_most as most_shape}
+use Rattle.calculus_specs.specs.Tree.{tree_over, trees_of, tree_of}
+use Rattle.calculus_specs.specs.Rows.{Part, inclusion, range, NumberedPart, is_name, conjunct_at, row_concept}
 use Rattle.shq_terms.specs.declared.axioms.Numbered.{Numbered}
 use Rattle.shq_nnf.specs.declared.parts.Part.{Part as PartByNumber}
 use Rattle.shq_nnf.specs.declared.parts.Part.TheVariants.{Inclusion, Range}
 use Rattle.shq_nnf.specs.Numbers.{Extends, IsNumber, AreNumbers}
 use Rattle.shq_nnf.specs.Parts.{StandsForPart, part_in}
 use Rattle.shq_nnf.proofs.Numbers.{shape_tree, tree_stays, number_stays, numbers_stay}
-use Rattle.refutation_truth.specs.Theory.{parts_at, numbered_parts, named_parts}
+use Rattle.row_cache.specs.Theory.{parts_at, numbered_parts, named_parts}
 use Rattle.row_cache.specs.declared.cached_row.CachedRow.{CachedRow}
 use Rattle.row_cache.specs.Rows.{PlainRow, IsRow, row_for}
-use Rattle.row_triggers.specs.Triggers.{name_positions, role_of_some, first_role, inclusion_trigger, trigger_for, premises_for}
-use Rattle.row_triggers.proofs.Positions.{positions_are_names, inclusion_row}
+use Rattle.absorption.specs.Triggers.{name_positions, role_of_some, first_role, inclusion_trigger, trigger_for, premises_for}
+use Rattle.absorption.proofs.Positions.{positions_are_names, inclusion_row}
 use Rattle.absorption.specs.declared.row.Row.{Row}
 use Rattle.absorption.specs.Rows.{role_of_shape, plain_trigger, plain_part, IsListedPart, IsRowOfPart, IsRowOf, AreRowsOf}
 

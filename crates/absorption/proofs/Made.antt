@@ -12,20 +12,20 @@ use Rattle.std.proofs.lemmas.List.Sums.{sum_by-append, sum_by-cons}
 use Rattle.lane_sieve.specs.Sets.{passing}
 use Rattle.axiom_sets.specs.Sets.{Limited, IsWithin, member_list}
 use Rattle.axiom_sets.proofs.Listed.{member_list-at}
-use Rattle.shq_base.specs.Concept.{Concept}
-use Rattle.shape_specs.specs.Shape.{Shape, shape_of, IsTable}
-use Rattle.shape_specs.specs.Tree.{tree_of}
-use Rattle.shape_specs.specs.Rows.{Part, inclusion, range, NumberedPart, Theory, part_at, is_numbered, is_among, is_name, conjunct_at, is_ascending, row_of, IsRowOf as IsPlainRowOf, Row as PlainRow, is_row_of}
-use Rattle.shape_specs.specs.Rows.Trigger.{names}
+use Rattle.shq_terms.specs.Concept.{Concept}
+use Rattle.calculus_specs.specs.Shape.{Shape, shape_of, IsTable}
+use Rattle.calculus_specs.specs.Tree.{tree_of}
+use Rattle.calculus_specs.specs.Rows.{Part, inclusion, range, NumberedPart, Theory, part_at, is_numbered, is_among, is_name, conjunct_at, is_ascending, row_of, IsRowOf as IsPlainRowOf, Row as PlainRow, is_row_of}
+use Rattle.calculus_specs.specs.Rows.Trigger.{names}
 use Rattle.shq_terms.specs.declared.axioms.Numbered.{Numbered}
 use Rattle.shq_nnf.specs.Numbers.{AreNumbers}
 use Rattle.shq_nnf.specs.Parts.{part_in}
-use Rattle.refutation_truth.specs.Theory.{parts_at, numbered_parts, named_parts, theory_of}
-use Rattle.refutation_truth.proofs.Numbered.{numbered}
+use Rattle.row_cache.specs.Theory.{parts_at, numbered_parts, named_parts, theory_of}
+use Rattle.row_cache.proofs.Numbered.{numbered}
 use Rattle.row_cache.specs.Rows.{is_name_shape}
 use Rattle.row_cache.proofs.Places.{name_shaped}
-use Rattle.row_triggers.specs.Triggers.{name_positions, first_role, inclusion_trigger, trigger_for, premises_for}
-use Rattle.row_triggers.proofs.Positions.{positions_are_names}
+use Rattle.absorption.specs.Triggers.{name_positions, first_role, inclusion_trigger, trigger_for, premises_for}
+use Rattle.absorption.proofs.Positions.{positions_are_names}
 use Rattle.absorption.specs.declared.row.Row.{Row}
 use Rattle.absorption.specs.declared.row.Trigger.{Trigger}
 use Rattle.absorption.specs.declared.row.Trigger.TheVariants.{Always, Names, Edge, End}

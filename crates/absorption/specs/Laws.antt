@@ -1,6 +1,6 @@
 -- Where the rows of a table are found.
 use Rattle.std.specs.Prelude.{ℕ, List, Contains}
-use Rattle.shape_specs.specs.Shape.{Shape}
+use Rattle.calculus_specs.specs.Shape.{Shape}
 use Rattle.absorption.specs.declared.row.Row.{Row}
 use Rattle.absorption.specs.declared.row.Trigger.{Trigger}
 use Rattle.absorption.specs.declared.row.Trigger.TheVariants.{Always, Names, Edge, End}

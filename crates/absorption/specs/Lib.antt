@@ -2,3 +2,11 @@ pub mod Rows
 pub mod Places
 pub mod Tables
 pub mod Laws
+pub mod Triggers
+pub mod Truth
+pub mod TriggerLaws
+pub mod Examples
+pub mod Closed
+pub mod Needed
+pub mod ClosureLaws
+pub use Rattle.row_cache.specs.Theory

@@ -3,7 +3,7 @@ use Rattle.std.specs.Prelude.{◌≡◌, ℕ, ◌<◌, ◌==◌, nat_eq, nat_lt,
 use Rattle.std.specs.List.{list_any, list_all, IsDistinct}
 use Rattle.std.specs.List.Sorted.{IsPermutation}
 use Rattle.std.specs.Map.{lookup, keys_of}
-use Rattle.shape_specs.specs.Shape.{Shape, shape_of}
+use Rattle.calculus_specs.specs.Shape.{Shape, shape_of}
 use Rattle.tableau_specs.specs.Steps.{is_named}
 use Rattle.row_cache.specs.Rows.{is_name_shape}
 use Rattle.absorption.specs.declared.row.Row.{Row}

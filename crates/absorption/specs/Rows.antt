@@ -1,17 +1,17 @@
 -- The rows of a table, read as the plain rows of a search.
 use Rattle.std.specs.Prelude.{◌≡◌, ℕ, ◌<◌, List, ◌++◌, map, length, Option, None, Some}
 use Rattle.std.specs.List.{AllZip}
-use Rattle.shape_specs.specs.Shape.{Shape}
-use Rattle.shape_specs.specs.Shape.Shape.{some_of}
-use Rattle.shape_specs.specs.Tree.{tree_of}
-use Rattle.shape_specs.specs.Rows.{Part, inclusion, range, NumberedPart, Trigger as PlainTrigger, Row as PlainRow}
-use Rattle.shape_specs.specs.Rows.Trigger.{always, names, edge, end_of}
+use Rattle.calculus_specs.specs.Shape.{Shape}
+use Rattle.calculus_specs.specs.Shape.Shape.{some_of}
+use Rattle.calculus_specs.specs.Tree.{tree_of}
+use Rattle.calculus_specs.specs.Rows.{Part, inclusion, range, NumberedPart, Trigger as PlainTrigger, Row as PlainRow}
+use Rattle.calculus_specs.specs.Rows.Trigger.{always, names, edge, end_of}
 use Rattle.shq_nnf.specs.declared.parts.Part.{Part as PartByNumber}
 use Rattle.shq_nnf.specs.declared.parts.Part.TheVariants.{Inclusion, Range}
 use Rattle.shq_nnf.specs.Numbers.{AreNumbers, trees_at}
 use Rattle.shq_nnf.specs.Parts.{StandsForPart}
-use Rattle.refutation_truth.specs.Theory.{numbered_parts}
-use Rattle.row_triggers.specs.Triggers.{trigger_for, premises_for, fixed_concept}
+use Rattle.row_cache.specs.Theory.{numbered_parts}
+use Rattle.absorption.specs.Triggers.{trigger_for, premises_for, fixed_concept}
 use Rattle.absorption.specs.declared.row.Row.{Row}
 use Rattle.absorption.specs.declared.row.Trigger.{Trigger}
 use Rattle.absorption.specs.declared.row.Trigger.TheVariants.{Always, Names, Edge, End}

@@ -1,9 +1,9 @@
 -- The table of the rows of some axioms.
 use Rattle.std.specs.Prelude.{◌≡◌, ℕ, List, All, Some}
-use Rattle.shape_specs.specs.Shape.{Shape}
-use Rattle.shape_specs.specs.Rows.{Part, Theory, part_at, IsChoice}
+use Rattle.calculus_specs.specs.Shape.{Shape}
+use Rattle.calculus_specs.specs.Rows.{Part, Theory, part_at, IsChoice}
 use Rattle.shq_terms.specs.declared.axioms.Numbered.{Numbered}
-use Rattle.refutation_truth.specs.Theory.{theory_of}
+use Rattle.row_cache.specs.Theory.{theory_of}
 use Rattle.absorption.specs.declared.row.Row.{Row}
 use Rattle.absorption.specs.Rows.{plain_rows, IsRowOfPart}
 use Rattle.absorption.specs.Places.{FiledRows, all_filed, KeysDiffer, StandInPlaces}

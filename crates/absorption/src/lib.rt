@@ -9,8 +9,13 @@
 //!
 //! A [`RowTable`] is made for each set of axioms that is asked about, and costs what these axioms cost, whatever the
 //! ontology has besides.
+//!
+//! `trigger_laws` say why rows that wait say all that the axioms say. [`close`] puts into a table of concepts each number that a
+//! search over these rows can need, before it starts.
 #![tactic(auto)]
 
+mod closing;
+mod closure_laws;
 mod laws;
 mod name_uses;
 mod place;
@@ -18,8 +23,12 @@ mod row;
 mod row_list;
 mod row_table;
 mod rows;
+mod trigger_laws;
 
+pub use closing::close;
+pub use closure_laws::{closed_tables_lack_nothing, no_step_over_a_closed_table_is_an_end};
 pub use laws::{each_row_is_found, found_rows_wait};
 pub use row::{Row, Trigger};
 pub use row_table::RowTable;
-pub use shq_base::NoMemory;
+pub use shq_terms::NoMemory;
+pub use trigger_laws::{axioms_are_their_rows, each_part_has_its_row, rows_are_their_parts};

@@ -1,7 +1,7 @@
 // Where a row is filed.
 ghost use Rattle.std.specs.Prelude.{◌≡◌, ◌<◌, ◌&&◌, ◌⊎◌, nat_lt, IsTrue, length};
-ghost use Rattle.shape_specs.specs.Shape.{shape_of};
-ghost use Rattle.shape_specs.specs.Shape.Shape.{name};
+ghost use Rattle.calculus_specs.specs.Shape.{shape_of};
+ghost use Rattle.calculus_specs.specs.Shape.Shape.{name};
 ghost use Rattle.shq_nnf.specs.Shapes.{form_of};
 ghost use Rattle.row_cache.specs.Rows.{is_name_shape};
 ghost use Rattle.absorption.specs.Places.{names_class, are_names, IsPlaceOf, HasPlace};

@@ -1,12 +1,12 @@
 // The row of a part.
 ghost use Rattle.std.specs.Prelude.{◌≡◌, ◌+◌, ◌<◌, nat_lt, IsTrue, IfOk, Some, length};
 ghost use Rattle.std.specs.List.{list_all};
-ghost use Rattle.shape_specs.specs.Shape.{IsTable};
-ghost use Rattle.shape_specs.specs.Tree.{tree_of};
-ghost use Rattle.shape_specs.specs.Rows.{inclusion};
+ghost use Rattle.calculus_specs.specs.Shape.{IsTable};
+ghost use Rattle.calculus_specs.specs.Tree.{tree_of};
+ghost use Rattle.calculus_specs.specs.Rows.{inclusion};
 ghost use Rattle.shq_nnf.specs.Numbers.{Extends, trees_at};
 ghost use Rattle.shq_nnf.specs.Shapes.{form_of};
-ghost use Rattle.row_triggers.specs.Triggers.{name_positions, first_role, role_of_some, inclusion_trigger};
+ghost use Rattle.absorption.specs.Triggers.{name_positions, first_role, role_of_some, inclusion_trigger};
 ghost use Rattle.absorption.specs.Rows.{plain_trigger, plain_part, IsListedPart, IsRowOfPart, role_of_shape};
 
 use crate::NoMemory;

@@ -1,7 +1,7 @@
 // The rows of a set of axioms.
 ghost use Rattle.std.specs.Prelude.{◌≡◌, [], IfOk, OnOk, All, length};
 ghost use Rattle.std.specs.Map.{keys_of};
-ghost use Rattle.shape_specs.specs.Shape.{IsTable};
+ghost use Rattle.calculus_specs.specs.Shape.{IsTable};
 ghost use Rattle.shq_nnf.specs.Numbers.{Extends};
 ghost use Rattle.axiom_sets.specs.Sets.{IsWithin, member_list};
 ghost use Rattle.row_cache.specs.Rows.{AreInLimit};

@@ -2,7 +2,7 @@
 ghost use Rattle.std.specs.Prelude.{◌+◌, ◌<◌, ◌≤◌, IsTrue, IfOk, OnOk, All, length};
 ghost use Rattle.shq_nnf.specs.Numbers.{Extends};
 ghost use Rattle.shq_nnf.specs.Parts.{axiom_parts, axiom_has_counts_within, part_in};
-ghost use Rattle.refutation_truth.specs.Theory.{named_parts};
+ghost use Rattle.row_cache.specs.Theory.{named_parts};
 ghost use Rattle.row_cache.specs.Rows.{AreInLimit};
 ghost use Rattle.absorption.specs.Rows.{IsRowOfPart, AreRowsOf, AddsRows};
 

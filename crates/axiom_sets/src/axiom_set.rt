@@ -6,10 +6,9 @@ ghost use Rattle.lane_sieve.specs.Sets.{number_set, IsPart, DoMeet};
 ghost use Rattle.axiom_sets.specs.Sets.{IsFull, IsWithin, member_list, list_cmp};
 
 use lane_sieve::{
-    Numbers, compare_numbers, count_numbers, do_meet, has_number, is_part, put_number, repeat_word,
-    subtract, take_number, unite,
+    NoMemory, Numbers, compare_numbers, count_numbers, do_meet, has_number, is_part, put_number,
+    repeat_word, subtract, take_number, unite,
 };
-use shq_base::NoMemory;
 use std::alloc::Global;
 use std::cmp::Ordering;
 use std::marker::Model;

@@ -1,7 +1,7 @@
 // Families of axioms, which ask whether the class 0 has a member.
 
 use crate::statement::{Statement, Term, push_item};
-use shq_base::NoMemory;
+use shq_terms::NoMemory;
 use std::alloc::Global;
 
 /// A family of sets of axioms by size.

@@ -1,6 +1,6 @@
 // Whether axioms are within the limits by themselves.
 ghost use Rattle.std.specs.Prelude.{◌≡◌, length, nat_le};
-ghost use Rattle.shq_base.specs.Concept.{parts_of, part_list};
+ghost use Rattle.shq_terms.specs.Concept.{parts_of, part_list};
 ghost use Rattle.bench_search.specs.Small.{fits, all_fit, axiom_fits};
 
 use shq_terms::{Axiom, Concept, Node};

@@ -1,15 +1,23 @@
-// What the search does on generated axioms, without the reader and the checks around it. Given any word, it prints one line
-// for each of them.
+//! What the search does, and how much a job asks. Given the word `search`, it prints for each family of generated axioms what
+//! the search does on them, without the reader and the checks around it, and how long it takes. Given `log` and the words of
+//! a job, it does the job on standard input, as the program does, and prints in place of the answer how many entries the
+//! log has, tests and nodes of a hitting-set tree, and what they took of the budget. For any other words it prints these
+//! two. It promises nothing, and is outside of every theorem.
 #![tactic(auto)]
 
 mod family;
 mod fitting;
+mod job_log;
 mod making;
 mod measuring;
 mod statement;
 
 use family::Family;
+use job_log::count_job;
 use measuring::report;
+use shq_io::{Source, StdSource};
+use std::alloc::Global;
+use std::rt::Clock;
 use std::{env, io};
 
 /// The families and their sizes.
@@ -36,15 +44,40 @@ const ROWS: [(&str, Family, u32); 20] = [
     ("unions above a clash", Family::UnionsAbove, 200),
 ];
 
-fn main(rt: HostRuntime) -> io::Result<()> {
-    if env::args(&rt)?.count() < 2 {
-        println!(rt;
-            "with any word: what searches over generated axioms do, and how long they take"
-        )?;
-        return Ok(());
-    }
+fn out_of_memory() -> io::Error {
+    io::Error::from(io::ErrorKind::OutOfMemory)
+}
+
+/// Prints what the search does on each family.
+fn search_families(rt: &(impl Print + Clock), alloc: Global) -> io::Result<()> {
     for (name, family, size) in &ROWS {
-        report(&rt, rt.alloc(), name, *family, *size)?;
+        report(rt, alloc, name, *family, *size)?;
     }
     Ok(())
+}
+
+/// Does what the words ask for, of which the first is the program's name.
+fn act<S: Source>(
+    rt: &(impl Print + Clock),
+    alloc: Global,
+    words: &[String],
+    source: &mut S,
+) -> io::Result<()> {
+    match words {
+        [_, word] if word.as_str() == "search" => search_families(rt, alloc),
+        [_, word, job @ ..] if word.as_str() == "log" => count_job(rt, alloc, job, source),
+        _ => {
+            println!(rt;
+                "search: what the search does on generated axioms; log and the words of a job: how much the job asks"
+            )
+        }
+    }
+}
+
+fn main(rt: HostRuntime) -> io::Result<()> {
+    let words: Vec<String> = env::args(&rt)?
+        .collect(rt.alloc())
+        .map_err(|_| out_of_memory())?;
+    let mut source = StdSource::new(rt.stdin());
+    act(&rt, rt.alloc(), &words, &mut source)
 }

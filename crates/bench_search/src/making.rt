@@ -8,8 +8,7 @@ use crate::family::Family;
 use crate::fitting::{Names, axiom_fits};
 use crate::statement::{Statement, axiom_of};
 use role_box::first_not_simple;
-use shq_base::NoMemory;
-use shq_terms::{AddFault, Axiom, Ontology};
+use shq_terms::{AddFault, Axiom, NoMemory, Ontology};
 use std::alloc::Global;
 
 /// The ontology of a family, by which one may ask whether its first class has a member.

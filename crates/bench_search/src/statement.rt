@@ -1,7 +1,6 @@
 // Axioms by numbers of classes, and what they stand for.
 
-use shq_base::NoMemory;
-use shq_terms::{Axiom, Concept, Node};
+use shq_terms::{Axiom, Concept, NoMemory, Node};
 use std::alloc::Global;
 
 /// The only role.

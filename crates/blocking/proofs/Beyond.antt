@@ -1,17 +1,17 @@
 -- Numbers that are no node's.
 use Rattle.std.proofs.Common.{◌≡◌, ℕ, zero, suc, ◌+◌, ◌<◌, ◌≤◌, ◌&&◌, cond, eqb, Bool, true, List, [], ◌∷◌, get_or, Option, Some, None, refl, ap, sym, ◌∙◌, arith, eq-eqb}
 use Rattle.std.proofs.lemmas.Bool.{ne_eqb}
-use Rattle.fact_specs.specs.declared.Fact.{Fact}
-use Rattle.fact_specs.specs.declared.Fact.TheVariants.{Has, Edge, Apart, Same}
-use Rattle.fact_specs.specs.Joins.{rep}
-use Rattle.fact_specs.specs.State.{node_count, first_origin, parent, has, is_label_part}
-use Rattle.fact_specs.specs.Listed.{IsLabel}
-use Rattle.fact_specs.proofs.Joined.{rep-le}
+use Rattle.calculus_specs.specs.declared.facts.Fact.{Fact}
+use Rattle.calculus_specs.specs.declared.facts.Fact.TheVariants.{Has, Edge, Apart, Same}
+use Rattle.calculus_specs.specs.Joins.{rep}
+use Rattle.calculus_specs.specs.State.{node_count, first_origin, parent, has, is_label_part}
+use Rattle.calculus_specs.specs.Listed.{IsLabel}
+use Rattle.calculus_specs.proofs.Joined.{rep-le}
 use Rattle.tableau_specs.specs.declared.Block.{Block}
 use Rattle.tableau_specs.specs.declared.Block.TheVariants.{Clear, By, Under}
 use Rattle.tableau_specs.specs.Blocked.{is_clear, is_parent_clear, may_block, blocked_from, blocks_to, block_of}
 use Rattle.blocking.proofs.Labels.{all_of_label}
-use Rattle.blocking.proofs.Blocks.{get-blocks_to}
+use Rattle.blocking.proofs.BlockLists.{get-blocks_to}
 
 some_node : (fs : List (Fact ℕ)) → 0 < node_count fs
 some_node [] = omega arith

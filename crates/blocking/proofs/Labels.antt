@@ -8,14 +8,14 @@ use Rattle.std.specs.Int.{bit_at}
 use Rattle.std.proofs.lemmas.List.{take_more}
 use Rattle.std.proofs.lemmas.Nat.Bits.{bit_at-zero, bit_at_ones}
 use Rattle.lane_sieve.proofs.Bits.{has_bit-is, contains-number_set, contains_insert}
-use Rattle.fact_specs.proofs.Joined.{any-snoc}
+use Rattle.calculus_specs.proofs.Joined.{any-snoc}
 use Rattle.std.proofs.Math.Bool.{or_comm}
-use Rattle.shq_base.proofs.Bools.{same_truth}
-use Rattle.fact_specs.proofs.State.{eqb-comm}
-use Rattle.fact_specs.specs.declared.Fact.{Fact}
-use Rattle.fact_specs.specs.State.{label}
-use Rattle.fact_specs.specs.Listed.{IsLabel}
-use Rattle.fact_specs.proofs.State.{any-label}
+use Rattle.calculus_specs.proofs.Bools.{same_truth}
+use Rattle.calculus_specs.proofs.State.{eqb-comm}
+use Rattle.calculus_specs.specs.declared.facts.Fact.{Fact}
+use Rattle.calculus_specs.specs.State.{label}
+use Rattle.calculus_specs.specs.Listed.{IsLabel}
+use Rattle.calculus_specs.proofs.State.{any-label}
 use Rattle.blocking.specs.Followed.{IsPrintOf, IsPrintWithin, ShowsAll}
 
 abbrev pub is_in : ℕ → List ℕ → Bool

@@ -1,5 +1,5 @@
 pub mod Labels
-pub mod Blocks
+pub mod BlockLists
 pub mod Sieve
 pub mod Touched
 pub mod Beyond

@@ -3,15 +3,15 @@ use Rattle.std.proofs.Common.{◌≡◌, ℕ, suc, ◌+◌, ◌<◌, ◌^◌, �
 use Rattle.std.proofs.lemmas.Bool.{cases_Bool, and_parts, eqb-true, ne_eqb}
 use Rattle.lane_sieve.specs.Words.{is_subset, places}
 use Rattle.lane_sieve.proofs.Kernels.{subset_from}
-use Rattle.fact_specs.specs.declared.Fact.{Fact}
-use Rattle.fact_specs.specs.Joins.{rep}
-use Rattle.fact_specs.specs.State.{parent, has, label, is_label_part}
+use Rattle.calculus_specs.specs.declared.facts.Fact.{Fact}
+use Rattle.calculus_specs.specs.Joins.{rep}
+use Rattle.calculus_specs.specs.State.{parent, has, label, is_label_part}
 use Rattle.tableau_specs.specs.declared.Block.{Block}
 use Rattle.tableau_specs.specs.declared.Block.TheVariants.{Clear, By, Under}
 use Rattle.tableau_specs.specs.Blocked.{is_clear, is_parent_clear, may_block, blocked_from, blocks_to, block_of}
 use Rattle.blocking.specs.Followed.{Printed, IsPrintWithin, IsFollowed, blocked_among}
 use Rattle.blocking.proofs.Labels.{all_shown}
-use Rattle.blocking.proofs.Blocks.{get-blocks_to}
+use Rattle.blocking.proofs.BlockLists.{get-blocks_to}
 
 module _ (fs : List (Fact ℕ)) (blocks : List Block) (x : ℕ) where
   passed_over : (z : ℕ) (zs : List ℕ) (b : Bool) → may_block fs blocks x z ≡ false → blocked_among fs blocks x (cond b (z ∷ zs) zs) ≡ blocked_among fs blocks x zs

@@ -3,19 +3,19 @@ use Rattle.std.proofs.Common.{◌≡◌, ℕ, zero, suc, ◌+◌, ◌≤◌, min
 use Rattle.std.specs.Prelude.{slice_get}
 use Rattle.std.proofs.lemmas.Bool.Decides.{nat_tests}
 use Rattle.std.proofs.lemmas.List.{take-append-drop}
-use Rattle.fact_specs.specs.declared.Fact.{Fact}
-use Rattle.fact_specs.specs.declared.Fact.TheVariants.{Has, Edge, Apart, Same}
-use Rattle.fact_specs.specs.Joins.{merged, rep_after, rep}
-use Rattle.fact_specs.specs.State.{node_count, HasParentsBefore}
-use Rattle.fact_specs.proofs.Joined.{rep-snoc}
+use Rattle.calculus_specs.specs.declared.facts.Fact.{Fact}
+use Rattle.calculus_specs.specs.declared.facts.Fact.TheVariants.{Has, Edge, Apart, Same}
+use Rattle.calculus_specs.specs.Joins.{merged, rep_after, rep}
+use Rattle.calculus_specs.specs.State.{node_count, HasParentsBefore}
+use Rattle.calculus_specs.proofs.Joined.{rep-snoc}
 use Rattle.tableau_specs.specs.declared.Item.{Item}
 use Rattle.completion_tree.specs.declared.tree.Entry.{Entry}
 use Rattle.completion_tree.specs.declared.tree.Entry.TheVariants.{Fact as Grounded, Mark}
 use Rattle.completion_tree.specs.Trail.{facts_in, item_of, items_of}
 use Rattle.completion_tree.proofs.Entries.{facts_in-append}
-use Rattle.blocking_specs.specs.Laws.{LeavesBelow, AllLeaveBelow}
+use Rattle.tableau_specs.specs.BlockLaws.{LeavesBelow, AllLeaveBelow}
 use Rattle.blocking.specs.Followed.{Printed, AreBlocksBelow}
-use Rattle.blocking.proofs.Blocks.{going_on, going_back}
+use Rattle.blocking.proofs.BlockLists.{going_on, going_back}
 use Rattle.blocking.specs.Changed.{least_with, least_of_item, least_touched}
 
 -- ---- representatives fall

@@ -1,8 +1,8 @@
 -- Which blocks stand when facts come and go.
 use Rattle.std.specs.Prelude.{ℕ, ◌≤◌, min, List, ◌++◌}
-use Rattle.fact_specs.specs.declared.Fact.{Fact}
-use Rattle.fact_specs.specs.State.{node_count, HasParentsBefore}
-use Rattle.blocking_specs.specs.Laws.{AllLeaveBelow}
+use Rattle.calculus_specs.specs.declared.facts.Fact.{Fact}
+use Rattle.calculus_specs.specs.State.{node_count, HasParentsBefore}
+use Rattle.tableau_specs.specs.BlockLaws.{AllLeaveBelow}
 use Rattle.blocking.specs.Followed.{Printed, AreBlocksBelow, IsCurrent}
 
 -- where new facts leave all below m

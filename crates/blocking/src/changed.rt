@@ -1,14 +1,14 @@
 // Where a tree changed.
 ghost use Rattle.std.specs.Prelude.{◌≡◌, ◌≤◌, min, length, take, drop};
-ghost use Rattle.fact_specs.specs.Joins.{rep};
-ghost use Rattle.fact_specs.specs.State.{node_count, HasParentsBefore};
+ghost use Rattle.calculus_specs.specs.Joins.{rep};
+ghost use Rattle.calculus_specs.specs.State.{node_count, HasParentsBefore};
 ghost use Rattle.completion_tree.specs.Trail.{facts_in};
-ghost use Rattle.blocking_specs.specs.Laws.{AllLeaveBelow};
+ghost use Rattle.tableau_specs.specs.BlockLaws.{AllLeaveBelow};
 ghost use Rattle.blocking.specs.Followed.{Printed, AreBlocksBelow};
 ghost use Rattle.blocking.specs.Changed.{least_with, least_of_item, least_touched};
 
+use calculus_specs::Fact;
 use completion_tree::{Item, Tree};
-use fact_specs::Fact;
 use std::alloc::Allocator;
 
 /// A node below which the facts of the trail from a place on change no block: the least node of which they say something new,

@@ -2,20 +2,20 @@
 //!
 //! A node is blocked by the least clear node before it, anywhere in the tree, that has all that it has (blocking by earlier
 //! nodes; F. Baader, M. Buchheit and B. Hollunder, *Cardinality Restrictions on Concepts*, Artificial Intelligence 88,
-//! 1996). [`Prints`] keeps the block of each node, and for each node that may block others a print of 256 bits of what it has:
+//! 1996). [`Blocks`] keeps the block of each node, and for each node that may block others a print of 256 bits of what it has:
 //! a node whose label is part of another's has a print that is part of the other's. So few nodes are tested exactly.
 //!
-//! The block of a node rests on the nodes up to it alone. So [`Prints::follow`] looks at those nodes alone from which on
+//! The block of a node rests on the nodes up to it alone. So [`Blocks::follow`] looks at those nodes alone from which on
 //! something changed: [`still_current`] says from which on where facts were put, and [`current_before`] where they will be taken
 //! back.
 #![tactic(auto)]
 
+mod block_list;
 mod changed;
 mod laws;
 mod print;
-mod prints;
 
+pub use block_list::{Blocks, is_clear, state};
 pub use changed::{current_before, least_changed, still_current};
 pub use laws::blocks_stay;
-pub use prints::{Prints, is_clear, state};
 pub use tableau_specs::Block;

@@ -5,13 +5,13 @@ use Rattle.std.specs.List.{list_any}
 use Rattle.std.proofs.lemmas.Bool.{cases_eq, cases_lt, cases_Bool, or_cases, and_parts, eqb-true, eq-eqb, ne_eqb, or_left, or_right, and_from}
 use Rattle.std.proofs.lemmas.List.Folds.{list_any-append}
 use Rattle.std.proofs.Math.Bool.{or-false, or_assoc, and_assoc}
-use Rattle.shq_base.proofs.Bools.{same_truth, or_exchange}
-use Rattle.fact_specs.specs.State.{gives_concept, gives_edge, gives_apart, is_given, has_edge, are_apart}
-use Rattle.fact_specs.proofs.State.{eqb-comm}
-use Rattle.fact_specs.specs.declared.Fact.{Fact}
-use Rattle.fact_specs.specs.declared.Fact.TheVariants as F
-use Rattle.fact_specs.specs.Joins.{rep}
-use Rattle.fact_specs.proofs.Joined.{by_last, rep-snoc}
+use Rattle.calculus_specs.proofs.Bools.{same_truth, or_exchange}
+use Rattle.calculus_specs.specs.State.{gives_concept, gives_edge, gives_apart, is_given, has_edge, are_apart}
+use Rattle.calculus_specs.proofs.State.{eqb-comm}
+use Rattle.calculus_specs.specs.declared.facts.Fact.{Fact}
+use Rattle.calculus_specs.specs.declared.facts.Fact.TheVariants as F
+use Rattle.calculus_specs.specs.Joins.{rep}
+use Rattle.calculus_specs.proofs.Joined.{by_last, rep-snoc}
 use Rattle.branch_facts.specs.declared.seen.Seen.{Seen}
 use Rattle.branch_facts.specs.declared.seen.Seen.TheVariants.{Has, Edge, Apart}
 use Rattle.branch_facts.specs.Seen.{Index, renamed, through, is_same, is_seen, with_seen, mentions, seen_renamed, copied_one, copied, index_linked, index_joined, seeing, index_after, index_of}

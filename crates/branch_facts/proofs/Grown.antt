@@ -4,8 +4,8 @@ use Rattle.std.specs.Prelude.{◌==◌, slice_get, if◌then◌else◌, Result, 
 use Rattle.std.specs.Result.{is_err}
 use Rattle.std.proofs.lemmas.List.{append-nil}
 use Rattle.std.proofs.Math.Seq.{take-append_seam, take-length}
-use Rattle.fact_specs.specs.declared.Fact.{Fact}
-use Rattle.fact_specs.specs.declared.Fact.TheVariants as F
+use Rattle.calculus_specs.specs.declared.facts.Fact.{Fact}
+use Rattle.calculus_specs.specs.declared.facts.Fact.TheVariants as F
 use Rattle.branch_facts.specs.declared.seen.Seen.{Seen}
 use Rattle.branch_facts.specs.declared.seen.Seen.TheVariants.{Has, Edge, Apart}
 use Rattle.branch_facts.specs.Seen.{Index, through, is_seen, with_seen, mentions, seen_renamed, copied_one, copied, copied_at, index_linked, index_joined, seeing, index_after, index_from, index_of, Begins}

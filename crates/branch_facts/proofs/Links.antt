@@ -8,7 +8,7 @@ use Rattle.std.proofs.Math.ListN.{get_or-append}
 use Rattle.std.proofs.lemmas.Bool.{cases_eq, cases_lt, eq-eqb, ne_eqb}
 use Rattle.indexmap.specs.IndexMap.{IndexMap, insert_entry}
 use Rattle.indexmap.proofs.CallerLemmas.{insert_entry-new}
-use Rattle.fact_specs.proofs.Joined.{by_last}
+use Rattle.calculus_specs.proofs.Joined.{by_last}
 use Rattle.branch_facts.specs.Seen.{renamed, through, IsLink, AreLinks}
 use Rattle.branch_facts.proofs.Reps.{through-snoc, when_equal, unless_equal}
 

@@ -3,10 +3,10 @@ use Rattle.std.proofs.Common.{◌≡◌, ℕ, min, max, Bool, List, [], ◌∷�
 use Rattle.std.specs.Prelude.{◌==◌, if◌then◌else◌}
 use Rattle.std.proofs.lemmas.Bool.{cases_eq, eq-eqb, ne_eqb}
 use Rattle.std.proofs.lemmas.Bool.Decides.{nat_tests}
-use Rattle.fact_specs.specs.declared.Fact.{Fact}
-use Rattle.fact_specs.specs.declared.Fact.TheVariants as F
-use Rattle.fact_specs.specs.Joins.{merged, rep_after, rep}
-use Rattle.fact_specs.proofs.Joined.{by_last, rep-snoc, rep-joined, joined-rep}
+use Rattle.calculus_specs.specs.declared.facts.Fact.{Fact}
+use Rattle.calculus_specs.specs.declared.facts.Fact.TheVariants as F
+use Rattle.calculus_specs.specs.Joins.{merged, rep_after, rep}
+use Rattle.calculus_specs.proofs.Joined.{by_last, rep-snoc, rep-joined, joined-rep}
 use Rattle.branch_facts.specs.Seen.{Index, renamed, through, index_linked, index_joined, index_after, index_of}
 use Rattle.branch_facts.proofs.Grown.{index_of-snoc}
 

@@ -1,7 +1,7 @@
 -- Two facts compare alike as they are the same.
 use Rattle.std.proofs.Common.{◌≡◌, ℕ, eqb, ◌||◌, List, [], ◌∷◌, refl}
 use Rattle.std.specs.List.{list_any}
-use Rattle.fact_specs.proofs.State.{eqb-comm}
+use Rattle.calculus_specs.proofs.State.{eqb-comm}
 use Rattle.branch_facts.specs.declared.seen.Seen.{Seen}
 use Rattle.branch_facts.specs.declared.seen.Seen.TheVariants.{Has, Edge, Apart}
 use Rattle.branch_facts.specs.contracts.seen.SeenPartialEq.TheImpl.{ghosts}

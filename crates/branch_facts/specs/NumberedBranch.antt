@@ -1,7 +1,7 @@
 -- What a branch knows: nodes, and facts on them over concepts by number.
 use Rattle.std.specs.Prelude.{ℕ, ◌==◌, Bool, List}
 use Rattle.std.specs.List.{list_any}
-use Rattle.fact_specs.specs.declared.Fact.{Fact}
+use Rattle.calculus_specs.specs.declared.facts.Fact.{Fact}
 
 pub record NumberedBranch : Type 0 where
   pub nodes : List ℕ

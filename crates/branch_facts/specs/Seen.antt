@@ -2,8 +2,8 @@
 -- leave. The representative of a node is reached by links, each from a node that was one to a lesser one, in their order.
 use Rattle.std.specs.Prelude.{◌≡◌, ℕ, ◌==◌, ◌<◌, ◌&&◌, ◌||◌, min, max, Bool, false, List, [], ◌∷◌, ◌++◌, map, length, take, get_or, Option, Some, None, if◌then◌else◌}
 use Rattle.std.specs.List.{list_any}
-use Rattle.fact_specs.specs.declared.Fact.{Fact}
-use Rattle.fact_specs.specs.declared.Fact.TheVariants as F
+use Rattle.calculus_specs.specs.declared.facts.Fact.{Fact}
+use Rattle.calculus_specs.specs.declared.facts.Fact.TheVariants as F
 use Rattle.branch_facts.specs.declared.seen.Seen.{Seen}
 use Rattle.branch_facts.specs.declared.seen.Seen.TheVariants.{Has, Edge, Apart}
 use Rattle.branch_facts.specs.declared.branch_facts.Entry.{Entry}

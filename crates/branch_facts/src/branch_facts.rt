@@ -1,13 +1,13 @@
 // The nodes and the facts of a branch.
 ghost use Rattle.std.specs.Prelude.{◌≡◌, ℕ, ◌+◌, ◌≤◌, ◌==◌, [], ◌∷◌, ◌++◌, false, OnOk, OnErr, length, take};
-ghost use Rattle.fact_specs.specs.Joins.{rep};
-ghost use Rattle.fact_specs.specs.State.{has, has_edge, are_apart};
+ghost use Rattle.calculus_specs.specs.Joins.{rep};
+ghost use Rattle.calculus_specs.specs.State.{has, has_edge, are_apart};
 ghost use Rattle.branch_facts.specs.NumberedBranch.{has_node};
 ghost use Rattle.branch_facts.specs.Seen.{entry_facts, index_after, index_of, AreEntries, Begins};
 
 use crate::NoMemory;
 use crate::index::Index;
-use fact_specs::Fact;
+use calculus_specs::Fact;
 use indexmap::IndexSet;
 use std::alloc::Global;
 use std::marker::Model;

@@ -5,7 +5,7 @@ ghost use Rattle.branch_facts.specs.Seen.{through, is_seen, are_seen_apart, copi
 
 use crate::NoMemory;
 use crate::seen::Seen;
-use fact_specs::Fact;
+use calculus_specs::Fact;
 use indexmap::{IndexMap, IndexSet};
 use std::alloc::Global;
 use std::marker::Model;

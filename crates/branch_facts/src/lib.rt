@@ -13,5 +13,4 @@ mod index;
 mod seen;
 
 pub use branch_facts::{BranchFacts, Mark};
-pub use fact_specs::Fact;
-pub use shq_base::NoMemory;
+pub use calculus_specs::{Fact, NoMemory};

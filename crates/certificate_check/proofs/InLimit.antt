@@ -6,12 +6,12 @@ use Rattle.shq_terms.specs.Listed.{Listed}
 use Rattle.ontology_limits.specs.Limits.{IsInLimit}
 use Rattle.ofn_reader.specs.DocumentContext.{DocumentContext}
 use Rattle.ofn_reader.specs.Documents.{IsDocument}
-use Rattle.read_limits.proofs.InLimit.{queries_in_limit}
+use Rattle.text_laws.proofs.InLimit.{queries_in_limit}
 use Rattle.certificate_check.specs.Certificates.{Fits}
 use Rattle.certificate_check.specs.Checking.{input_with, IsClaim, CanBeJudged}
 use Rattle.certificate_check.specs.declared.checking.Claim.{Claim}
 use Rattle.certificate_check.specs.declared.checking.Input.{Input}
-use Rattle.certificate_check.specs.declared.unread.Unread.{Unread}
+use Rattle.job_inputs.specs.declared.unread.Unread.{Unread}
 
 module _ (query bytes rest : List ℕ) (o : Listed) (kept : DocumentContext) (end : ℕ) (document : IsDocument bytes o kept end) (both : Listed) where
   claim_in_limit : (c : Claim) → IsClaim o kept query rest both c → Fits both c.certificate → CanBeJudged (input_with both c)

@@ -2,8 +2,8 @@ pub mod Unmet
 pub mod Blanks
 pub mod FirstMalformed
 pub mod Stops
-pub mod Messages
 pub mod Reasons
 pub mod InLimit
 pub mod Truth
 pub mod Replied
+pub use Rattle.job_inputs.proofs.ReadInLimit

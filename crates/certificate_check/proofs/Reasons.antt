@@ -8,12 +8,13 @@ use Rattle.ofn_expressions.specs.Counts.{Counts}
 use Rattle.ofn_reader.specs.DocumentContext.{DocumentContext}
 use Rattle.ofn_reader.specs.Documents.{IsDocument}
 use Rattle.certificate_check.specs.Certificates.{certificate, IsUnreadBy}
-use Rattle.read_limits.specs.Laws.{with_names}
-use Rattle.certificate_check.specs.Checking.{IsAsked, IsInput, IsVerdict, IsVerdictOn, judged, malformed_line, Shows, IsReply, no_document, no_query, shown, IsUndocumented, IsUnasked, IsUnclaimed, IsUnread}
+use Rattle.text_laws.specs.LimitLaws.{with_names}
+use Rattle.job_inputs.specs.Asked.{IsAsked, judged, malformed_line, IsUndocumented, IsUnasked}
+use Rattle.certificate_check.specs.Checking.{IsInput, IsVerdict, IsVerdictOn, Shows, IsReply, no_document, no_query, shown, IsUnclaimed, IsUnread}
 use Rattle.certificate_check.specs.declared.checking.Input.{Input}
-use Rattle.certificate_check.specs.declared.judging.Verdict.{Verdict}
-use Rattle.certificate_check.specs.declared.unread.Unread.{Unread}
-use Rattle.certificate_check.specs.declared.unread.Unread.TheVariants.{Document, Query, Line, NoMemory}
+use Rattle.job_inputs.specs.declared.verdict.Verdict.{Verdict}
+use Rattle.job_inputs.specs.declared.unread.Unread.{Unread}
+use Rattle.job_inputs.specs.declared.unread.Unread.TheVariants.{Document, Query, Line, NoMemory}
 
 pub mapped_err : {T U E : Type 0} {P Q : E → Type 0} (f : T → U) (r : Result T E) (out : Result U E) → out ≡ result_map_both f (λ e. e) r → ((e : E) → P e → Q e) → IfErr r P → IfErr out Q
 mapped_err {Q = Q} f (Ok x) out is so p = subst (λ o. IfErr o Q) (sym is) tt

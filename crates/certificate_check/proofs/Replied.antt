@@ -1,20 +1,17 @@
--- What is answered to a verification, and that it is no fault of reading or writing.
-use Rattle.std.proofs.Common.{◌≡◌, ℕ, List, true, false, Bool, Option, Some, None, Result, Ok, Err, refl, ap, sym, ◌∙◌, subst}
+-- What is answered to a verification.
+use Rattle.std.proofs.Common.{◌≡◌, ℕ, List, true, false, Bool, Result, Ok, Err, refl, ap, sym, ◌∙◌, subst}
 use Rattle.std.specs.Prelude.{IfOk, IfErr}
-use Rattle.job_texts.specs.Complaints.{sort_status}
-use Rattle.job_texts.specs.Answer.{Answer, no_memory, Gives, is_fault}
-use Rattle.job_texts.specs.declared.complaint.Sort.{Sort}
-use Rattle.job_texts.specs.declared.complaint.Sort.TheVariants as S
-use Rattle.job_texts.specs.declared.status.Status.{Status}
-use Rattle.job_texts.specs.declared.status.Status.TheVariants.{Done, Rejected, BadWords, BadText, Outside, Limit, ReadFault, WriteFault, Undecided, NoMemory}
-use Rattle.certificate_check.specs.Checking.{IsUnread, Reply, judged, refused_document, refused_query, malformed_line, IsReply}
-use Rattle.certificate_check.specs.Replies.{reply_answer, unread_answer, check_answer, message_answer, Checked}
-use Rattle.certificate_check.specs.declared.judging.Verdict.{Verdict}
-use Rattle.certificate_check.specs.declared.judging.Verdict.TheVariants.{NotEntailed, Entailed, Axiom, Query, Line}
-use Rattle.certificate_check.specs.declared.message.Message.{Message}
-use Rattle.certificate_check.specs.declared.message.Message.TheVariants as M
-use Rattle.certificate_check.specs.declared.unread.Unread.{Unread}
-use Rattle.certificate_check.specs.declared.unread.Unread.TheVariants as U
+use Rattle.job_inputs.specs.Answer.{Answer, no_memory, Gives}
+use Rattle.job_inputs.specs.declared.status.Status.{Status}
+use Rattle.job_inputs.specs.declared.status.Status.TheVariants.{Done, Rejected, BadWords, BadText, Outside, Limit, ReadFault, WriteFault, Undecided, NoMemory}
+use Rattle.job_inputs.specs.Asked.{Reply, judged, refused_document, refused_query, malformed_line}
+use Rattle.certificate_check.specs.Checking.{IsUnread, IsReply}
+use Rattle.job_inputs.specs.Replies.{reply_answer, check_answer}
+use Rattle.certificate_check.specs.Checked.{Checked}
+use Rattle.job_inputs.specs.declared.verdict.Verdict.{Verdict}
+use Rattle.job_inputs.specs.declared.verdict.Verdict.TheVariants.{Query, Line}
+use Rattle.job_inputs.specs.declared.unread.Unread.{Unread}
+use Rattle.job_inputs.specs.declared.unread.Unread.TheVariants as U
 
 abbrev is_no_memory : Status → Bool
 is_no_memory NoMemory = true
@@ -60,23 +57,3 @@ ended_checked query bytes end a out s verdict unread is gives = by end verdict u
     by (Err (U.Query e)) verdict unread gives = reply_checked query bytes (refused_query e) out s unread gives
     by (Err (U.Line n)) verdict unread gives = reply_checked query bytes (malformed_line n) out s unread gives
     by (Err U.NoMemory) verdict unread gives = no_memory_checked query bytes out s gives
-
--- ---- no fault
-
-message_no_fault : (m : Message) → is_fault (message_answer m).0 ≡ false
-message_no_fault (M.Judged NotEntailed) = refl
-message_no_fault (M.Judged Entailed) = refl
-message_no_fault (M.Judged (Axiom k)) = refl
-message_no_fault (M.Judged Query) = refl
-message_no_fault (M.Judged (Line n)) = refl
-message_no_fault (M.Malformed n) = refl
-message_no_fault (M.Refused place c) = by c.sort
-  where
-    by : (s : Sort) → is_fault (sort_status s) ≡ false
-    by S.BadText = refl
-    by S.Outside = refl
-    by S.Limit = refl
-message_no_fault M.NoMemory = refl
-
-pub reply_no_fault : (m : Message) (s : Status) → s ≡ (message_answer m).0 → is_fault s ≡ false
-reply_no_fault m s is = ap is_fault is ∙ message_no_fault m

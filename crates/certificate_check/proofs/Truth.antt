@@ -10,7 +10,7 @@ use Rattle.refutation_truth.proofs.Entailed.{entailed_by_all}
 use Rattle.certificate_check.specs.Checking.{IsVerdictOn, first_unmet}
 use Rattle.certificate_check.specs.declared.certificate.Certificate.{Certificate}
 use Rattle.certificate_check.specs.declared.certificate.Certificate.TheVariants as C
-use Rattle.certificate_check.specs.declared.judging.Verdict.TheVariants.{NotEntailed, Entailed}
+use Rattle.job_inputs.specs.declared.verdict.Verdict.TheVariants.{NotEntailed, Entailed}
 
 -- where no axiom is the first that is not met, all are met
 all_met : (i : Interpretation) (k : ℕ) (as_ : List Numbered) → first_unmet i k as_ ≡ None → meets_all i (map (λ n. n.axiom) as_) ≡ true

@@ -12,8 +12,8 @@ use Rattle.refutation_tree.specs.Malformed.{malformed_refutation_line}
 use Rattle.refutation_tree.specs.ReadBack.{IsWritable}
 use Rattle.certificate_check.specs.declared.certificate.Certificate.{Certificate}
 use Rattle.certificate_check.specs.declared.certificate.Certificate.TheVariants.{Model, Refutation}
-use Rattle.certificate_check.specs.declared.unread.Unread.{Unread}
-use Rattle.certificate_check.specs.declared.unread.Unread.TheVariants as U
+use Rattle.job_inputs.specs.declared.unread.Unread.{Unread}
+use Rattle.job_inputs.specs.declared.unread.Unread.TheVariants as U
 
 -- its lines: those of the text, but for blank ones in front
 abbrev pub certificate_lines : List ℕ → List (List ℕ)

@@ -7,7 +7,7 @@ use Rattle.shq_meaning.specs.Truth.{Interpretation, meets, refutes_at}
 use Rattle.shq_meaning.specs.Least.{IsFirstBelow}
 use Rattle.ontology_limits.specs.Limits.{IsInLimit}
 use Rattle.finite_model.specs.ModelLists.{ModelLists as Model, meaning}
-use Rattle.refutation_specs.specs.Valid.{concept_at, IsBrokenAt, IsRefutation}
+use Rattle.calculus_specs.specs.Valid.{concept_at, IsBrokenAt, IsRefutation}
 use Rattle.refutation_tree.specs.RefutationLists.{RefutationLists as Refutation}
 use Rattle.refutation_check.specs.Verdicts.{named_theory}
 use Rattle.refutation_check.specs.declared.checking.Verdict.{Verdict as CheckerVerdict}
@@ -16,25 +16,17 @@ use Rattle.ofn_expressions.specs.Counts.{Counts}
 use Rattle.ofn_expressions.specs.declared.refusal.Refusal.{Refusal}
 use Rattle.ofn_reader.specs.DocumentContext.{DocumentContext}
 use Rattle.ofn_reader.specs.Documents.{IsDocument, IsNoDocument}
-use Rattle.ofn_reader.specs.Queries.{IsQuery, IsNoQuery, query_start}
-use Rattle.read_limits.specs.Laws.{with_names}
+use Rattle.text_laws.specs.LimitLaws.{with_names}
 use Rattle.certificate_check.specs.Certificates.{certificate, Fits}
 use Rattle.certificate_check.specs.declared.certificate.Certificate.{Certificate}
 use Rattle.certificate_check.specs.declared.certificate.Certificate.TheVariants as C
 use Rattle.certificate_check.specs.declared.checking.Claim.{Claim}
 use Rattle.certificate_check.specs.declared.checking.Input.{Input}
-use Rattle.certificate_check.specs.declared.judging.Verdict.{Verdict}
-use Rattle.certificate_check.specs.declared.judging.Verdict.TheVariants.{NotEntailed, Entailed, Axiom, Query, Line}
-use Rattle.certificate_check.specs.declared.unread.Unread.{Unread}
-use Rattle.certificate_check.specs.declared.unread.Unread.TheVariants as U
-
--- the text is this query on a document, and they list these counts together
-abbrev pub IsAsked : Listed → DocumentContext → List ℕ → Counts → Asked → Type 0
-IsAsked o kept query counts asked = IsQuery kept.prefixes o.axioms (query_start o kept.nodes) query counts asked
-
--- why the text is no query on a document
-abbrev pub IsNotAsked : Listed → DocumentContext → List ℕ → Refusal → Type 0
-IsNotAsked o kept query e = IsNoQuery kept.prefixes o.axioms (query_start o kept.nodes) query e
+use Rattle.job_inputs.specs.declared.verdict.Verdict.{Verdict}
+use Rattle.job_inputs.specs.declared.verdict.Verdict.TheVariants.{NotEntailed, Entailed, Axiom, Query, Line}
+use Rattle.job_inputs.specs.Asked.{IsAsked, IsNotAsked, Reply, judged, refused_document, refused_query, malformed_line}
+use Rattle.job_inputs.specs.declared.unread.Unread.{Unread}
+use Rattle.job_inputs.specs.declared.unread.Unread.TheVariants as U
 
 -- the query on a document, and the certificate that follows the document, over the names of both
 pub record IsClaim (o : Listed) (kept : DocumentContext) (query rest : List ℕ) (both : Listed) (claim : Claim) : Type 0 where
@@ -98,14 +90,6 @@ IsVerdictOn o q (C.Refutation r) v = IsOfRefutation o q r v
 abbrev pub IsVerdict : Input → Verdict → Type 0
 IsVerdict input v = IsVerdictOn input.ontology input.asked input.certificate v
 
--- What is replied: the verdict on the certificate; why the document, or the query, is refused; or the number of the first
--- malformed line of what should be a certificate.
-pub data Reply : Type 0 where
-  judged : Verdict → Reply
-  refused_document : Refusal → Reply
-  refused_query : Refusal → Reply
-  malformed_line : ℕ → Reply
-
 -- what is replied to a certificate for a query on an ontology, or to lines that are none
 abbrev pub Shows : Listed → Asked → Result Certificate ℕ → Reply → Type 0
 Shows o asked (Ok c) (judged v) = IsVerdictOn o asked c v
@@ -126,22 +110,6 @@ IsUnread query bytes (U.Document e) = IsReply query bytes (refused_document e)
 IsUnread query bytes (U.Query e) = IsReply query bytes (refused_query e)
 IsUnread query bytes (U.Line n) = IsReply query bytes (malformed_line n)
 IsUnread query bytes U.NoMemory = Unit {0}
-
--- why a document is not read, unless memory was refused
-abbrev pub IsUndocumented : List ℕ → Unread → Type 0
-IsUndocumented bytes (U.Document e) = IsNoDocument bytes e
-IsUndocumented bytes U.NoMemory = Unit {0}
-IsUndocumented bytes u = ⊥
-
--- the text is this query on a document, and both list these names together
-abbrev pub IsReadQuery : Listed → DocumentContext → List ℕ → Listed → Asked → Type 0
-IsReadQuery o kept query both asked = (counts : Counts) × IsAsked o kept query counts asked × (both ≡ with_names o counts)
-
--- why a query is not read, unless memory was refused
-abbrev pub IsUnasked : Listed → DocumentContext → List ℕ → Unread → Type 0
-IsUnasked o kept query (U.Query e) = IsNotAsked o kept query e
-IsUnasked o kept query U.NoMemory = Unit {0}
-IsUnasked o kept query u = ⊥
 
 -- the query is read, and the text after the document is this certificate, or none
 pub record IsCertified (o : Listed) (kept : DocumentContext) (query rest : List ℕ) (c : Result Certificate ℕ) : Type 0 where

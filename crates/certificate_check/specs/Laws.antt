@@ -5,7 +5,7 @@ use Rattle.shq_terms.specs.declared.axioms.Query.{Query as Asked}
 use Rattle.shq_meaning.specs.Truth.{Entails}
 use Rattle.certificate_check.specs.Checking.{IsVerdictOn}
 use Rattle.certificate_check.specs.declared.certificate.Certificate.{Certificate}
-use Rattle.certificate_check.specs.declared.judging.Verdict.TheVariants.{NotEntailed, Entailed}
+use Rattle.job_inputs.specs.declared.verdict.Verdict.TheVariants.{NotEntailed, Entailed}
 
 -- a query whose refutation is accepted follows from the axioms; one whose counter-model is accepted does not
 abbrev pub VerdictsAreTrue : Type 0

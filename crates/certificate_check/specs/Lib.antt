@@ -1,6 +1,14 @@
 pub mod Certificates
 pub mod Malformed
 pub mod Checking
-pub mod Unread
-pub mod Replies
+pub mod Checked
 pub mod Laws
+pub use Rattle.refutation_check.specs.Verdicts
+pub use Rattle.job_inputs.specs.Answer
+pub use Rattle.job_inputs.specs.Asked
+pub use Rattle.job_inputs.specs.Questions
+pub use Rattle.job_inputs.specs.Refusals
+pub use Rattle.job_inputs.specs.Replies
+pub use Rattle.job_inputs.specs.declared.status.Status
+pub use Rattle.job_inputs.specs.declared.unread.Unread
+pub use Rattle.job_inputs.specs.declared.verdict.Verdict

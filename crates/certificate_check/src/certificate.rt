@@ -4,9 +4,9 @@ ghost use Rattle.std.specs.List.{prefix_len};
 ghost use Rattle.certificate_lines.specs.Lines.{is_blank};
 ghost use Rattle.certificate_check.specs.Certificates.{is_model_verdict, is_refutation_verdict, model_after, refutation_after, certificate_in, certificate, IsUnreadBy, Fits};
 
-use crate::unread::Unread;
 use certificate_lines::{is_blank, lines};
 use finite_model::Interp;
+use job_inputs::Unread;
 use refutation_tree::Refutation;
 use shq_terms::Ontology;
 use std::alloc::Global;

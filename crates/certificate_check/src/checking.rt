@@ -1,13 +1,12 @@
 // What is verified: a document, a query on it and a certificate.
-ghost use Rattle.std.specs.Prelude.{◌≡◌, ◌≤◌, IfOk, IfErr, OnErr, length};
+ghost use Rattle.std.specs.Prelude.{◌≡◌, ◌≤◌, IfOk, IfErr, length};
 ghost use Rattle.std.specs.Result.{result_map_both};
-ghost use Rattle.ofn_reader.specs.Documents.{IsDocument};
 ghost use Rattle.certificate_check.specs.Certificates.{Fits};
-ghost use Rattle.certificate_check.specs.Checking.{IsInput, CanBeJudged, IsUnread, IsClaim, IsUnclaimed, IsUnasked, IsUndocumented, IsReadQuery, input_with};
+ghost use Rattle.certificate_check.specs.Checking.{IsInput, CanBeJudged, IsUnread, IsClaim, IsUnclaimed, input_with};
 
 use crate::certificate::{Certificate, read_certificate};
-use crate::unread::Unread;
-use ofn_reader::{Context, read_ontology, read_query};
+use job_inputs::{Unread, document, query_on};
+use ofn_reader::Context;
 use shq_terms::{Ontology, Query};
 use std::alloc::Global;
 
@@ -81,45 +80,5 @@ fn claim_of(asked: Query, certificate: Result<Certificate, Unread>) -> Result<Cl
             drop(asked);
             Err(unread)
         }
-    }
-}
-
-/// Reads the document that the bytes begin with, and answers the place after it.
-///
-/// # Errors
-///
-/// `Document` with what is wrong first, and `NoMemory`.
-#[tactic(auto, using(crate::proofs::Stops::document_refused))]
-pub fn document(alloc: Global, bytes: &[u8]) -> Result<(Ontology, Context, usize), Unread>
-    requires { length bytes.now ≤ 4294967293 }
-    ensures document { IfOk result (λ r. IsDocument bytes.now r.0 r.1 r.2) }
-    ensures within { IfOk result (λ r. r.2 ≤ length bytes.now) }
-    ensures refused { IfErr result (IsUndocumented bytes.now) }
-{
-    match read_ontology(alloc, bytes) {
-        Ok(read) => Ok(read),
-        Err(refusal) => Err(Unread::of_document(refusal)),
-    }
-}
-
-/// Reads a query on a document, whose names are listed after those of the document.
-///
-/// # Errors
-///
-/// `Query` with what is wrong first, and `NoMemory`. The ontology is then as before.
-#[tactic(auto, using(crate::proofs::Stops::query_refused))]
-pub fn query_on(
-    alloc: Global,
-    query: &str,
-    ontology: &mut Ontology,
-    context: &Context,
-) -> Result<Query, Unread>
-    ensures query { IfOk result (IsReadQuery ontology.old context.now query.now ontology.new) }
-    ensures refused { IfErr result (IsUnasked ontology.old context.now query.now) }
-    ensures unchanged { OnErr result (ontology.new ≡ ontology.old) }
-{
-    match read_query(alloc, query, ontology, context) {
-        Ok(asked) => Ok(asked),
-        Err(refusal) => Err(Unread::of_query(refusal)),
     }
 }

@@ -9,26 +9,11 @@ use crate::certificate::Certificate;
 use crate::checking::Input;
 use axiom_sets::AxiomSet;
 use finite_model::Interp;
+use job_inputs::Verdict;
 use refutation_check::check;
 use refutation_tree::Refutation;
-use shq_base::NoMemory;
-use shq_terms::{Ontology, Query};
+use shq_terms::{NoMemory, Ontology, Query};
 use std::alloc::Global;
-
-/// What a certificate shows.
-#[derive(Clone, Copy, Debug, PartialEq, Eq)]
-pub enum Verdict {
-    /// Its model meets every axiom and refutes the query.
-    NotEntailed,
-    /// Its refutation is valid.
-    Entailed,
-    /// Its model does not meet the axiom of this number, which is the least.
-    Axiom(u32),
-    /// Its model meets every axiom and does not refute the query.
-    Query,
-    /// Its refutation breaks the rules, first on the line of this number.
-    Line(u64),
-}
 
 /// Judges the certificate.
 ///

@@ -1,7 +1,7 @@
 //! The job `check`: it verifies the certificate for a query that follows a document.
 //!
 //! A certifying program gives with each answer a certificate that can be checked without trust in the program (McConnell,
-//! Mehlhorn, Naeher and Schweitzer, "Certifying algorithms", Computer Science Review 5, 2011). Certificates are finite
+//! Mehlhorn, Näher and Schweitzer, "Certifying algorithms", Computer Science Review 5, 2011). Certificates are finite
 //! counter-models, and refutations. The document and the query are read, then the certificate, and then it is judged.
 #![tactic(auto)]
 
@@ -9,13 +9,11 @@ mod certificate;
 mod checking;
 mod judging;
 mod laws;
-mod message;
-mod unread;
 mod verifying;
 
 pub use certificate::Certificate;
-pub use checking::{document, query_on};
-pub use judging::Verdict;
+pub use job_inputs::{
+    Question, Status, Text, Unread, Verdict, read_document, read_question, unread_reply,
+};
 pub use laws::{malformed_line_is_the_first, verdicts_are_true};
-pub use unread::Unread;
-pub use verifying::{unread_reply, verify};
+pub use verifying::verify;

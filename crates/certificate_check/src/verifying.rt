@@ -1,14 +1,13 @@
 // The verification of a certificate, from its text to the answer.
 ghost use Rattle.std.specs.Prelude.{◌≡◌, ◌≤◌, false, IfOk, IfErr, length};
-ghost use Rattle.job_texts.specs.Answer.{Gives, is_fault, text_bytes};
-ghost use Rattle.certificate_check.specs.Checking.{judged, IsReply, IsUnread};
-ghost use Rattle.certificate_check.specs.Replies.{unread_answer, Checked};
+ghost use Rattle.job_inputs.specs.Answer.{is_fault, text_bytes};
+ghost use Rattle.job_inputs.specs.Asked.{judged};
+ghost use Rattle.certificate_check.specs.Checking.{IsReply, IsUnread};
+ghost use Rattle.certificate_check.specs.Checked.{Checked};
 
 use crate::checking::read_input;
-use crate::judging::{Verdict, judge};
-use crate::message::Message;
-use crate::unread::Unread;
-use job_texts::{Status, Text};
+use crate::judging::judge;
+use job_inputs::{Message, Status, Text, Unread, Verdict};
 use std::alloc::Global;
 
 /// Verifies the certificate that follows the document.
@@ -30,12 +29,4 @@ fn verdict_on(alloc: Global, query: &str, input: &[u8]) -> Result<Verdict, Unrea
     let verdict = judge(alloc, &read);
     drop(read);
     Ok(verdict?)
-}
-
-/// What is answered to an input that is refused, or where memory was refused.
-pub fn unread_reply(alloc: Global, unread: Unread) -> (Status, Text)
-    ensures gives { Gives (unread_answer unread) (text_bytes result.1) result.0 }
-    ensures no_fault { is_fault result.0 ≡ false }
-{
-    Message::of_unread(unread).reply(alloc)
 }

@@ -4,7 +4,7 @@ ghost use Rattle.certificate_lines.specs.Lines.{bytes_of};
 ghost use Rattle.certificate_lines.specs.Malformed.{first_unblank, TellsBlank, clamped_line};
 
 use crate::is_blank;
-use shq_base::NoMemory;
+use shq_terms::NoMemory;
 use std::alloc::AllocFailed;
 use std::error::Error;
 use std::fmt;

@@ -21,7 +21,7 @@ pub use fault::{LineFault, clamped_line, first_unblank};
 pub use laws::{
     iris_are_read_back, lines_are_read_back, numbers_are_read_back, words_are_read_back,
 };
-use shq_base::NoMemory;
+use shq_terms::NoMemory;
 use std::alloc::Global;
 use std::str;
 

@@ -2,11 +2,11 @@
 use Rattle.std.proofs.Common.{◌≡◌, ap, sym, ◌∙◌, subst}
 use Rattle.shq_terms.specs.Listed.{Listed}
 use Rattle.ofn_reader.proofs.Unique.{documents}
-use Rattle.subsumption_rows.specs.Subsumption.{IsSubsumption}
-use Rattle.taxonomy.specs.Taxonomies.{Parthood}
-use Rattle.taxonomy.specs.TaxonomyText.{taxonomy_text}
-use Rattle.taxonomy.specs.Laws.{taxonomy_by}
-use Rattle.taxonomy.proofs.Same.{one_text}
+use Rattle.classifier.specs.Subsumption.{IsSubsumption}
+use Rattle.classification_jobs.specs.Taxonomies.{Parthood}
+use Rattle.classification_jobs.specs.TaxonomyText.{taxonomy_text}
+use Rattle.classification_jobs.specs.TaxonomyLaws.{taxonomy_by}
+use Rattle.classification_jobs.proofs.Same.{one_text}
 use Rattle.classification_jobs.specs.Laws.{AnsweredAlike}
 
 same_text : (o p : Listed) (r s : Parthood) → o ≡ p → IsSubsumption o r → IsSubsumption p s → taxonomy_text o (taxonomy_by o r) ≡ taxonomy_text p (taxonomy_by p s)

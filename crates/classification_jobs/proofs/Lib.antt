@@ -1,1 +1,6 @@
 pub mod Alike
+pub mod Passing
+pub mod Members
+pub mod Lowest
+pub mod Grouped
+pub mod Same

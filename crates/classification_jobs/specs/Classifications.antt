@@ -6,17 +6,17 @@ use Rattle.ofn_reader.specs.DocumentContext.{DocumentContext}
 use Rattle.run_log.specs.declared.entry.Entry.{Entry}
 use Rattle.run_log.specs.HonestLog.{IsClassificationLog}
 use Rattle.run_log.specs.Shown.{ShowsClasses}
-use Rattle.subsumption_rows.specs.Subsumption.{IsSubsumption}
-use Rattle.classification_laws.specs.Classified.{EndsSpent}
-use Rattle.classification_laws.specs.Excluded.{AsksNoExcluded}
-use Rattle.taxonomy.specs.Taxonomies.{Parthood}
-use Rattle.taxonomy.specs.TaxonomyText.{taxonomy_text}
-use Rattle.taxonomy.specs.Laws.{taxonomy_by}
-use Rattle.job_texts.specs.Answer.{line, no_memory, complaint_answer, IsAnswer}
-use Rattle.job_texts.specs.Complaints.{complaint}
-use Rattle.job_texts.specs.declared.complaint.Place.TheVariants.{Document}
-use Rattle.job_texts.specs.declared.status.Status.{Status}
-use Rattle.job_texts.specs.declared.status.Status.TheVariants.{Done, Undecided, NoMemory}
+use Rattle.classifier.specs.Subsumption.{IsSubsumption}
+use Rattle.classifier.specs.ClassificationClassified.{EndsSpent}
+use Rattle.classifier.specs.Excluded.{AsksNoExcluded}
+use Rattle.classification_jobs.specs.Taxonomies.{Parthood}
+use Rattle.classification_jobs.specs.TaxonomyText.{taxonomy_text}
+use Rattle.classification_jobs.specs.TaxonomyLaws.{taxonomy_by}
+use Rattle.job_inputs.specs.Answer.{line, no_memory, complaint_answer, IsAnswer}
+use Rattle.job_inputs.specs.Complaints.{complaint}
+use Rattle.job_inputs.specs.declared.complaint.Place.TheVariants.{Document}
+use Rattle.job_inputs.specs.declared.status.Status.{Status}
+use Rattle.job_inputs.specs.declared.status.Status.TheVariants.{Done, Undecided, NoMemory}
 use Rattle.job_inputs.specs.Questions.{IsDocumentAlone, IsNotAlone}
 
 -- ---- answers on an ontology

@@ -1,7 +1,7 @@
 -- What follows of answers.
 use Rattle.std.specs.Prelude.{◌≡◌, ℕ, List}
 use Rattle.run_log.specs.declared.entry.Entry.{Entry}
-use Rattle.job_texts.specs.declared.status.Status.TheVariants.{Done}
+use Rattle.job_inputs.specs.declared.status.Status.TheVariants.{Done}
 use Rattle.classification_jobs.specs.Classifications.{AnswersClassification}
 
 -- two answers to the same bytes that are done are the same text

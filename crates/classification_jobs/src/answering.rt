@@ -1,18 +1,14 @@
 // From the bytes of a document to the answer.
 ghost use Rattle.std.specs.Prelude.{◌≡◌, ◌≤◌, false, [], IfOk, IfErr, length};
 ghost use Rattle.ontology_limits.specs.Limits.{IsOntologyInLimit};
-ghost use Rattle.job_texts.specs.Answer.{text_bytes, is_fault};
+ghost use Rattle.job_inputs.specs.Answer.{text_bytes, is_fault};
 ghost use Rattle.classification_jobs.specs.Classifications.{AnswersClassification};
 ghost use Rattle.classification_jobs.specs.Answering.{IsAnswered, IsAnsweredOn, IsUnanswered};
 
 use crate::deciding::{relation_of, text_of};
-use certificate_check::{Unread, unread_reply};
-use classifier::Stop;
-use job_inputs::read_document;
-use job_texts::{Status, Text};
-use shq_base::NoMemory;
-use shq_oracle::RunLog;
-use shq_terms::Ontology;
+use classifier::{RunLog, Stop};
+use job_inputs::{Status, Text, Unread, read_document, unread_reply};
+use shq_terms::{NoMemory, Ontology};
 use std::alloc::Global;
 
 /// The taxonomy of the document that the bytes are: the status and the text of the answer. The log gets what was asked.

@@ -2,22 +2,20 @@
 ghost use Rattle.std.specs.Prelude.{◌≡◌, [], IfOk, IfErr, length};
 ghost use Rattle.ontology_limits.specs.Limits.{IsOntologyInLimit};
 ghost use Rattle.run_log.specs.HonestLog.{IsClassificationLog};
-ghost use Rattle.subsumption_rows.specs.Rows.{holds};
-ghost use Rattle.classification_laws.specs.Classified.{IsClassified};
-ghost use Rattle.classification_laws.specs.Excluded.{AsksNoExcluded};
+ghost use Rattle.classifier.specs.Rows.{holds};
+ghost use Rattle.classifier.specs.ClassificationClassified.{IsClassified};
+ghost use Rattle.classifier.specs.Excluded.{AsksNoExcluded};
 ghost use Rattle.classifier.specs.Classified.{IsStop};
-ghost use Rattle.taxonomy.specs.Taxonomies.{taxonomy_of};
-ghost use Rattle.taxonomy.specs.TaxonomyText.{taxonomy_text};
-ghost use Rattle.job_texts.specs.Answer.{text_bytes};
+ghost use Rattle.classification_jobs.specs.Taxonomies.{taxonomy_of};
+ghost use Rattle.classification_jobs.specs.TaxonomyText.{taxonomy_text};
+ghost use Rattle.job_inputs.specs.Answer.{text_bytes};
 
-use classifier::{Relation, Stop, classify};
-use job_texts::Text;
-use shq_base::NoMemory;
-use shq_oracle::{Oracle, RunLog};
-use shq_terms::Ontology;
+use crate::Taxonomy;
+use classifier::{Oracle, Relation, RunLog, Stop, classify};
+use job_inputs::Text;
+use shq_terms::{NoMemory, Ontology};
 use std::alloc::Global;
 use std::mem;
-use taxonomy::Taxonomy;
 
 /// Which class of the ontology is part of which, within a budget of steps.
 ///

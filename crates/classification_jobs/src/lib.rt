@@ -4,11 +4,22 @@
 //! the log, and each line of the taxonomy follows from it: so a reader of the log has no need to trust the order in which the
 //! questions were chosen (Glimm, Horrocks, Motik, Shearer and Stoilos, "A novel approach to ontology classification", Journal of
 //! Web Semantics 14, 2012, give such an order).
+//!
+//! A [`Taxonomy`] says the relation in short: groups of equal classes, each with the groups directly above it.
 #![tactic(auto)]
 
 mod answering;
+mod class_sets;
 mod deciding;
+mod grouping;
+mod groups;
 mod laws;
+mod taxonomy_laws;
+mod taxonomy_text;
 
 pub use answering::classify;
+pub use groups::{Group, Hierarchy, Taxonomy};
+pub use job_inputs::{Question, Status, Text};
 pub use laws::taxonomies_are_answered_alike;
+pub use shq_terms::NoMemory;
+pub use taxonomy_laws::taxonomies_are_unique;

@@ -12,20 +12,20 @@ use Rattle.run_log.specs.Entries.{spent_of, is_spent, ended_spent, IsAnswered}
 use Rattle.run_log.specs.HonestLog.{IsWhole, IsHonestEntry, IsClassificationLog}
 use Rattle.run_log.specs.HonestLog.IsChain.{none}
 use Rattle.shq_oracle.specs.OracleLists.{OracleLists}
-use Rattle.subsumption_rows.specs.Matrices.{has, IsMatrix, Adds}
-use Rattle.subsumption_rows.specs.Rows.{Rows, holds, Relates}
-use Rattle.subsumption_rows.specs.Subsumption.{class_at, query_at}
+use Rattle.classifier.specs.Matrices.{has, IsMatrix, Adds}
+use Rattle.classifier.specs.Rows.{Rows, holds, Relates}
+use Rattle.classifier.specs.Subsumption.{class_at, query_at}
 use Rattle.classifier.specs.declared.progress.Progress.{Progress}
 use Rattle.classifier.specs.declared.stop.Stop.TheVariants as stop
 use Rattle.classifier.specs.declared.testing.Verdict.{Verdict}
 use Rattle.classifier.specs.declared.testing.Verdict.TheVariants.{Yes, No, Spent}
 use Rattle.classifier.specs.Tests.{EndsAs, IsTested, AreAlike}
-use Rattle.classification_laws.specs.Excluded.{AsksNoExcluded}
-use Rattle.classification_laws.specs.Mirrors.{Mirrors, passed_up, passed_on}
+use Rattle.classifier.specs.Excluded.{AsksNoExcluded}
+use Rattle.classifier.specs.Mirrors.{Mirrors, passed_up, passed_on}
 use Rattle.classifier.specs.Progress.{IsGoing, HasStopped, Advances, is_settled}
-use Rattle.classification_laws.proofs.InLimit.{query_in_limit}
-use Rattle.classification_laws.proofs.Logged.{unanswered, one_more, asks_no_excluded, goes_on}
-use Rattle.classification_laws.proofs.Mirrored.{mirrors_no, mirrors_yes}
+use Rattle.classifier.proofs.InLimit.{query_in_limit}
+use Rattle.classifier.proofs.Logged.{unanswered, one_more, asks_no_excluded, goes_on}
+use Rattle.classifier.proofs.Mirrored.{mirrors_no, mirrors_yes}
 
 -- a log that is as it was is honest as it was
 pub stopped_as_before : (before after : OracleLists) (p : Progress) → IsGoing before p → AreAlike before after → after.log ≡ before.log → HasStopped after stop.NoMemory

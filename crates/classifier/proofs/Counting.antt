@@ -2,7 +2,7 @@
 use Rattle.std.proofs.Common.{◌≡◌, ℕ, ◌+◌, ◌<◌, ◌≤◌, not, true, false, sym, subst, arith}
 use Rattle.std.proofs.lemmas.Bool.{not-true, not_from_true, not_from_false, false_from_ne_true}
 use Rattle.shq_meaning.specs.Below.{count_below}
-use Rattle.trail_laws.proofs.Counting.{count_more}
+use Rattle.shq_oracle.proofs.Counting.{count_more}
 use Rattle.classifier.specs.declared.progress.Progress.{Progress}
 use Rattle.classifier.specs.Progress.{is_settled, StaysSettled}
 

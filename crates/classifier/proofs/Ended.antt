@@ -2,9 +2,9 @@
 use Rattle.std.proofs.Common.{◌≡◌, ℕ, ◌+◌, ◌<◌, subst, arith}
 use Rattle.shq_terms.specs.Listed.{Listed}
 use Rattle.shq_oracle.specs.OracleLists.{OracleLists}
-use Rattle.subsumption_rows.specs.Rows.{Rows}
-use Rattle.classification_laws.specs.Classified.{IsClassified}
-use Rattle.classification_laws.proofs.Settled.{is_classified}
+use Rattle.classifier.specs.Rows.{Rows}
+use Rattle.classifier.specs.ClassificationClassified.{IsClassified}
+use Rattle.classifier.proofs.Settled.{is_classified}
 use Rattle.classifier.specs.declared.progress.Progress.{Progress}
 use Rattle.classifier.specs.Progress.{IsGoing, IsDone}
 

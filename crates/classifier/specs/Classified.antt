@@ -1,7 +1,7 @@
 -- How a classification stops before its end.
 use Rattle.std.specs.Prelude.{ℕ, List}
 use Rattle.run_log.specs.declared.entry.Entry.{Entry}
-use Rattle.classification_laws.specs.Classified.{EndsSpent}
+use Rattle.classifier.specs.ClassificationClassified.{EndsSpent}
 use Rattle.classifier.specs.declared.stop.Stop.{Stop}
 use Rattle.classifier.specs.declared.stop.Stop.TheVariants.{NoMemory, Spent}
 

@@ -2,3 +2,11 @@ pub mod Classified
 pub mod Tests
 pub mod Progress
 pub mod Told
+pub mod Matrices
+pub mod Rows
+pub mod Subsumption
+pub mod RelationLaws
+pub mod ClassificationClassified
+pub mod Excluded
+pub mod Mirrors
+pub mod ClassificationLaws

@@ -7,10 +7,10 @@ use Rattle.ontology_limits.specs.Limits.{IsOntologyInLimit}
 use Rattle.run_log.specs.Entries.{is_spent}
 use Rattle.run_log.specs.HonestLog.{IsWhole, IsClassificationLog}
 use Rattle.shq_oracle.specs.OracleLists.{OracleLists}
-use Rattle.subsumption_rows.specs.Matrices.{has}
-use Rattle.subsumption_rows.specs.Rows.{holds}
-use Rattle.classification_laws.specs.Excluded.{AsksNoExcluded}
-use Rattle.classification_laws.specs.Mirrors.{Mirrors}
+use Rattle.classifier.specs.Matrices.{has}
+use Rattle.classifier.specs.Rows.{holds}
+use Rattle.classifier.specs.Excluded.{AsksNoExcluded}
+use Rattle.classifier.specs.Mirrors.{Mirrors}
 use Rattle.classifier.specs.declared.progress.Progress.{Progress}
 use Rattle.classifier.specs.declared.stop.Stop.{Stop}
 use Rattle.classifier.specs.Classified.{IsStop}

@@ -15,9 +15,9 @@ use Rattle.classifier.specs.declared.testing.Verdict.TheVariants.{Yes, No, Spent
 
 -- an answer without its evidence
 abbrev pub verdict_of : Answer → Verdict
-verdict_of (A.Refuted r) = Yes
-verdict_of (A.Model m) = No
-verdict_of A.Spent = Spent
+verdict_of (A.Entailed r) = Yes
+verdict_of (A.NotEntailed m) = No
+verdict_of A.Undecided = Spent
 
 -- a test ended so
 abbrev pub EndsAs : Verdict → TestEnd → Type 0

@@ -2,17 +2,17 @@
 ghost use Rattle.std.specs.Prelude.{◌≡◌, [], IfOk, IfErr};
 ghost use Rattle.ontology_limits.specs.Limits.{IsOntologyInLimit};
 ghost use Rattle.run_log.specs.HonestLog.{IsClassificationLog};
-ghost use Rattle.classification_laws.specs.Classified.{IsClassified};
-ghost use Rattle.classification_laws.specs.Excluded.{AsksNoExcluded};
+ghost use Rattle.classifier.specs.ClassificationClassified.{IsClassified};
+ghost use Rattle.classifier.specs.Excluded.{AsksNoExcluded};
 ghost use Rattle.classifier.specs.Classified.{IsStop};
 
+use crate::Relation;
 use crate::progress::Progress;
 use crate::stop::Stop;
 use crate::told::Told;
 use shq_oracle::Oracle;
 use shq_terms::Ontology;
 use std::alloc::Global;
-use subsumption_rows::Relation;
 
 /// Which class of the ontology is part of which, by all of its axioms (OWL 2 Direct Semantics, section 2.5), where the oracle
 /// is one for this ontology that was asked nothing yet. The log shows each pair. Nothing is asked whose answer follows from the

@@ -2,8 +2,8 @@
 ghost use Rattle.std.specs.Prelude.{◌≡◌, ◌+◌, ◌<◌, IfSome, IsNone, IsTrue};
 ghost use Rattle.classifier.specs.Progress.{IsOneOf};
 
+use crate::Relation;
 use axiom_sets::AxiomSet;
-use subsumption_rows::Relation;
 
 /// One of the classes, whose numbers are greater by one in the set, such that none of the others is known to be above it unless
 /// both are equal; none where there are no classes.

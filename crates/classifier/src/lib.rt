@@ -9,15 +9,26 @@
 //!
 //! The order of the questions is no part of any contract. What is promised is the relation itself, that the log of the oracle
 //! shows each of its pairs, and that no question was asked whose answer followed from the answers before.
+//!
+//! What is known is kept as one row of bits for each class ([`Relation`]); `classification_laws` say what tests settle.
 #![tactic(auto)]
 
+mod classification_laws;
 mod classifying;
 mod finding;
+mod matrix;
 mod progress;
+mod relation;
+mod relation_laws;
 mod stop;
 mod testing;
 mod told;
 
+pub use classification_laws::{exclusions_are_true, questions_are_in_limit, settled_is_classified};
 pub use classifying::classify;
+pub use matrix::BitMatrix;
+pub use relation::Relation;
+pub use relation_laws::{first_is_order, relating_keeps_order, subsumption_is_one};
+pub use shq_oracle::{Oracle, RunLog};
+pub use shq_terms::NoMemory;
 pub use stop::Stop;
-pub use subsumption_rows::Relation;

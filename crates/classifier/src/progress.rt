@@ -4,20 +4,19 @@ ghost use Rattle.std.specs.FinSet as set;
 ghost use Rattle.axiom_sets.specs.Sets.{IsFull};
 ghost use Rattle.ontology_limits.specs.Limits.{IsOntologyInLimit};
 ghost use Rattle.run_log.specs.HonestLog.{IsWhole};
-ghost use Rattle.subsumption_rows.specs.Matrices.{has, IsMatrix, Adds};
-ghost use Rattle.subsumption_rows.specs.Rows.{holds, IsAtFirst, Relates};
+ghost use Rattle.classifier.specs.Matrices.{has, IsMatrix, Adds};
+ghost use Rattle.classifier.specs.Rows.{holds, IsAtFirst, Relates};
 ghost use Rattle.classifier.specs.Tests.{AreAlike};
 
 use crate::finding::most_general;
 use crate::stop::Stop;
 use crate::testing::{Verdict, test};
 use crate::told::Inclusion;
+use crate::{BitMatrix, Relation};
 use axiom_sets::AxiomSet;
-use shq_base::NoMemory;
 use shq_oracle::Oracle;
-use shq_terms::Ontology;
+use shq_terms::{NoMemory, Ontology};
 use std::alloc::Global;
-use subsumption_rows::{BitMatrix, Relation};
 
 /// The pairs of classes that are settled: those of which it is known that the one is part of the other, and those of which this
 /// is ruled out. Beside them are the set of all axioms and that of all class numbers, each greater by one.
@@ -30,7 +29,7 @@ pub(crate) struct Progress {
 }
 
 impl Progress {
-    ghost use Rattle.classification_laws.specs.Mirrors.{Mirrors, passed_on};
+    ghost use Rattle.classifier.specs.Mirrors.{Mirrors, passed_on};
     ghost use Rattle.classifier.specs.Progress.{IsGoing, HasStopped, Advances, is_settled, IsDone, IsOpenAt};
     ghost use Rattle.classifier.specs.Told.{AreOf};
 

@@ -1,6 +1,6 @@
 // Why a classification stopped before its end.
 
-use shq_base::NoMemory;
+use shq_terms::NoMemory;
 
 /// Why a classification stopped before each pair of classes was settled.
 #[derive(Clone, Copy, Debug, PartialEq, Eq)]

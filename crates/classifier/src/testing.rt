@@ -3,13 +3,12 @@ ghost use Rattle.std.specs.Prelude.{◌≡◌, ◌+◌, ◌<◌, ◌≤◌, fals
 ghost use Rattle.std.specs.List.{list_any};
 ghost use Rattle.ontology_limits.specs.Limits.{IsInLimit};
 ghost use Rattle.run_log.specs.Entries.{spent_of, is_spent, IsAnswered};
-ghost use Rattle.subsumption_rows.specs.Subsumption.{class_at, query_at};
+ghost use Rattle.classifier.specs.Subsumption.{class_at, query_at};
 ghost use Rattle.classifier.specs.Tests.{verdict_of, IsTested, AreAlike};
 
 use axiom_sets::AxiomSet;
-use shq_base::NoMemory;
 use shq_oracle::{Answer, Oracle};
-use shq_terms::{Concept, MAX_CLASSES, Node, Query};
+use shq_terms::{Concept, MAX_CLASSES, NoMemory, Node, Query};
 
 /// What a test found.
 #[derive(Clone, Copy)]
@@ -68,15 +67,15 @@ fn verdict_of(answer: Answer) -> Verdict
     ensures { result ≡ verdict_of answer }
 {
     match answer {
-        Answer::Refuted(refutation) => {
+        Answer::Entailed(refutation) => {
             drop(refutation);
             Verdict::Yes
         }
-        Answer::Model(model) => {
+        Answer::NotEntailed(model) => {
             drop(model);
             Verdict::No
         }
-        Answer::Spent => Verdict::Spent,
+        Answer::Undecided => Verdict::Spent,
     }
 }
 

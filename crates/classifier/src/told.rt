@@ -2,8 +2,7 @@
 ghost use Rattle.std.specs.Prelude.{◌≡◌, length, IfOk};
 ghost use Rattle.classifier.specs.Told.{AreOf};
 
-use shq_base::NoMemory;
-use shq_terms::{Axiom, Concept, Node, Ontology};
+use shq_terms::{Axiom, Concept, NoMemory, Node, Ontology};
 use std::alloc::Global;
 
 /// An axiom says that the one class is part of the other.

@@ -4,3 +4,7 @@ pub mod SameTheory
 pub mod Listed
 pub mod Nodes
 pub mod Refuted
+pub mod Places
+pub mod Trees
+pub mod Names
+pub mod Made

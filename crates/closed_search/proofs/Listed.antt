@@ -5,22 +5,22 @@ use Rattle.std.proofs.Math.Numerals.{add-one}
 use Rattle.std.proofs.lemmas.Bool.{and_parts, and_from}
 use Rattle.std.proofs.lemmas.List.Elements.{All-from_get_or}
 use Rattle.std.proofs.lemmas.List.Sums.{list_all-from_AllPass}
-use Rattle.shq_base.specs.Concept.{Concept, top, parts_of}
+use Rattle.shq_terms.specs.Concept.{Concept, top, parts_of}
 use Rattle.shq_terms.specs.Listed.{Listed}
 use Rattle.shq_terms.specs.Uses.{uses_listed, parts_use_listed}
-use Rattle.shape_specs.specs.Shape.{Shape, shape_of, IsTable}
-use Rattle.shape_specs.specs.Shape.Shape.{top as top_shape, bottom as bottom_shape, name as name_shape, not_name, intersection as and_shape, union as or_shape, some_of as some_shape, all_of as all_shape, at_least as least_shape, at_most as most_shape}
-use Rattle.shape_specs.specs.Tree.{tree_over, trees_of}
-use Rattle.shape_specs.proofs.Unique.{tree_of_shape}
-use Rattle.refutation_specs.specs.Line.{Line}
-use Rattle.refutation_specs.specs.Line.Line.{start_line, and_line, or_line, all_line, carry_line, row_line, range_line, some_line, least_line, choose_line, pair_line, bottom_line, clash_line, most_line}
+use Rattle.calculus_specs.specs.Shape.{Shape, shape_of, IsTable}
+use Rattle.calculus_specs.specs.Shape.Shape.{top as top_shape, bottom as bottom_shape, name as name_shape, not_name, intersection as and_shape, union as or_shape, some_of as some_shape, all_of as all_shape, at_least as least_shape, at_most as most_shape}
+use Rattle.calculus_specs.specs.Tree.{tree_over, trees_of}
+use Rattle.calculus_specs.proofs.Unique.{tree_of_shape}
+use Rattle.calculus_specs.specs.Line.{Line}
+use Rattle.calculus_specs.specs.Line.Line.{start_line, and_line, or_line, all_line, carry_line, row_line, range_line, some_line, least_line, choose_line, pair_line, bottom_line, clash_line, most_line}
 use Rattle.refutation_tree.specs.Shapes.{shape_at, part_numbers, AreShapes}
 use Rattle.refutation_tree.specs.RuleLine.{concept_numbers}
 use Rattle.refutation_tree.specs.Written.{shape_is_listed, line_is_listed}
 use Rattle.refutation_tree.proofs.Normal.{shapes_are_normal}
-use Rattle.closing_specs.specs.Renumbered.{renumbered}
-use Rattle.numbered_refutation.specs.Naming.{HasParts}
-use Rattle.numbered_refutation.specs.Finished.{are_of_kind, IsOfKind}
+use Rattle.search_trace.specs.Renumbered.{renumbered}
+use Rattle.closed_search.specs.Naming.{HasParts}
+use Rattle.closed_search.specs.Finished.{are_of_kind, IsOfKind}
 use Rattle.closed_search.specs.Refuted.{concept_is_listed, uses_names}
 
 module _ (o : Listed) where

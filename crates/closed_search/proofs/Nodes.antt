@@ -3,15 +3,15 @@ use Rattle.std.proofs.Common.{◌≡◌, ℕ, ◌+◌, eqb, Bool, true, false, c
 use Rattle.std.specs.List.{list_all}
 use Rattle.std.specs.Option.{option_and_then, option_map}
 use Rattle.std.proofs.lemmas.Bool.{ne_eqb, and_from, and_parts}
-use Rattle.shq_base.specs.Concept.{Concept, top, bottom, name, complement, intersection, union, some_of, all_of, at_least, at_most, exactly}
-use Rattle.shape_specs.specs.Rows.{Theory}
-use Rattle.refutation_specs.specs.Line.{Line}
-use Rattle.refutation_specs.specs.Line.Line.{start_line, and_line, or_line, all_line, carry_line, row_line, range_line, some_line, least_line, choose_line, pair_line, bottom_line, clash_line, most_line}
+use Rattle.shq_terms.specs.Concept.{Concept, top, bottom, name, complement, intersection, union, some_of, all_of, at_least, at_most, exactly}
+use Rattle.calculus_specs.specs.Rows.{Theory}
+use Rattle.calculus_specs.specs.Line.{Line}
+use Rattle.calculus_specs.specs.Line.Line.{start_line, and_line, or_line, all_line, carry_line, row_line, range_line, some_line, least_line, choose_line, pair_line, bottom_line, clash_line, most_line}
 use Rattle.refutation_tree.specs.ReadBack.{has_nodes}
-use Rattle.closing_specs.specs.Premises.{most_rule, rule_of}
-use Rattle.closing_specs.specs.Leaves.{leaves}
-use Rattle.closing_specs.specs.Noted.{Noted, NotedLine, noted_by, noted_children}
-use Rattle.closing_specs.specs.Renumbered.{renumbered}
+use Rattle.search_trace.specs.Premises.{most_rule, rule_of}
+use Rattle.search_trace.specs.Leaves.{leaves}
+use Rattle.search_trace.specs.Noted.{Noted, NotedLine, noted_by, noted_children}
+use Rattle.search_trace.specs.Renumbered.{renumbered}
 
 when_none : {A : Type 0} → (b : Bool) (o : Option A) → b ≡ false → cond b o None ≡ None
 when_none b o h = ap (λ (c : Bool). cond c o None) h

@@ -4,28 +4,28 @@ use Rattle.std.specs.List.{list_any, list_all}
 use Rattle.std.specs.FinSet as sets
 use Rattle.std.proofs.lemmas.Bool.{and_parts, and_from}
 use Rattle.std.proofs.lemmas.List.Elements.{All-tail}
-use Rattle.shq_base.specs.Concept.{Concept}
+use Rattle.shq_terms.specs.Concept.{Concept}
 use Rattle.lane_sieve.specs.Sets.{IsPart}
 use Rattle.axiom_sets.specs.Sets.{Limited, IsWithin, member_list}
 use Rattle.shq_terms.specs.declared.axioms.Numbered.{Numbered}
 use Rattle.shq_terms.specs.Listed.{Listed}
-use Rattle.shape_specs.specs.Shape.{Shape, IsTable}
-use Rattle.refutation_specs.specs.Line.{Line}
-use Rattle.refutation_specs.specs.Line.Line.{start_line, and_line, or_line, all_line, carry_line, row_line, range_line, some_line, least_line, choose_line, pair_line, bottom_line, clash_line, most_line}
-use Rattle.refutation_specs.specs.Rules.{nothing_known}
-use Rattle.refutation_specs.specs.Valid.{concept_at, IsRefutation}
-use Rattle.refutation_specs.proofs.Stack.{refutation_runs, run_refutes}
+use Rattle.calculus_specs.specs.Shape.{Shape, IsTable}
+use Rattle.calculus_specs.specs.Line.{Line}
+use Rattle.calculus_specs.specs.Line.Line.{start_line, and_line, or_line, all_line, carry_line, row_line, range_line, some_line, least_line, choose_line, pair_line, bottom_line, clash_line, most_line}
+use Rattle.calculus_specs.specs.Rules.{nothing_known}
+use Rattle.calculus_specs.specs.Valid.{concept_at, IsRefutation}
+use Rattle.calculus_specs.proofs.Stack.{refutation_runs, run_refutes}
 use Rattle.refutation_truth.specs.Theory.{theory_of}
 use Rattle.refutation_tree.specs.RefutationLists.{RefutationLists, IsKept}
 use Rattle.refutation_tree.specs.ReadBack.{has_nodes, is_small}
 use Rattle.refutation_tree.specs.Written.{shape_is_listed, line_is_listed, names_are_listed}
 use Rattle.tableau_specs.specs.Lines.{concept_in}
-use Rattle.closing_specs.specs.Leaves.{leaves}
-use Rattle.closing_specs.specs.Noted.{NotedLine, noted_children, noted_start}
-use Rattle.closing_specs.specs.Renumbered.{renumbered, Reads}
-use Rattle.closing_specs.proofs.Plain.{refutes}
-use Rattle.closing_specs.proofs.Named.{same_run}
-use Rattle.numbered_refutation.specs.Finished.{IsNumbered}
+use Rattle.search_trace.specs.Leaves.{leaves}
+use Rattle.search_trace.specs.Noted.{NotedLine, noted_children, noted_start}
+use Rattle.search_trace.specs.Renumbered.{renumbered, Reads}
+use Rattle.search_trace.proofs.Plain.{refutes}
+use Rattle.search_trace.proofs.Named.{same_run}
+use Rattle.closed_search.specs.Finished.{IsNumbered}
 use Rattle.search_trace.specs.Trace.{TraceLists, lines_in}
 use Rattle.closed_search.specs.Refuted.{concept_is_listed, uses_names, CloseAll, IsWrittenRefutation}
 use Rattle.closed_search.specs.Named.{uses_axiom, is_role_number, names_axiom, NamesAxioms}

@@ -11,7 +11,7 @@ use Rattle.axiom_sets.specs.Sets.{Limited, member_list}
 use Rattle.shq_terms.specs.declared.axioms.Axiom.{Axiom}
 use Rattle.shq_terms.specs.declared.axioms.Axiom.TheVariants.{SubClassOf, EquivalentClasses, DisjointClasses, DisjointUnion, SubRole, EquivalentRoles, Domain, Range, Functional, Transitive}
 use Rattle.shq_terms.specs.declared.axioms.Numbered.{Numbered}
-use Rattle.shape_specs.specs.Rows.{Theory, is_among, part_at}
+use Rattle.calculus_specs.specs.Rows.{Theory, is_among, part_at}
 use Rattle.shq_nnf.specs.Meeting.{is_role_axiom}
 use Rattle.shq_nnf.specs.Parts.{part_in}
 use Rattle.role_box.specs.RoleAxioms.{role_part, role_part_at, role_axioms}
@@ -20,9 +20,9 @@ use Rattle.role_box.specs.Steps.{is_transitive}
 use Rattle.role_box.specs.Paths.{is_below}
 use Rattle.refutation_truth.specs.Theory.{theory_of, parts_at}
 use Rattle.refutation_truth.proofs.Numbered.{numbered}
-use Rattle.refutation_specs.specs.Line.{Line}
-use Rattle.refutation_specs.specs.Line.Line.{start_line, and_line, or_line, all_line, carry_line, row_line, range_line, some_line, least_line, choose_line, pair_line, bottom_line, clash_line, most_line}
-use Rattle.closing_specs.specs.Named.{HaveSameRoles, HaveSamePart}
+use Rattle.calculus_specs.specs.Line.{Line}
+use Rattle.calculus_specs.specs.Line.Line.{start_line, and_line, or_line, all_line, carry_line, row_line, range_line, some_line, least_line, choose_line, pair_line, bottom_line, clash_line, most_line}
+use Rattle.search_trace.specs.Named.{HaveSameRoles, HaveSamePart}
 use Rattle.closed_search.specs.Named.{says_of_roles, is_role_number, uses_axiom, NamesAxioms}
 
 -- ---- roles

@@ -6,8 +6,8 @@ use Rattle.lane_sieve.specs.Sets.{NumberSet}
 use Rattle.axiom_sets.specs.Sets.{Limited}
 use Rattle.shq_terms.specs.declared.axioms.Numbered.{Numbered}
 use Rattle.shq_nnf.specs.Meeting.{is_role_axiom}
-use Rattle.refutation_specs.specs.Line.{Line}
-use Rattle.refutation_specs.specs.Line.Line.{row_line, range_line}
+use Rattle.calculus_specs.specs.Line.{Line}
+use Rattle.calculus_specs.specs.Line.Line.{row_line, range_line}
 
 -- the axiom that stands in a line
 abbrev pub axiom_of : Line → Option ℕ

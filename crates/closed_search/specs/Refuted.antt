@@ -1,22 +1,22 @@
 -- The refutation of a search whose lines close everything.
 use Rattle.std.specs.Prelude.{◌≡◌, ℕ, ◌&&◌, Bool, List, [], ◌∷◌, length, Some}
 use Rattle.std.specs.List.{list_all}
-use Rattle.shq_base.specs.Concept.{Concept}
+use Rattle.shq_terms.specs.Concept.{Concept}
 use Rattle.axiom_sets.specs.Sets.{Limited, member_list}
 use Rattle.shq_terms.specs.Listed.{Listed}
 use Rattle.shq_terms.specs.Uses.{uses_listed}
-use Rattle.shape_specs.specs.Shape.{Shape}
-use Rattle.shape_specs.specs.Tree.{tree_of}
-use Rattle.refutation_specs.specs.Line.{Line}
-use Rattle.refutation_specs.specs.Valid.{IsRefutation}
+use Rattle.calculus_specs.specs.Shape.{Shape}
+use Rattle.calculus_specs.specs.Tree.{tree_of}
+use Rattle.calculus_specs.specs.Line.{Line}
+use Rattle.calculus_specs.specs.Valid.{IsRefutation}
 use Rattle.refutation_truth.specs.Theory.{theory_of}
 use Rattle.refutation_tree.specs.RefutationLists.{RefutationLists}
 use Rattle.refutation_tree.specs.RuleLine.{concept_numbers}
 use Rattle.refutation_tree.specs.Written.{line_is_listed}
 use Rattle.refutation_tree.specs.ReadBack.{IsWritable}
-use Rattle.closing_specs.specs.Leaves.{leaves}
-use Rattle.closing_specs.specs.Noted.{NotedLine, noted_start}
-use Rattle.closing_specs.specs.Back.{step_of}
+use Rattle.search_trace.specs.Leaves.{leaves}
+use Rattle.search_trace.specs.Noted.{NotedLine, noted_start}
+use Rattle.search_trace.specs.Back.{step_of}
 
 -- whether the names of a concept of the table are listed
 abbrev pub concept_is_listed : Listed → List Shape → ℕ → Bool

@@ -1,19 +1,18 @@
 // From a trace that is closed to its refutation.
 ghost use Rattle.std.specs.Prelude.{◌≡◌, true, IsTrue, IfOk, length};
 ghost use Rattle.std.specs.List.{list_all};
-ghost use Rattle.shq_base.specs.Concept.{Concept};
+ghost use Rattle.shq_terms.specs.Concept.{Concept};
 ghost use Rattle.lane_sieve.specs.Sets.{IsPart};
 ghost use Rattle.refutation_tree.specs.Written.{names_are_listed};
-ghost use Rattle.numbered_refutation.specs.Finished.{are_over};
+ghost use Rattle.closed_search.specs.Finished.{are_over};
 ghost use Rattle.search_trace.specs.Trace.{lines_in};
 ghost use Rattle.closed_search.specs.Named.{NamesAxioms};
 ghost use Rattle.closed_search.specs.Refuted.{uses_names, CloseAll, IsWrittenRefutation};
 
 use crate::naming::axioms_named;
 use crate::small::show_small;
-use crate::{NoMemory, Refutation, Trace};
+use crate::{NoMemory, Refutation, Trace, numbered_refutation};
 use axiom_sets::AxiomSet;
-use numbered_refutation::numbered_refutation;
 use shq_nnf::Concepts;
 use shq_terms::Ontology;
 use std::alloc::Global;

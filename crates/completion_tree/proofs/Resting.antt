@@ -6,18 +6,18 @@ use Rattle.std.specs.Cmp.{nat_cmp_total}
 use Rattle.std.proofs.lemmas.List.{take_more}
 use Rattle.std.specs.FinSet as set
 use Rattle.std.proofs.lemmas.Bool.{cases_Bool, cases_eq, eqb-true, eq-eqb, ne_eqb, and_parts, or_cases, or_left, or_right, and_from}
-use Rattle.shq_base.proofs.Bools.{or_weaker}
+use Rattle.calculus_specs.proofs.Bools.{or_weaker}
 use Rattle.lane_sieve.specs.Sets.{NumberSet}
-use Rattle.fact_specs.specs.declared.Fact.{Fact}
-use Rattle.fact_specs.specs.declared.Fact.TheVariants.{Has, Edge, Apart, Same}
-use Rattle.fact_specs.specs.Joins.{rep, joins, IsJoined}
-use Rattle.fact_specs.specs.Joins.IsJoined.{itself, by_fact}
-use Rattle.fact_specs.proofs.Joined.{rep-joins, rep-joined, joined-rep, rep_is_least}
+use Rattle.calculus_specs.specs.declared.facts.Fact.{Fact}
+use Rattle.calculus_specs.specs.declared.facts.Fact.TheVariants.{Has, Edge, Apart, Same}
+use Rattle.calculus_specs.specs.Joins.{rep, joins, IsJoined}
+use Rattle.calculus_specs.specs.Joins.IsJoined.{itself, by_fact}
+use Rattle.calculus_specs.proofs.Joined.{rep-joins, rep-joined, joined-rep, rep_is_least}
 use Rattle.completion_tree.specs.declared.tree.By.{By}
 use Rattle.completion_tree.specs.declared.tree.Entry.{Entry}
 use Rattle.completion_tree.specs.declared.tree.Entry.TheVariants.{Fact as Grounded, Mark}
 use Rattle.completion_tree.specs.Trail.{facts_in}
-use Rattle.fact_specs.specs.State.{is_so}
+use Rattle.calculus_specs.specs.State.{is_so}
 use Rattle.fact_tree.specs.Told.{gives, IsAlone}
 use Rattle.fact_tree.proofs.Agreeing.{any-on, concept_on, edge_on, apart_on}
 use Rattle.completion_tree.specs.Marks.{facts_within, first_node, second_node, is_join, is_top, is_joining, AreWithin, SomeWithin, passes, marks_at}

@@ -8,11 +8,12 @@
 //! The tree keeps no roles and no concepts: what it answers is read with those of the search.
 #![tactic(auto)]
 
+mod mark;
 mod marks;
 mod trail;
 mod tree;
 
-pub use dependency_sets::Deps;
+pub use axiom_sets::Deps;
+pub use mark::Mark;
 pub use tableau_specs::{Choice, Item};
-pub use trail_core::Mark;
 pub use tree::{By, Entry, Tree};

@@ -1,18 +1,17 @@
 // What a fact of the state rests on: a fact that says it, and the joins of its nodes.
 ghost use Rattle.std.specs.Prelude.{◌≡◌, ◌==◌, ◌&&◌, ◌||◌, not, ◌∷◌, [], true, false, IfOk, filter};
 ghost use Rattle.std.specs.FinSet as set;
-ghost use Rattle.fact_specs.specs.Joins.{rep};
-ghost use Rattle.fact_specs.specs.State.{is_so};
+ghost use Rattle.calculus_specs.specs.Joins.{rep};
+ghost use Rattle.calculus_specs.specs.State.{is_so};
 ghost use Rattle.fact_tree.specs.Told.{gives};
 ghost use Rattle.completion_tree.specs.Trail.{facts_in, is_same, places};
 ghost use Rattle.completion_tree.specs.Marks.{facts_within, is_top, is_joining, first_node, second_node, is_join, passes, marks_at, AreWithin, SomeWithin, IsGroundedBy};
 
 use crate::trail::{Trail, copied_marks};
 use crate::tree::Entry;
-use dependency_sets::Deps;
-use fact_specs::Fact;
+use axiom_sets::Deps;
+use calculus_specs::{Fact, NoMemory};
 use fact_tree::FactTree;
-use shq_base::NoMemory;
 use std::alloc::{Allocator, Global};
 
 /// Marks such that the fact holds in the state of the facts that rest on these marks alone.

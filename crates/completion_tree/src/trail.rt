@@ -1,14 +1,13 @@
 // The entries of a trail, with the places of its facts and of its joins, so that none is looked for.
 ghost use Rattle.std.specs.Prelude.{◌≡◌, ℕ, ◌+◌, ◌<◌, ◌≤◌, ◌^◌, [], ◌∷◌, ◌++◌, OnOk, OnErr, IfOk, length, take, slice_get, get_or, Some, count_by, filter, if◌then◌else◌};
 ghost use Rattle.std.specs.FinSet as set;
-ghost use Rattle.fact_specs.specs.Joins.{rep};
+ghost use Rattle.calculus_specs.specs.Joins.{rep};
 ghost use Rattle.completion_tree.specs.Trail.{facts_in, is_fact, is_same, places};
 ghost use Rattle.completion_tree.specs.Marks.{marks_at, is_join, AreWithin, IsGroundedBy};
 
 use crate::tree::Entry;
-use dependency_sets::Deps;
-use fact_specs::Fact;
-use shq_base::NoMemory;
+use axiom_sets::Deps;
+use calculus_specs::{Fact, NoMemory};
 use std::alloc::Allocator;
 use std::marker::Model;
 
@@ -29,7 +28,7 @@ impl<A: Allocator> Model for Trail<A> {
     ghost use Rattle.completion_tree.specs.declared.tree.Entry.{Entry as PlainEntry};
     ghost use Rattle.completion_tree.specs.Trail.{is_fact, is_same, places};
     ghost use Rattle.std.specs.Coded.{codes};
-    ghost use Rattle.dependency_sets.specs.contracts.deps.Deps as deps;
+    ghost use Rattle.axiom_sets.specs.contracts.deps.Deps as deps;
 
     ghost Value = { List PlainEntry };
 

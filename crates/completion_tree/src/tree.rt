@@ -1,24 +1,23 @@
 // The trail, and what its facts say.
 ghost use Rattle.std.specs.Prelude.{◌≡◌, ℕ, ◌+◌, ◌<◌, ◌≤◌, ◌^◌, [], ◌∷◌, ◌++◌, OnOk, OnErr, IfOk, length, take, drop, slice_get, Some, ◌==◌, true, IfSome, IfNone, IsNone};
-ghost use Rattle.fact_specs.specs.Joins.{rep};
-ghost use Rattle.fact_specs.specs.State.{node_count, has, has_edge, are_apart, parent as parent_of, HasParentsBefore, is_so};
+ghost use Rattle.calculus_specs.specs.Joins.{rep};
+ghost use Rattle.calculus_specs.specs.State.{node_count, has, has_edge, are_apart, parent as parent_of, HasParentsBefore, is_so};
 ghost use Rattle.fact_tree.specs.Entries.{IsFit};
-ghost use Rattle.fact_specs.specs.Listed.{IsLabel, IsOnce, AreEdges};
-ghost use Rattle.fact_specs.specs.declared.Fact.TheVariants.{Same};
+ghost use Rattle.calculus_specs.specs.Listed.{IsLabel, IsOnce, AreEdges};
+ghost use Rattle.calculus_specs.specs.declared.facts.Fact.TheVariants.{Same};
 ghost use Rattle.completion_tree.specs.declared.tree.Entry.TheVariants.{Fact as Grounded, Mark as Marks};
 ghost use Rattle.completion_tree.specs.Trail.{facts_in, item_of, items_of, grounded, with_fresh, RestsOn, IsMarkAt};
 ghost use Rattle.completion_tree.specs.Marks.{facts_within};
 
+use crate::mark::Mark;
 use crate::marks::marks_behind;
 use crate::trail::Trail;
-use dependency_sets::Deps;
-use fact_specs::Fact;
+use axiom_sets::Deps;
+use calculus_specs::{Fact, NoMemory};
 use fact_tree::FactTree;
-use shq_base::NoMemory;
 use std::alloc::{Allocator, Global};
 use std::marker::Model;
 use tableau_specs::{Choice, Item};
-use trail_core::Mark;
 
 /// What a fact rests on.
 #[derive(Drop)]
@@ -65,7 +64,7 @@ impl<A: Allocator> Model for Tree<A> {
     ghost use Rattle.completion_tree.specs.declared.tree.Entry.{Entry as PlainEntry};
     ghost use Rattle.completion_tree.specs.Trail.{facts_in};
     ghost use Rattle.std.specs.Coded.{codes};
-    ghost use Rattle.dependency_sets.specs.contracts.deps.Deps as deps;
+    ghost use Rattle.axiom_sets.specs.contracts.deps.Deps as deps;
 
     ghost Value = { List PlainEntry };
 

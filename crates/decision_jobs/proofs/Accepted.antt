@@ -18,19 +18,19 @@ use Rattle.refutation_tree.specs.RefutationText.{refutation_of}
 use Rattle.refutation_tree.specs.Written.{refutation_text}
 use Rattle.refutation_tree.proofs.TextBack.{refutation_read_back}
 use Rattle.refutation_truth.specs.Theory.{all_axioms, named_axioms}
-use Rattle.read_limits.specs.Laws.{AreWritable}
+use Rattle.text_laws.specs.LimitLaws.{AreWritable}
 use Rattle.run_log.specs.HonestLog.{IsWhole}
 use Rattle.run_log.proofs.Named.{whole}
 use Rattle.shq_oracle.specs.declared.answer.Answer.{Answer as Decision}
-use Rattle.shq_oracle.specs.declared.answer.Answer.TheVariants.{Refuted, Model, Spent}
+use Rattle.shq_oracle.specs.declared.answer.Answer.TheVariants as Answered
 use Rattle.shq_oracle.specs.Decided.{IsProof, IsRefuting, IsAnswer}
 use Rattle.certificate_check.specs.Certificates.{model_after, refutation_after, certificate}
 use Rattle.certificate_check.specs.Checking.{IsOfModel, first_unmet, IsVerdictOn}
 use Rattle.certificate_check.specs.declared.certificate.Certificate.TheVariants as C
-use Rattle.certificate_check.specs.declared.judging.Verdict.TheVariants.{Entailed, NotEntailed}
-use Rattle.job_texts.specs.Answer.{line}
-use Rattle.job_inputs.specs.Questions.{Text, has_element, follows}
-use Rattle.decision_jobs.specs.Decisions.{yes_line, no_line, decision_text, IsAccepted}
+use Rattle.certificate_check.specs.Verdict.TheVariants.{Entailed, NotEntailed}
+use Rattle.certificate_check.specs.Answer.{line}
+use Rattle.certificate_check.specs.Questions.{Text, has_element, follows}
+use Rattle.decision_jobs.specs.Decisions.{entailed_line, not_entailed_line, decision_text, IsAccepted}
 use Rattle.decision_jobs.specs.Deciding.{IsDecision, IsKeptModel}
 
 -- ---- the lines of what is written
@@ -47,11 +47,11 @@ not_entailed_read o rest = refl
 satisfiable_read : (o : Listed) (rest : List ℕ) → certificate o (line (codes "satisfiable") ++ rest) ≡ model_after o (lines rest)
 satisfiable_read o rest = refl
 
-yes_read : (o : Listed) (question : Text) (rest : List ℕ) → certificate o (line (yes_line question) ++ rest) ≡ refutation_after o (lines rest)
+yes_read : (o : Listed) (question : Text) (rest : List ℕ) → certificate o (line (entailed_line question) ++ rest) ≡ refutation_after o (lines rest)
 yes_read o (has_element class) rest = unsatisfiable_read o rest
 yes_read o (follows inclusion) rest = entailed_read o rest
 
-no_read : (o : Listed) (question : Text) (rest : List ℕ) → certificate o (line (no_line question) ++ rest) ≡ model_after o (lines rest)
+no_read : (o : Listed) (question : Text) (rest : List ℕ) → certificate o (line (not_entailed_line question) ++ rest) ≡ model_after o (lines rest)
 no_read o (has_element class) rest = satisfiable_read o rest
 no_read o (follows inclusion) rest = not_entailed_read o rest
 
@@ -78,10 +78,10 @@ model_verdict o s q m all so =
 -- ---- decisions
 
 pub accepted : (o : Listed) (question : Text) (q : Asked) (d : Decision) (out : List ℕ) → AreWritable o → IsDecision o q d → IsKeptModel o d → out ≡ decision_text o question d → IsAccepted o q out d
-accepted o question q (Refuted r) out names so kept is =
+accepted o question q (Answered.Entailed r) out names so kept is =
     let back : refutation_of o (lines (refutation_text o r)) ≡ Some r = refutation_read_back o r names.classes names.roles so.is_answer.writable in
     (ap (certificate o) is ∙ yes_read o question (refutation_text o r) ∙ refutation_found o (lines (refutation_text o r)) r back, so.is_answer.refutes)
-accepted o question q (Model m) out names so kept is =
+accepted o question q (Answered.NotEntailed m) out names so kept is =
     let back : model_of o (lines (model_text o m)) ≡ Some m = model_read_back o m names.classes names.roles kept in
     (ap (certificate o) is ∙ no_read o question (model_text o m) ∙ model_found o (lines (model_text o m)) m back, model_verdict o so.asked q m so.is_whole so.is_answer)
-accepted o question q Spent out names so kept is = tt
+accepted o question q Answered.Undecided out names so kept is = tt

@@ -1,39 +1,26 @@
 -- From what was decided to the answer.
-use Rattle.std.proofs.Common.{◌≡◌, ℕ, Bool, [], List, inl, inr, false, true, Result, Ok, Err, refl, ap, sym, ◌∙◌, subst}
+use Rattle.std.proofs.Common.{◌≡◌, ℕ, Bool, [], List, inl, inr, false, true, Result, Ok, Err, refl, ap, sym, ◌∙◌}
 use Rattle.std.specs.Prelude.{IfOk, IfErr}
-use Rattle.shq_base.specs.Concept.{bottom}
 use Rattle.shq_terms.specs.Listed.{Listed}
 use Rattle.shq_terms.specs.declared.axioms.Query.{Query as Asked}
 use Rattle.ofn_reader.specs.DocumentContext.{DocumentContext}
-use Rattle.ontology_limits.specs.Limits.{IsInLimit}
-use Rattle.read_limits.specs.Laws.{AreWritable, with_names}
-use Rattle.read_limits.proofs.InLimit.{queries_in_limit, classes_in_limit, queries_list_names, classes_list_names}
 use Rattle.run_log.specs.declared.entry.Entry.{Entry}
-use Rattle.certificate_check.specs.Checking.{refused_document, refused_query}
-use Rattle.certificate_check.specs.Replies.{reply_answer, unread_answer}
-use Rattle.certificate_check.specs.declared.unread.Unread.{Unread}
-use Rattle.certificate_check.specs.declared.unread.Unread.TheVariants as U
-use Rattle.job_texts.specs.Answer.{Answer, no_memory, Gives}
-use Rattle.job_texts.specs.declared.status.Status.{Status}
-use Rattle.job_texts.specs.declared.status.Status.TheVariants.{Done, Rejected, BadWords, BadText, Outside, Limit, ReadFault, WriteFault, Undecided, NoMemory}
-use Rattle.job_inputs.specs.Questions.{Text, has_element, follows, document, query, IsDocumentAlone, IsReadQuestion, IsQuestion, IsUnreadDocument, IsUnreadQuestion, IsRefusedQuestion}
+use Rattle.certificate_check.specs.Asked.{refused_document, refused_query}
+use Rattle.certificate_check.specs.Replies.{unread_answer}
+use Rattle.certificate_check.specs.Unread.{Unread}
+use Rattle.certificate_check.specs.Unread.TheVariants as U
+use Rattle.certificate_check.specs.Answer.{Answer, no_memory, Gives}
+use Rattle.certificate_check.specs.Status.{Status}
+use Rattle.certificate_check.specs.Status.TheVariants.{Done, Rejected, BadWords, BadText, Outside, Limit, ReadFault, WriteFault, Undecided, NoMemory}
+use Rattle.certificate_check.specs.Questions.{Text, document, query, IsDocumentAlone, IsReadQuestion, IsUnreadDocument, IsUnreadQuestion}
 use Rattle.shq_oracle.specs.declared.answer.Answer.{Answer as Decision}
-use Rattle.shq_oracle.specs.declared.answer.Answer.TheVariants.{Refuted, Model, Spent}
-use Rattle.decision_jobs.specs.Decisions.{decision_status, AnswersQuestion, IsDecided, IsRefused}
-use Rattle.decision_jobs.specs.Answering.{IsDecidedBy, IsAnswered, IsUnansweredOn, IsUnanswered}
+use Rattle.shq_oracle.specs.declared.answer.Answer.TheVariants as Answered
+use Rattle.certificate_check.specs.Refusals.{IsRefused}
+use Rattle.decision_jobs.specs.Decisions.{decision_status, AnswersQuestion, IsDecided}
+use Rattle.certificate_check.specs.Refusals.{IsUnanswered}
+use Rattle.certificate_check.proofs.ReadInLimit.{question_writable}
+use Rattle.decision_jobs.specs.Answering.{IsDecidedBy, IsAnswered, IsUnansweredOn}
 use Rattle.decision_jobs.proofs.Accepted.{accepted}
-
--- a question that is read is in limit, and its names can be written
-pub question_in_limit : (bytes : List ℕ) (o : Listed) (kept : DocumentContext) (question : Text) (both : Listed) (q : Asked) → IsDocumentAlone bytes o kept → IsReadQuestion o kept question both q → IsInLimit both q
-question_in_limit bytes o kept (follows inclusion) both q d x = subst (λ l. IsInLimit l q) (sym x.both_are) (queries_in_limit bytes o kept d.end d.is_document inclusion x.counts q x.is_asked)
-question_in_limit bytes o kept (has_element class) both q d x =
-    let nothing : Asked = record { sub = q.sub; sup = bottom } in
-    let same : nothing ≡ q = λ i. record { sub = q.sub; sup = sym x.is_asked.1 i } in
-    subst (IsInLimit both) same (subst (λ l. IsInLimit l nothing) (sym x.both_are) (classes_in_limit bytes o kept d.end d.is_document class x.counts q.sub x.is_asked.0))
-
-pub question_writable : (bytes : List ℕ) (o : Listed) (kept : DocumentContext) (question : Text) (both : Listed) (q : Asked) → IsDocumentAlone bytes o kept → IsReadQuestion o kept question both q → AreWritable both
-question_writable bytes o kept (follows inclusion) both q d x = subst AreWritable (sym x.both_are) (queries_list_names bytes o kept d.end d.is_document inclusion x.counts q x.is_asked)
-question_writable bytes o kept (has_element class) both q d x = subst AreWritable (sym x.both_are) (classes_list_names bytes o kept d.end d.is_document class x.counts q.sub x.is_asked.0)
 
 -- what was decided of the query of a question answers it
 pub decided_answers : (bytes : List ℕ) (o : Listed) (kept : DocumentContext) (question : Text) (budget : ℕ) (both : Listed) (q : Asked) (log : List Entry) (s : Status) (out : List ℕ) → IsDocumentAlone bytes o kept
@@ -76,9 +63,9 @@ is_no_memory NoMemory = true
 is_no_memory _ = false
 
 no_decision : (d : Decision) → NoMemory ≡ decision_status d → ⊥
-no_decision (Refuted r) is = let clash : true ≡ false = ap is_no_memory is in absurd (cc clash)
-no_decision (Model m) is = let clash : true ≡ false = ap is_no_memory is in absurd (cc clash)
-no_decision Spent is = let clash : true ≡ false = ap is_no_memory is in absurd (cc clash)
+no_decision (Answered.Entailed r) is = let clash : true ≡ false = ap is_no_memory is in absurd (cc clash)
+no_decision (Answered.NotEntailed m) is = let clash : true ≡ false = ap is_no_memory is in absurd (cc clash)
+no_decision Answered.Undecided is = let clash : true ≡ false = ap is_no_memory is in absurd (cc clash)
 
 decided_status : (question : Text) (budget : ℕ) (bytes out : List ℕ) (s : Status) (log : List Entry) → IsDecided question budget bytes out s log → AnswersQuestion question budget bytes out s log
 decided_status question budget bytes out Done log d = inr d

@@ -1,6 +1,6 @@
 -- What is decided is so, and no two verdicts are.
 use Rattle.std.proofs.Common.{◌≡◌, ℕ, List, map, refl, ap, sym, ◌∙◌, subst}
-use Rattle.shq_base.specs.Concept.{Concept, bottom}
+use Rattle.shq_terms.specs.Concept.{Concept, bottom}
 use Rattle.shq_terms.specs.Listed.{Listed}
 use Rattle.shq_terms.specs.declared.axioms.Query.{Query as Asked}
 use Rattle.shq_meaning.specs.Truth.{Entails}
@@ -8,12 +8,12 @@ use Rattle.ofn_expressions.specs.Counts.{Counts}
 use Rattle.ofn_reader.specs.DocumentContext.{DocumentContext}
 use Rattle.ofn_reader.specs.Queries.{query_start}
 use Rattle.ofn_reader.proofs.Unique.{documents, queries, classes}
-use Rattle.read_limits.specs.Laws.{with_names}
+use Rattle.text_laws.specs.LimitLaws.{with_names}
 use Rattle.shq_oracle.specs.declared.answer.Answer.{Answer as Decision}
-use Rattle.shq_oracle.specs.declared.answer.Answer.TheVariants.{Refuted, Model}
+use Rattle.shq_oracle.specs.declared.answer.Answer.TheVariants as Answered
 use Rattle.certificate_check.specs.declared.certificate.Certificate.TheVariants as C
 use Rattle.certificate_check.proofs.Truth.{followed, not_followed}
-use Rattle.job_inputs.specs.Questions.{Text, has_element, follows, IsAskedBy, IsQuestion}
+use Rattle.certificate_check.specs.Questions.{Text, has_element, follows, IsAskedBy, IsQuestion}
 use Rattle.decision_jobs.specs.Decisions.{IsAccepted}
 use Rattle.decision_jobs.specs.Laws.{HaveAsked, YesFollows, NoDoesNotFollow, VerdictsExclude}
 

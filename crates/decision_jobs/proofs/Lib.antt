@@ -2,3 +2,4 @@ pub mod Logged
 pub mod Accepted
 pub mod Answered
 pub mod Exclusive
+pub use Rattle.certificate_check.proofs.Truth

@@ -5,8 +5,8 @@ use Rattle.std.specs.List.{list_any}
 use Rattle.std.proofs.lemmas.List.Elements.{All-cons}
 use Rattle.std.specs.Prelude.{IfOk, Result, Ok, Err}
 use Rattle.axiom_sets.specs.Sets.{Limited, IsFull}
-use Rattle.shq_base.specs.declared.memory.NoMemory.{NoMemory}
-use Rattle.shq_base.proofs.Bools.{or_only}
+use Rattle.shq_terms.specs.NoMemory.{NoMemory}
+use Rattle.shq_terms.proofs.Bools.{or_only}
 use Rattle.shq_terms.specs.Listed.{Listed}
 use Rattle.shq_terms.specs.declared.axioms.Query.{Query as Asked}
 use Rattle.run_log.specs.declared.entry.Entry.{Entry}
@@ -14,9 +14,9 @@ use Rattle.run_log.specs.declared.entry.Entry.TheVariants.{Test}
 use Rattle.run_log.specs.declared.entry.TestEnd.{TestEnd}
 use Rattle.run_log.specs.declared.entry.TestEnd.TheVariants as E
 use Rattle.run_log.specs.Entries.{spent_of, is_spent, ended_spent, IsAnswered}
-use Rattle.run_log.specs.HonestLog.{IsWhole, IsHonestEntry, EachIsHonest, EndsWhenSpent, KeepsToBudget}
+use Rattle.run_log.specs.HonestLog.{IsWhole, IsHonestEntry, EachIsHonest, EndsWhenSpent, IsHonestWithin}
 use Rattle.shq_oracle.specs.declared.answer.Answer.{Answer as Decision}
-use Rattle.shq_oracle.specs.declared.answer.Answer.TheVariants.{Refuted, Model, Spent}
+use Rattle.shq_oracle.specs.declared.answer.Answer.TheVariants as Answered
 use Rattle.shq_oracle.specs.OracleLists.{OracleLists}
 use Rattle.shq_oracle.specs.Decided.{Matches, IsAnswer, AppendsTest, LeavesNothing}
 use Rattle.decision_jobs.specs.Deciding.{IsDecision}
@@ -24,15 +24,15 @@ use Rattle.decision_jobs.specs.Decisions.{IsLogged}
 
 -- where the test spent the budget, nothing is left
 nothing_left : (l : OracleLists) (d : Decision) (e : TestEnd) → Matches d e → LeavesNothing l d → ended_spent e ≡ true → spent_of l.log ≡ l.budget
-nothing_left l Spent (E.Spent t) m left is = left
-nothing_left l Spent (E.Yes u) m left is = absurd m
-nothing_left l Spent E.No m left is = absurd m
-nothing_left l (Refuted r) (E.Yes u) m left is = absurd (cc is)
-nothing_left l (Refuted r) (E.Spent t) m left is = absurd m
-nothing_left l (Refuted r) E.No m left is = absurd m
-nothing_left l (Model k) E.No m left is = absurd (cc is)
-nothing_left l (Model k) (E.Spent t) m left is = absurd m
-nothing_left l (Model k) (E.Yes u) m left is = absurd m
+nothing_left l Answered.Undecided (E.Spent t) m left is = left
+nothing_left l Answered.Undecided (E.Yes u) m left is = absurd m
+nothing_left l Answered.Undecided E.No m left is = absurd m
+nothing_left l (Answered.Entailed r) (E.Yes u) m left is = absurd (cc is)
+nothing_left l (Answered.Entailed r) (E.Spent t) m left is = absurd m
+nothing_left l (Answered.Entailed r) E.No m left is = absurd m
+nothing_left l (Answered.NotEntailed k) E.No m left is = absurd (cc is)
+nothing_left l (Answered.NotEntailed k) (E.Spent t) m left is = absurd m
+nothing_left l (Answered.NotEntailed k) (E.Yes u) m left is = absurd m
 
 only_last : (x e : Entry) (place : ℕ) → slice_get (x ∷ []) place ≡ Some e → place + 1 ≡ 1
 only_last x e zero found = refl

@@ -5,11 +5,10 @@ use Rattle.shq_terms.specs.declared.axioms.Query.{Query as Asked}
 use Rattle.ofn_reader.specs.DocumentContext.{DocumentContext}
 use Rattle.run_log.specs.declared.entry.Entry.{Entry}
 use Rattle.shq_oracle.specs.declared.answer.Answer.{Answer as Decision}
-use Rattle.certificate_check.specs.Checking.{refused_document, refused_query}
-use Rattle.certificate_check.specs.declared.unread.Unread.{Unread}
-use Rattle.certificate_check.specs.declared.unread.Unread.TheVariants as U
-use Rattle.job_texts.specs.declared.status.Status.{Status}
-use Rattle.job_inputs.specs.Questions.{Text, IsNotAskedBy, IsRefusedQuestion}
+use Rattle.certificate_check.specs.Unread.{Unread}
+use Rattle.certificate_check.specs.Unread.TheVariants as U
+use Rattle.certificate_check.specs.Status.{Status}
+use Rattle.certificate_check.specs.Questions.{Text, IsNotAskedBy}
 use Rattle.decision_jobs.specs.Deciding.{IsDecision, IsKeptModel}
 use Rattle.decision_jobs.specs.Decisions.{decision_text, decision_status, IsLogged, IsDecided}
 
@@ -31,9 +30,3 @@ IsUnansweredOn o kept question log (U.Query e) = IsNotAskedBy o kept question e 
 IsUnansweredOn o kept question log (U.Document e) = ⊥
 IsUnansweredOn o kept question log (U.Line n) = ⊥
 IsUnansweredOn o kept question log U.NoMemory = Unit {0}
-
-abbrev pub IsUnanswered : Text → List ℕ → List Entry → Unread → Type 0
-IsUnanswered question bytes log (U.Document e) = IsRefusedQuestion question bytes (refused_document e) × (log ≡ [])
-IsUnanswered question bytes log (U.Query e) = IsRefusedQuestion question bytes (refused_query e) × (log ≡ [])
-IsUnanswered question bytes log (U.Line n) = ⊥
-IsUnanswered question bytes log U.NoMemory = Unit {0}

@@ -9,7 +9,7 @@ use Rattle.refutation_tree.specs.Written.{names_are_listed}
 use Rattle.run_log.specs.HonestLog.{IsWhole}
 use Rattle.shq_oracle.specs.Decided.{IsAnswer}
 use Rattle.shq_oracle.specs.declared.answer.Answer.{Answer as Decision}
-use Rattle.shq_oracle.specs.declared.answer.Answer.TheVariants.{Refuted, Model, Spent}
+use Rattle.shq_oracle.specs.declared.answer.Answer.TheVariants as Answered
 
 -- the evidence shows whether the query follows from all axioms
 pub record IsDecision (o : Listed) (q : Asked) (d : Decision) : Type 0 where
@@ -19,12 +19,12 @@ pub record IsDecision (o : Listed) (q : Asked) (d : Decision) : Type 0 where
 
 -- its names are listed, so that it can be written
 abbrev pub CanBeWritten : Listed → Decision → Type 0
-CanBeWritten o (Refuted r) = IsTrue (names_are_listed o r)
-CanBeWritten o (Model m) = IsTrue (uses_listed_names o m)
-CanBeWritten o Spent = Unit {0}
+CanBeWritten o (Answered.Entailed r) = IsTrue (names_are_listed o r)
+CanBeWritten o (Answered.NotEntailed m) = IsTrue (uses_listed_names o m)
+CanBeWritten o Answered.Undecided = Unit {0}
 
 -- a model is one that its text is read back to
 abbrev pub IsKeptModel : Listed → Decision → Type 0
-IsKeptModel o (Refuted r) = Unit {0}
-IsKeptModel o (Model m) = IsKept o m
-IsKeptModel o Spent = Unit {0}
+IsKeptModel o (Answered.Entailed r) = Unit {0}
+IsKeptModel o (Answered.NotEntailed m) = IsKept o m
+IsKeptModel o Answered.Undecided = Unit {0}

@@ -1,5 +1,5 @@
 -- What is answered to a question on an ontology.
-use Rattle.std.specs.Prelude.{◌≡◌, ◌⊎◌, ℕ, [], ◌∷◌, ◌++◌, List, codes, Result, Ok}
+use Rattle.std.specs.Prelude.{◌≡◌, ◌⊎◌, ℕ, [], ◌∷◌, ◌++◌, List, codes, Ok}
 use Rattle.axiom_sets.specs.Sets.{Limited}
 use Rattle.shq_terms.specs.Listed.{Listed}
 use Rattle.shq_terms.specs.declared.axioms.Query.{Query as Asked}
@@ -8,50 +8,50 @@ use Rattle.refutation_tree.specs.Written.{refutation_text}
 use Rattle.run_log.specs.declared.entry.Entry.{Entry}
 use Rattle.run_log.specs.declared.entry.Entry.TheVariants.{Test}
 use Rattle.run_log.specs.declared.entry.TestEnd.{TestEnd}
-use Rattle.run_log.specs.HonestLog.{IsWhole, IsDecisionLog}
+use Rattle.run_log.specs.HonestLog.{IsDecisionLog}
 use Rattle.shq_oracle.specs.declared.answer.Answer.{Answer as Decision}
-use Rattle.shq_oracle.specs.declared.answer.Answer.TheVariants.{Refuted, Model, Spent}
+use Rattle.shq_oracle.specs.declared.answer.Answer.TheVariants as Answered
 use Rattle.shq_oracle.specs.Decided.{Matches}
 use Rattle.certificate_check.specs.Certificates.{certificate}
-use Rattle.certificate_check.specs.Checking.{Reply, IsVerdictOn}
-use Rattle.certificate_check.specs.Replies.{reply_answer}
+use Rattle.certificate_check.specs.Checking.{IsVerdictOn}
+use Rattle.certificate_check.specs.Refusals.{IsRefused}
 use Rattle.certificate_check.specs.declared.certificate.Certificate.TheVariants as C
-use Rattle.certificate_check.specs.declared.judging.Verdict.TheVariants.{Entailed, NotEntailed}
-use Rattle.job_texts.specs.Answer.{line, no_memory, IsAnswer}
-use Rattle.job_texts.specs.declared.status.Status.{Status}
-use Rattle.job_texts.specs.declared.status.Status.TheVariants.{Done, Undecided, NoMemory}
-use Rattle.job_inputs.specs.Questions.{Text, has_element, follows, IsQuestion, IsRefusedQuestion}
+use Rattle.certificate_check.specs.Verdict.TheVariants.{Entailed, NotEntailed}
+use Rattle.certificate_check.specs.Answer.{line, no_memory}
+use Rattle.certificate_check.specs.Status.{Status}
+use Rattle.certificate_check.specs.Status.TheVariants.{Done, Undecided, NoMemory}
+use Rattle.certificate_check.specs.Questions.{Text, has_element, follows, IsQuestion}
 
 -- ---- texts
 
 -- the line that says that the query of a question follows
-abbrev pub yes_line : Text → List ℕ
-yes_line (has_element class) = codes "unsatisfiable"
-yes_line (follows inclusion) = codes "entailed"
+abbrev pub entailed_line : Text → List ℕ
+entailed_line (has_element class) = codes "unsatisfiable"
+entailed_line (follows inclusion) = codes "entailed"
 
 -- and the one that says that it does not
-abbrev pub no_line : Text → List ℕ
-no_line (has_element class) = codes "satisfiable"
-no_line (follows inclusion) = codes "not entailed"
+abbrev pub not_entailed_line : Text → List ℕ
+not_entailed_line (has_element class) = codes "satisfiable"
+not_entailed_line (follows inclusion) = codes "not entailed"
 
 -- the verdict, and what shows it
 abbrev pub decision_text : Listed → Text → Decision → List ℕ
-decision_text o question (Refuted r) = line (yes_line question) ++ refutation_text o r
-decision_text o question (Model m) = line (no_line question) ++ model_text o m
-decision_text o question Spent = line (codes "undecided")
+decision_text o question (Answered.Entailed r) = line (entailed_line question) ++ refutation_text o r
+decision_text o question (Answered.NotEntailed m) = line (not_entailed_line question) ++ model_text o m
+decision_text o question Answered.Undecided = line (codes "undecided")
 
 abbrev pub decision_status : Decision → Status
-decision_status (Refuted r) = Done
-decision_status (Model m) = Done
-decision_status Spent = Undecided
+decision_status (Answered.Entailed r) = Done
+decision_status (Answered.NotEntailed m) = Done
+decision_status Answered.Undecided = Undecided
 
 -- ---- what is true of a decision
 
 -- what is written is a certificate for the query that is accepted: it is read back, and shows the verdict
 abbrev pub IsAccepted : Listed → Asked → List ℕ → Decision → Type 0
-IsAccepted o q out (Refuted r) = (certificate o out ≡ Ok (C.Refutation r)) × IsVerdictOn o q (C.Refutation r) Entailed
-IsAccepted o q out (Model m) = (certificate o out ≡ Ok (C.Model m)) × IsVerdictOn o q (C.Model m) NotEntailed
-IsAccepted o q out Spent = Unit {0}
+IsAccepted o q out (Answered.Entailed r) = (certificate o out ≡ Ok (C.Refutation r)) × IsVerdictOn o q (C.Refutation r) Entailed
+IsAccepted o q out (Answered.NotEntailed m) = (certificate o out ≡ Ok (C.Model m)) × IsVerdictOn o q (C.Model m) NotEntailed
+IsAccepted o q out Answered.Undecided = Unit {0}
 
 -- the log of a decision: one honest test of all axioms, which ended as it was decided
 pub record IsLogged (o : Listed) (q : Asked) (budget : ℕ) (d : Decision) (log : List Entry) : Type 0 where
@@ -74,13 +74,6 @@ pub record IsDecided (question : Text) (budget : ℕ) (bytes out : List ℕ) (s 
   pub status : s ≡ decision_status decision
   pub accepted : IsAccepted ontology query out decision
   pub logged : IsLogged ontology query budget decision log
-
--- the document or the question is refused, and nothing was asked
-pub record IsRefused (question : Text) (bytes out : List ℕ) (s : Status) (log : List Entry) : Type 0 where
-  pub reply : Reply
-  pub refused : IsRefusedQuestion question bytes reply
-  pub answer : IsAnswer (reply_answer reply) out s
-  pub unlogged : log ≡ []
 
 -- the answer, unless memory was refused
 abbrev pub AnswersQuestion : Text → ℕ → List ℕ → List ℕ → Status → List Entry → Type 0

@@ -7,22 +7,22 @@ use Rattle.shq_meaning.specs.Truth.{Entails}
 use Rattle.finite_model.specs.ModelLists.{ModelLists}
 use Rattle.refutation_tree.specs.RefutationLists.{RefutationLists}
 use Rattle.run_log.specs.declared.entry.Entry.{Entry}
-use Rattle.shq_oracle.specs.declared.answer.Answer.TheVariants.{Refuted, Model}
-use Rattle.job_texts.specs.declared.status.Status.TheVariants.{Done}
-use Rattle.job_inputs.specs.Questions.{Text, IsQuestion}
+use Rattle.shq_oracle.specs.declared.answer.Answer.TheVariants as Answered
+use Rattle.certificate_check.specs.Status.TheVariants.{Done}
+use Rattle.certificate_check.specs.Questions.{Text, IsQuestion}
 use Rattle.decision_jobs.specs.Decisions.{IsDecided}
 
 -- the answer says that the query of the question follows
 pub record SaysYes (question : Text) (budget : ℕ) (bytes out : List ℕ) (log : List Entry) : Type 0 where
   pub decided : IsDecided question budget bytes out Done log
   pub refutation : RefutationLists
-  pub is_refuted : decided.decision ≡ Refuted refutation
+  pub is_refuted : decided.decision ≡ Answered.Entailed refutation
 
 -- the answer says that it does not
 pub record SaysNo (question : Text) (budget : ℕ) (bytes out : List ℕ) (log : List Entry) : Type 0 where
   pub decided : IsDecided question budget bytes out Done log
   pub model : ModelLists
-  pub is_model : decided.decision ≡ Model model
+  pub is_model : decided.decision ≡ Answered.NotEntailed model
 
 -- the query of the question on the document that the bytes are, and what holds of its axioms and the query
 pub record HaveAsked (holds : List Axiom → Asked → Type 0) (question : Text) (bytes : List ℕ) : Type 0 where

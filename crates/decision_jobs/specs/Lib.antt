@@ -2,3 +2,10 @@ pub mod Decisions
 pub mod Deciding
 pub mod Answering
 pub mod Laws
+pub use Rattle.shq_oracle.specs.Decided
+pub use Rattle.shq_oracle.specs.declared.answer.Answer
+pub use Rattle.certificate_check.specs.Certificates
+pub use Rattle.certificate_check.specs.Checked
+pub use Rattle.certificate_check.specs.Checking
+pub use Rattle.certificate_check.specs.declared.certificate.Certificate
+pub use Rattle.certificate_check.specs.Verdicts

@@ -3,17 +3,15 @@ ghost use Rattle.std.specs.Prelude.{◌≡◌, ◌≤◌, [], ◌++◌, IfOk, On
 ghost use Rattle.ontology_limits.specs.Limits.{IsInLimit};
 ghost use Rattle.finite_model.specs.Written.{model_text, uses_listed_names};
 ghost use Rattle.refutation_tree.specs.Written.{refutation_text, names_are_listed};
-ghost use Rattle.job_texts.specs.Answer.{line, text_bytes};
-ghost use Rattle.job_inputs.specs.Questions.{question_text};
-ghost use Rattle.decision_jobs.specs.Decisions.{yes_line, no_line, decision_text, decision_status, IsLogged};
+ghost use Rattle.certificate_check.specs.Answer.{line, text_bytes};
+ghost use Rattle.certificate_check.specs.Questions.{question_text};
+ghost use Rattle.decision_jobs.specs.Decisions.{entailed_line, not_entailed_line, decision_text, decision_status, IsLogged};
 ghost use Rattle.decision_jobs.specs.Deciding.{IsDecision, CanBeWritten, IsKeptModel};
 
 use axiom_sets::AxiomSet;
-use job_inputs::Question;
-use job_texts::{Status, Text};
-use shq_base::NoMemory;
+use certificate_check::{Question, Status, Text};
 use shq_oracle::{Answer, Oracle, RunLog};
-use shq_terms::{Ontology, Query};
+use shq_terms::{NoMemory, Ontology, Query};
 use std::alloc::Global;
 use std::mem;
 
@@ -62,8 +60,8 @@ pub(crate) fn status_of(decision: &Answer) -> Status
     ensures { result ≡ decision_status decision.now }
 {
     match decision {
-        Answer::Refuted(_) | Answer::Model(_) => Status::Done,
-        Answer::Spent => Status::Undecided,
+        Answer::Entailed(_) | Answer::NotEntailed(_) => Status::Done,
+        Answer::Undecided => Status::Undecided,
     }
 }
 
@@ -84,15 +82,15 @@ pub(crate) fn text_of(
 {
     let mut out = Vec::new(alloc);
     match decision {
-        Answer::Refuted(refutation) => {
-            push_line(&mut out, yes_line(question))?;
+        Answer::Entailed(refutation) => {
+            push_line(&mut out, entailed_line(question))?;
             refutation.text(alloc, &mut out, ontology)?;
         }
-        Answer::Model(model) => {
-            push_line(&mut out, no_line(question))?;
+        Answer::NotEntailed(model) => {
+            push_line(&mut out, not_entailed_line(question))?;
             model.text(alloc, &mut out, ontology)?;
         }
-        Answer::Spent => push_line(&mut out, "undecided")?,
+        Answer::Undecided => push_line(&mut out, "undecided")?,
     }
     Ok(Text::Bytes(out))
 }
@@ -106,8 +104,8 @@ fn push_line(out: &mut Vec<u8>, text: &str) -> Result<(), NoMemory>
     Ok(())
 }
 
-fn yes_line(question: Question<'_>) -> &'static str
-    ensures { result.now ≡ yes_line (question_text question.entry) }
+fn entailed_line(question: Question<'_>) -> &'static str
+    ensures { result.now ≡ entailed_line (question_text question.entry) }
 {
     match question {
         Question::HasElement(_) => "unsatisfiable",
@@ -115,8 +113,8 @@ fn yes_line(question: Question<'_>) -> &'static str
     }
 }
 
-fn no_line(question: Question<'_>) -> &'static str
-    ensures { result.now ≡ no_line (question_text question.entry) }
+fn not_entailed_line(question: Question<'_>) -> &'static str
+    ensures { result.now ≡ not_entailed_line (question_text question.entry) }
 {
     match question {
         Question::HasElement(_) => "satisfiable",

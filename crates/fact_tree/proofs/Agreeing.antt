@@ -4,11 +4,11 @@ use Rattle.std.specs.Prelude.{◌==◌, ◌&&◌}
 use Rattle.std.specs.List.{list_any}
 use Rattle.std.proofs.lemmas.Bool.{eqb-true, eq-eqb, or_left, and_from}
 use Rattle.std.proofs.lemmas.List.{append-nil}
-use Rattle.shq_base.proofs.Bools.{or_weaker, and_weaker}
-use Rattle.fact_specs.specs.declared.Fact.{Fact}
-use Rattle.fact_specs.specs.declared.Fact.TheVariants.{Has, Edge, Apart, Same}
-use Rattle.fact_specs.specs.Joins.{rep}
-use Rattle.fact_specs.proofs.Joined.{rep-snoc, after-same}
+use Rattle.calculus_specs.proofs.Bools.{or_weaker, and_weaker}
+use Rattle.calculus_specs.specs.declared.facts.Fact.{Fact}
+use Rattle.calculus_specs.specs.declared.facts.Fact.TheVariants.{Has, Edge, Apart, Same}
+use Rattle.calculus_specs.specs.Joins.{rep}
+use Rattle.calculus_specs.proofs.Joined.{rep-snoc, after-same}
 use Rattle.fact_tree.specs.Told.{gives}
 use Rattle.fact_tree.specs.Laws.{FactsStay}
 use Rattle.fact_tree.proofs.Content.{any-append}

@@ -8,9 +8,9 @@ use Rattle.std.proofs.lemmas.List.{length-set, length-append}
 use Rattle.std.proofs.Math.Seq.{get_or-append_seam}
 use Rattle.std.proofs.Math.ListN.{get_or-append}
 use Rattle.std.proofs.Math.Bool.{or-false, or_assoc}
-use Rattle.shq_base.proofs.Bools.{or_exchange}
-use Rattle.fact_specs.specs.declared.Fact.{Fact}
-use Rattle.fact_specs.specs.Joins.{merged}
+use Rattle.calculus_specs.proofs.Bools.{or_exchange}
+use Rattle.calculus_specs.specs.declared.facts.Fact.{Fact}
+use Rattle.calculus_specs.specs.Joins.{merged}
 use Rattle.fact_tree.specs.Kept.{Lists, Kept, new_lists, bare, absorbing, lists_at, changed_at, grown, linked}
 use Rattle.fact_tree.specs.Entries.{IsLinked}
 

@@ -8,13 +8,13 @@ use Rattle.std.proofs.lemmas.List.{length-set, length-append}
 use Rattle.std.proofs.lemmas.Map.Keys.{IsDistinct-push}
 use Rattle.std.proofs.Math.Seq.{get_or-append_seam}
 use Rattle.std.proofs.Math.ListN.{get_or-append}
-use Rattle.fact_specs.specs.declared.Fact.{Fact}
-use Rattle.fact_specs.specs.declared.Fact.TheVariants.{Has, Edge, Apart, Same}
-use Rattle.fact_specs.specs.Joins.{rep}
-use Rattle.fact_specs.proofs.Joined.{by_last}
-use Rattle.fact_specs.proofs.State.{eqb-comm}
+use Rattle.calculus_specs.specs.declared.facts.Fact.{Fact}
+use Rattle.calculus_specs.specs.declared.facts.Fact.TheVariants.{Has, Edge, Apart, Same}
+use Rattle.calculus_specs.specs.Joins.{rep}
+use Rattle.calculus_specs.proofs.Joined.{by_last}
+use Rattle.calculus_specs.proofs.State.{eqb-comm}
 use Rattle.fact_tree.specs.Kept.{Lists, Kept, new_lists, bare, having, leading, parted, absorbing, with_concept, with_concepts, lists_at, changed_at, grown, made, linked, after, kept_of}
-use Rattle.fact_specs.specs.Listed.{IsOnce}
+use Rattle.calculus_specs.specs.Listed.{IsOnce}
 use Rattle.fact_tree.proofs.Linked.{kept_of-snoc}
 use Rattle.fact_tree.proofs.Content.{any_same}
 

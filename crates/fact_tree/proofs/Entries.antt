@@ -4,9 +4,9 @@ use Rattle.std.proofs.lemmas.Bool.{cases_lt}
 use Rattle.std.proofs.lemmas.List.{length-append, map-append, take-append-drop, take-map, length-take-le, get_or-take, take-append-le}
 use Rattle.std.proofs.Math.Seq.{take-append_seam, get_or-append_seam, take-length}
 use Rattle.std.proofs.Math.ListN.{get_or-append}
-use Rattle.fact_specs.specs.declared.Fact.{Fact}
-use Rattle.fact_specs.specs.Joins.{rep}
-use Rattle.fact_specs.specs.State.{node_count}
+use Rattle.calculus_specs.specs.declared.facts.Fact.{Fact}
+use Rattle.calculus_specs.specs.Joins.{rep}
+use Rattle.calculus_specs.specs.State.{node_count}
 use Rattle.fact_tree.specs.declared.tree.Entry.{Entry}
 use Rattle.fact_tree.specs.declared.store.Lengths.{Lengths}
 use Rattle.fact_tree.specs.Kept.{Kept, kept_of, at_of, high_of, after}

@@ -11,7 +11,7 @@ use Rattle.std.proofs.Math.Bool.{or_comm}
 use Rattle.lane_sieve.specs.Sets.{has_bit, number_set}
 use Rattle.lane_sieve.proofs.Bits.{has_bit-is, contains-number_set, number_set_same, contains_insert, contains_remove}
 use Rattle.lane_sieve.proofs.Next.{contains-past}
-use Rattle.fact_specs.proofs.State.{eqb-comm}
+use Rattle.calculus_specs.proofs.State.{eqb-comm}
 use Rattle.fact_tree.specs.Short.{HaveBits, AreIndexed, EachIsNew}
 use Rattle.fact_tree.proofs.Content.{any-snoc}
 

@@ -4,11 +4,11 @@ use Rattle.std.specs.Prelude.{◌==◌, ◌&&◌, ◌||◌, nat_lt, if◌then◌
 use Rattle.std.proofs.lemmas.Bool.{cases_eq, cases_lt, eq-eqb, ne_eqb, eqb-true, lt-ltb, or_cases}
 use Rattle.std.proofs.lemmas.Bool.Decides.{nat_tests}
 use Rattle.std.proofs.lemmas.List.{length-set, length-append}
-use Rattle.fact_specs.specs.declared.Fact.{Fact}
-use Rattle.fact_specs.specs.declared.Fact.TheVariants.{Has, Edge, Apart, Same}
-use Rattle.fact_specs.specs.Joins.{rep_after, rep}
-use Rattle.fact_specs.specs.State.{node_count}
-use Rattle.fact_specs.proofs.Joined.{by_last, rep-snoc}
+use Rattle.calculus_specs.specs.declared.facts.Fact.{Fact}
+use Rattle.calculus_specs.specs.declared.facts.Fact.TheVariants.{Has, Edge, Apart, Same}
+use Rattle.calculus_specs.specs.Joins.{rep_after, rep}
+use Rattle.calculus_specs.specs.State.{node_count}
+use Rattle.calculus_specs.proofs.Joined.{by_last, rep-snoc}
 use Rattle.fact_tree.specs.Kept.{Lists, Kept, new_lists, bare, having, leading, parted, absorbing, lists_at, grown, made, linked, at_of, high_of, after, kept_of}
 use Rattle.fact_tree.specs.Entries.{IsLinked, IsFit, AreFit, IsPlace, AreOrdered, is_in}
 use Rattle.fact_tree.specs.Told.{IsAlone}

@@ -7,10 +7,10 @@ use Rattle.std.proofs.lemmas.List.{length-set, length-append, take-append-le}
 use Rattle.std.proofs.Math.Seq.{get_or-append_seam, take-append_seam}
 use Rattle.std.proofs.Math.ListN.{get_or-append}
 use Rattle.std.proofs.Math.Bool.{and-or_distrib_left}
-use Rattle.fact_specs.specs.declared.Fact.{Fact}
-use Rattle.fact_specs.specs.declared.Fact.TheVariants.{Has, Edge, Apart, Same}
-use Rattle.fact_specs.specs.Joins.{merged, rep_after, rep_from, rep}
-use Rattle.fact_specs.specs.State.{node_count}
+use Rattle.calculus_specs.specs.declared.facts.Fact.{Fact}
+use Rattle.calculus_specs.specs.declared.facts.Fact.TheVariants.{Has, Edge, Apart, Same}
+use Rattle.calculus_specs.specs.Joins.{merged, rep_after, rep_from, rep}
+use Rattle.calculus_specs.specs.State.{node_count}
 use Rattle.fact_tree.specs.Kept.{Lists, Kept, new_lists, having, leading, parted, absorbing, bare, lists_at, changed_at, grown, made, linked, after, kept_from, kept_of, empty}
 use Rattle.fact_tree.specs.Entries.{Leads, IsLinked, IsFit, AreFit, is_in}
 use Rattle.fact_tree.proofs.Each.{length-set_each, set_each-in, set_each-other}

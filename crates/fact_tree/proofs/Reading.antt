@@ -5,14 +5,14 @@ use Rattle.std.specs.List.{list_any}
 use Rattle.std.proofs.lemmas.Bool.{cases_Bool, cases_eq, eq-eqb, ne_eqb, and_right}
 use Rattle.std.proofs.lemmas.List.{length-append}
 use Rattle.std.proofs.Math.Bool.{or-false, or_assoc}
-use Rattle.fact_specs.specs.declared.Fact.{Fact}
-use Rattle.fact_specs.specs.declared.Fact.TheVariants.{Has, Edge, Apart, Same}
-use Rattle.fact_specs.specs.Joins.{rep_after, rep}
-use Rattle.fact_specs.specs.State.{node_count, has, has_edge, are_apart, gives_concept, gives_edge, gives_apart}
-use Rattle.fact_specs.proofs.Joined.{by_last, rep-snoc}
+use Rattle.calculus_specs.specs.declared.facts.Fact.{Fact}
+use Rattle.calculus_specs.specs.declared.facts.Fact.TheVariants.{Has, Edge, Apart, Same}
+use Rattle.calculus_specs.specs.Joins.{rep_after, rep}
+use Rattle.calculus_specs.specs.State.{node_count, has, has_edge, are_apart, gives_concept, gives_edge, gives_apart}
+use Rattle.calculus_specs.proofs.Joined.{by_last, rep-snoc}
 use Rattle.fact_tree.specs.Kept.{Lists, Kept, new_lists, bare, having, leading, parted, with_concept, with_concepts, lists_at, changed_at, grown, made, linked, after, kept_of}
 use Rattle.fact_tree.specs.Entries.{IsLinked, IsFit, AreFit}
-use Rattle.fact_specs.specs.Listed.{IsLabel, AreEdges}
+use Rattle.calculus_specs.specs.Listed.{IsLabel, AreEdges}
 use Rattle.fact_tree.specs.Told.{AreAparts, gives_first}
 use Rattle.fact_tree.proofs.Linked.{kept_of-snoc, count_after, node_count-snoc, fit_before, fit_last, merged_one, low_stays, high_stays}
 use Rattle.fact_tree.proofs.Law.{count_is, kept_linked}

@@ -4,8 +4,8 @@ use Rattle.std.specs.Prelude.{◌==◌, if◌then◌else◌, slice_set}
 use Rattle.std.proofs.lemmas.List.{length-take, length-set, length-append, set-append_left, set-get_or}
 use Rattle.std.proofs.Math.Seq.{take-append_seam, drop-append_seam, take-length}
 use Rattle.std.proofs.Math.ListN.{get_or-append, drop_of_length-le}
-use Rattle.fact_specs.specs.declared.Fact.{Fact}
-use Rattle.fact_specs.specs.declared.Fact.TheVariants.{Has, Edge, Apart, Same}
+use Rattle.calculus_specs.specs.declared.facts.Fact.{Fact}
+use Rattle.calculus_specs.specs.declared.facts.Fact.TheVariants.{Has, Edge, Apart, Same}
 use Rattle.fact_tree.specs.Kept.{Lists, Kept, new_lists, bare, having, leading, parted, absorbing, Begins, cut_lists, lists_at, changed_at, grown, made, linked, set_each, after_at}
 use Rattle.fact_tree.specs.Entries.{lengths_of, undone, relinked, Undoes, IsPlace, IsLonger, HasMore}
 use Rattle.fact_tree.proofs.Each.{length-set_each, put_back}

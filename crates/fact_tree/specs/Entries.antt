@@ -3,9 +3,9 @@
 -- off are linked to the first of them again.
 use Rattle.std.specs.Prelude.{◌≡◌, ℕ, ◌+◌, ◌<◌, ◌≤◌, ◌==◌, ◌&&◌, nat_lt, Bool, true, List, length, take, drop, map, get_or, slice_set}
 use Rattle.std.specs.List.{list_any}
-use Rattle.fact_specs.specs.declared.Fact.{Fact}
-use Rattle.fact_specs.specs.declared.Fact.TheVariants.{Has, Edge, Apart, Same}
-use Rattle.fact_specs.specs.State.{node_count}
+use Rattle.calculus_specs.specs.declared.facts.Fact.{Fact}
+use Rattle.calculus_specs.specs.declared.facts.Fact.TheVariants.{Has, Edge, Apart, Same}
+use Rattle.calculus_specs.specs.State.{node_count}
 use Rattle.fact_tree.specs.declared.store.Lengths.{Lengths}
 use Rattle.fact_tree.specs.declared.tree.Entry.{Entry}
 use Rattle.fact_tree.specs.Kept.{Lists, Kept, kept_of, lists_at, bare, cut_lists, set_each, Begins}

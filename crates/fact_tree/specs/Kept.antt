@@ -2,9 +2,9 @@
 -- node, of which those of representatives are read.
 use Rattle.std.specs.Prelude.{◌≡◌, ℕ, ◌==◌, min, max, List, [], ◌∷◌, ◌++◌, length, take, get_or, if◌then◌else◌, slice_set}
 use Rattle.std.specs.List.{list_any}
-use Rattle.fact_specs.specs.declared.Fact.{Fact}
-use Rattle.fact_specs.specs.declared.Fact.TheVariants.{Has, Edge, Apart, Same}
-use Rattle.fact_specs.specs.Joins.{rep_after}
+use Rattle.calculus_specs.specs.declared.facts.Fact.{Fact}
+use Rattle.calculus_specs.specs.declared.facts.Fact.TheVariants.{Has, Edge, Apart, Same}
+use Rattle.calculus_specs.specs.Joins.{rep_after}
 
 -- the lists of a node
 pub record Lists : Type 0 where

@@ -1,7 +1,7 @@
 -- Facts that are added take nothing back.
 use Rattle.std.specs.Prelude.{◌≡◌, ℕ, true, List, ◌++◌}
-use Rattle.fact_specs.specs.declared.Fact.{Fact}
-use Rattle.fact_specs.specs.State.{is_so}
+use Rattle.calculus_specs.specs.declared.facts.Fact.{Fact}
+use Rattle.calculus_specs.specs.State.{is_so}
 
 -- what is so in the state of some facts stays so when facts are put behind them
 abbrev pub FactsStay : Type 0

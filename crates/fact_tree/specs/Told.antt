@@ -1,10 +1,10 @@
 -- What a tree answers of nodes that are apart, and what it gains with new nodes.
 use Rattle.std.specs.Prelude.{◌≡◌, ℕ, ◌<◌, ◌==◌, ◌&&◌, Bool, true, false, List, ◌++◌, length, get_or, Some}
 use Rattle.std.specs.List.{list_any}
-use Rattle.fact_specs.specs.declared.Fact.{Fact}
-use Rattle.fact_specs.specs.Joins.{rep}
-use Rattle.fact_specs.specs.State.{node_count, parent, has_edge, gives_concept, gives_edge, gives_apart, fresh_facts}
-use Rattle.fact_specs.specs.declared.Fact.TheVariants.{Has, Edge, Apart, Same}
+use Rattle.calculus_specs.specs.declared.facts.Fact.{Fact}
+use Rattle.calculus_specs.specs.Joins.{rep}
+use Rattle.calculus_specs.specs.State.{node_count, parent, has_edge, gives_concept, gives_edge, gives_apart, fresh_facts}
+use Rattle.calculus_specs.specs.declared.facts.Fact.TheVariants.{Has, Edge, Apart, Same}
 
 -- whether the fact keeps a node with the representative a, which it names first, apart from one with the representative b
 abbrev pub gives_first : (ℕ → ℕ) → ℕ → ℕ → Fact ℕ → Bool

@@ -4,8 +4,8 @@ ghost use Rattle.std.specs.FinSet as set;
 ghost use Rattle.lane_sieve.specs.Sets.{number_set};
 ghost use Rattle.fact_tree.specs.Short.{HaveBits, AreIndexed, EachIsNew};
 
+use calculus_specs::NoMemory;
 use lane_sieve::{put_number, take_number};
-use shq_base::NoMemory;
 use std::alloc::Allocator;
 
 // So few concepts are looked through, and have no bits.

@@ -1,7 +1,7 @@
 //! The facts of a search over their nodes: what they say of each node, found by a few looks, and undone item by item.
 //!
 //! Solvers keep what they derived on a trail and undo it from its end. A [`FactTree`] is seen as its list of facts, and each
-//! answer is what the definitions of `fact_specs` say of that list, whatever facts came and went. For each node it keeps the
+//! answer is what the definitions of `calculus_specs` say of that list, whatever facts came and went. For each node it keeps the
 //! representative (the least of the nodes that are one with it) and, for a representative, these nodes, its concepts, its
 //! edges and what it is apart from, as lists. All lies in the memory of one allocator, as an arena.
 //!

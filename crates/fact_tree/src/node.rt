@@ -4,8 +4,8 @@ ghost use Rattle.std.specs.List.{list_any};
 ghost use Rattle.fact_tree.specs.Kept.{new_lists, putting, having, leading, parted, absorbing, cut_lists, Begins};
 
 use crate::bits::{forget_after, put_last};
+use calculus_specs::NoMemory;
 use lane_sieve::{has_number, put_number};
-use shq_base::NoMemory;
 use std::alloc::Allocator;
 use std::marker::Model;
 

@@ -4,8 +4,7 @@ ghost use Rattle.fact_tree.specs.Kept.{absorbed_at, lists_at, changed_at, having
 ghost use Rattle.fact_tree.specs.Entries.{lengths_of, undone, relinked, Undoes, IsPlace, AreOrdered, AreLonger, IsLonger, HasMore};
 
 use crate::node::Node;
-use fact_specs::Fact;
-use shq_base::NoMemory;
+use calculus_specs::{Fact, NoMemory};
 use std::alloc::Allocator;
 use std::marker::Model;
 

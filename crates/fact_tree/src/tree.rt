@@ -1,17 +1,16 @@
 // Facts, and what they say.
 ghost use Rattle.std.specs.Prelude.{◌≡◌, ℕ, ◌==◌, true, false, get_or, ◌+◌, ◌-◌, ◌<◌, ◌≤◌, ◌^◌, [], ◌∷◌, ◌++◌, OnOk, OnErr, IfOk, length, take, slice_get, Some, IsNone, IfSome};
-ghost use Rattle.fact_specs.specs.Joins.{rep};
-ghost use Rattle.fact_specs.specs.State.{node_count, has, are_apart, gives_concept, gives_edge, gives_apart, parent as parent_of, new_nodes, apart_from, pairwise_apart, fresh_facts, HasParentsBefore};
-ghost use Rattle.fact_specs.specs.declared.Fact.TheVariants.{Has, Edge};
+ghost use Rattle.calculus_specs.specs.Joins.{rep};
+ghost use Rattle.calculus_specs.specs.State.{node_count, has, are_apart, gives_concept, gives_edge, gives_apart, parent as parent_of, new_nodes, apart_from, pairwise_apart, fresh_facts, HasParentsBefore};
+ghost use Rattle.calculus_specs.specs.declared.facts.Fact.TheVariants.{Has, Edge};
 ghost use Rattle.fact_tree.specs.Kept.{Kept, kept_of, after_at, at_of, high_of};
 ghost use Rattle.fact_tree.specs.Entries.{IsFit, IsPlace, AreOrdered, Undoes, Leads, lengths_of};
-ghost use Rattle.fact_specs.specs.Listed.{IsLabel, IsOnce, AreEdges};
+ghost use Rattle.calculus_specs.specs.Listed.{IsLabel, IsOnce, AreEdges};
 ghost use Rattle.fact_tree.specs.Told.{with_fresh, AreAparts, is_first_apart, IsOrigin, gives, IsGround, IsUngrounded, IsAlone};
 
 use crate::node::Node;
 use crate::store::{Lengths, Store};
-use fact_specs::Fact;
-use shq_base::NoMemory;
+use calculus_specs::{Fact, NoMemory};
 use std::alloc::Allocator;
 use std::marker::Model;
 
@@ -31,7 +30,7 @@ pub struct FactTree<A: Allocator> {
 
 impl<A: Allocator> Model for FactTree<A> {
     ghost use Rattle.std.specs.Prelude.{◌≡◌, ℕ, List};
-    ghost use Rattle.fact_specs.specs.declared.Fact.{Fact as PlainFact};
+    ghost use Rattle.calculus_specs.specs.declared.facts.Fact.{Fact as PlainFact};
     ghost use Rattle.fact_tree.specs.Kept.{kept_of};
     ghost use Rattle.fact_tree.specs.Entries.{facts_of, AreEntries, AreFit};
 

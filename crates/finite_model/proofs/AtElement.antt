@@ -3,7 +3,7 @@ use Rattle.std.proofs.Common.{◌≡◌, ℕ, Bool, true, false, ◌&&◌, List,
 use Rattle.std.specs.Prelude.{slice_index}
 use Rattle.std.specs.List.{list_all, list_any}
 use Rattle.std.proofs.lemmas.Bool.{and_from, or_parts}
-use Rattle.shq_base.specs.Concept.{parts_of}
+use Rattle.shq_terms.specs.Concept.{parts_of}
 use Rattle.shq_meaning.specs.Below.{all_below}
 use Rattle.shq_meaning.specs.Truth.{Interpretation, holds, hold_any, hold_all, meets}
 use Rattle.shq_meaning.proofs.Implied.{implies_false}

@@ -5,7 +5,7 @@ use Rattle.std.specs.List.{list_any}
 use Rattle.std.proofs.lemmas.Bool.{or_from, and_right, cases_lt}
 use Rattle.std.proofs.lemmas.Bool.Decides.{nat_tests}
 use Rattle.std.proofs.lemmas.List.Folds.{list_any_more}
-use Rattle.shq_base.specs.Concept.{Concept, parts_of}
+use Rattle.shq_terms.specs.Concept.{Concept, parts_of}
 use Rattle.shq_meaning.specs.Truth.{Interpretation, holds, hold_all, hold_any}
 use Rattle.finite_model.specs.Next.{FailsBetween, IsNextAt, IsNext, least}
 

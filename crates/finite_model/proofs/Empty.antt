@@ -4,7 +4,7 @@ use Rattle.std.specs.Prelude.{nat_eq, nat_le, eqb, leb, count_by}
 use Rattle.std.specs.List.{list_any}
 use Rattle.shq_meaning.specs.Below.{all_below, count_below}
 use Rattle.shq_terms.specs.declared.axioms.Query.{Query}
-use Rattle.shq_base.specs.Concept.{Concept, some_of, at_least, exactly, parts_of}
+use Rattle.shq_terms.specs.Concept.{Concept, some_of, at_least, exactly, parts_of}
 use Rattle.shq_meaning.specs.Truth.{Interpretation, holds, hold_any, implies, same, none_twice, refutes_at, out_degree, successors}
 use Rattle.std.proofs.lemmas.Bool.{or_parts}
 use Rattle.std.proofs.lemmas.Bool.Decides.{nat_tests}

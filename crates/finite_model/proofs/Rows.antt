@@ -7,7 +7,7 @@ use Rattle.std.specs.List.{filter, list_all, list_any}
 use Rattle.std.specs.declared.ops.Bound.TheVariants.{Included, Excluded}
 use Rattle.std.specs.BTreeMap.Range.{range_contains}
 use Rattle.std.proofs.lemmas.Bool.Decides.{nat_tests}
-use Rattle.shq_base.proofs.Bools.{and_exchange}
+use Rattle.shq_terms.proofs.Bools.{and_exchange}
 use Rattle.shq_meaning.specs.Below.{all_below}
 use Rattle.shq_meaning.specs.Truth.{implies}
 use Rattle.finite_model.specs.ModelLists.{is_link, is_from, tuple_cmp}

@@ -1,7 +1,7 @@
 -- Numbers that are passed over change nothing of what holds of all numbers, and nothing of a count.
 use Rattle.std.proofs.Common.{◌≡◌, ℕ, zero, suc, ◌+◌, ◌<◌, ◌≤◌, Bool, true, false, ◌&&◌, cond, refl, ap, sym, ◌∙◌, inl, inr, arith}
 use Rattle.std.proofs.lemmas.Bool.{cases_eq}
-use Rattle.shq_base.proofs.Bools.{none_counted}
+use Rattle.shq_terms.proofs.Bools.{none_counted}
 use Rattle.shq_meaning.specs.Below.{all_below, count_below}
 use Rattle.shq_meaning.proofs.Below.{all_below-false}
 use Rattle.finite_model.specs.Next.{FailsBetween, IsNextAt}

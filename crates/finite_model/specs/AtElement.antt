@@ -1,7 +1,7 @@
 -- What an axiom says of each element by itself, and which elements can break it.
 use Rattle.std.specs.Prelude.{ℕ, Bool, ◌&&◌, ◌||◌, nat_le, List, slice_index}
 use Rattle.std.specs.List.{list_all, list_any}
-use Rattle.shq_base.specs.Concept.{Concept, parts_of}
+use Rattle.shq_terms.specs.Concept.{Concept, parts_of}
 use Rattle.shq_meaning.specs.Below.{all_below}
 use Rattle.shq_meaning.specs.Truth.{Interpretation, implies, same, holds, hold_any, each_successor, all_same, none_twice, out_degree}
 use Rattle.shq_terms.specs.declared.axioms.Axiom.{Axiom}

@@ -19,4 +19,4 @@ pub use certificate_lines::LineFault as ModelFault;
 pub use interp::Interp;
 pub use laws::{malformed_line_is_the_first, models_are_read_back};
 pub use reading::read_text;
-pub use shq_base::NoMemory;
+pub use shq_terms::NoMemory;

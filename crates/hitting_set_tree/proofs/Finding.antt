@@ -13,14 +13,14 @@ use Rattle.pinpointing_specs.proofs.Explored.{laws_of_lists}
 use Rattle.set_questions.specs.Meaning.{Meaning}
 use Rattle.set_questions.specs.InOrder.{HaveOneLimit}
 use Rattle.hitting_set_tree.specs.declared.tree.Found.{Found}
-use Rattle.hitting_set_tree.specs.Tree.{Lists, IsListed, IsGrown}
+use Rattle.hitting_set_tree.specs.Tree.{Lists, HoldsLists, IsGrown}
 use Rattle.hitting_set_tree.specs.Open.{Closes, HasOpen, IsEnded}
 use Rattle.hitting_set_tree.specs.Found.{IsFound}
 use Rattle.hitting_set_tree.proofs.Opening.{settled_still}
 
 -- the same sets are listed in another order
-module _ (justs justs' : List Limited) (same : (s : Limited) → Contains justs' s ↔ Contains justs s) where
-  nodes_same : (taken : List Limited) → AreNodes justs taken → AreNodes justs' taken
+module _ (justifications justifications' : List Limited) (same : (s : Limited) → Contains justifications' s ↔ Contains justifications s) where
+  nodes_same : (taken : List Limited) → AreNodes justifications taken → AreNodes justifications' taken
   nodes_same taken nodes = (
     nodes.0,
     record {
@@ -30,10 +30,10 @@ module _ (justs justs' : List Limited) (same : (s : Limited) → Contains justs'
     },
   )
 
-  settled_same : (leaves taken : List Limited) (count : ℕ) → AreSettled justs leaves taken count → AreSettled justs' leaves taken count
-  settled_same leaves taken count settled k d low lt = settled_still justs justs' leaves leaves _ (λ x at. (same x).1 at) (λ x at. at) (settled k d low lt)
+  settled_same : (leaves taken : List Limited) (count : ℕ) → AreSettled justifications leaves taken count → AreSettled justifications' leaves taken count
+  settled_same leaves taken count settled k d low lt = settled_still justifications justifications' leaves leaves _ (λ x at. (same x).1 at) (λ x at. at) (settled k d low lt)
 
-  explored_same : (holds : NumberSet → Type 0) (limit : ℕ) (leaves : List Limited) → IsExplored holds limit justs leaves → IsExplored holds limit justs' leaves
+  explored_same : (holds : NumberSet → Type 0) (limit : ℕ) (leaves : List Limited) → IsExplored holds limit justifications leaves → IsExplored holds limit justifications' leaves
   explored_same holds limit leaves explored =
       record {
         limits = λ j at. explored.limits j ((same j).0 at);
@@ -49,16 +49,16 @@ one_limit n xs ys left right s t s_at t_at =
     let each : (x : Limited) → Contains (xs ++ ys) x → x.limit ≡ n = λ x at. elim (Contains-append_cases xs ys x at) [ inl front ↦ left x front | inr back ↦ right x back ] in
     each s s_at ∙ sym (each t t_at)
 
-pub found_lists : (m : Meaning) (ls : Lists) (f : Found) → Grows m.holds → IsAscending f.justs.items → ((s : Limited) → Contains f.justs.items s ↔ Contains ls.justs s) → f.leaves.items ≡ ls.leaves
+pub found_lists : (m : Meaning) (ls : Lists) (f : Found) → Grows m.holds → IsAscending f.justifications.items → ((s : Limited) → Contains f.justifications.items s ↔ Contains ls.justifications s) → f.leaves.items ≡ ls.leaves
     → Closes m.taken ls f.finished → IsGrown m ls f.finished → IsFound m f
 found_lists m ls f grows order same leaves closes grown =
-    let js = f.justs.items in
+    let js = f.justifications.items in
     let listed = grown.listed in
     let just_limits : (j : Limited) → Contains js j → j.limit ≡ m.size = λ j at. listed.just_limits j ((same j).0 at) in
     let leaf : (l : Limited) → Contains f.leaves.items l → Contains ls.leaves l = λ l at. subst (λ (xs : List Limited). Contains xs l) leaves at in
     let leaf_limits : (l : Limited) → Contains f.leaves.items l → l.limit ≡ m.size = λ l at. listed.leaf_limits l (leaf l at) in
     let explored : f.finished ≡ true → IsExplored m.holds m.size js f.leaves.items = λ e.
-    subst (λ (xs : List Limited). IsExplored m.holds m.size js xs) (sym leaves) (explored_same ls.justs js same m.holds m.size ls.leaves (grown.explored e)) in
+    subst (λ (xs : List Limited). IsExplored m.holds m.size js xs) (sym leaves) (explored_same ls.justifications js same m.holds m.size ls.leaves (grown.explored e)) in
     record {
       order = order;
       just_limits = just_limits;
@@ -69,8 +69,8 @@ found_lists m ls f grows order same leaves closes grown =
       ends = λ l at. listed.ends l (leaf l at);
       shown_no = λ l at. listed.shown_no l (leaf l at);
       limits = one_limit m.size js f.leaves.items just_limits leaf_limits;
-      nodes = nodes_same ls.justs js same m.taken closes.0;
-      settled = subst (λ (xs : List Limited). AreSettled js xs m.taken (cond f.finished (length m.taken) (length m.taken - 1))) (sym leaves) (settled_same ls.justs js same ls.leaves m.taken (cond f.finished (length m.taken) (length m.taken - 1)) closes.2);
+      nodes = nodes_same ls.justifications js same m.taken closes.0;
+      settled = subst (λ (xs : List Limited). AreSettled js xs m.taken (cond f.finished (length m.taken) (length m.taken - 1))) (sym leaves) (settled_same ls.justifications js same ls.leaves m.taken (cond f.finished (length m.taken) (length m.taken - 1)) closes.2);
       all = λ e s limit smallest. (laws_of_lists m.holds m.size js f.leaves.items grows (explored e) s limit).1 smallest;
       explored = explored;
       spent = grown.spent;
@@ -84,5 +84,5 @@ closes_ended taken ls end = (end.nodes, end.leaf_taken, end.settled)
 pub closes_open : (taken : List Limited) (ls : Lists) (rooted : ℕ) → HasOpen taken ls rooted → Closes taken ls true
 closes_open taken ls rooted state = ((state.0, state.1.tree), state.1.leaf_taken, state.1.settled)
 
-pub grown_spent : (m : Meaning) (ls : Lists) → IsListed m ls → m.left ≡ 0 → IsGrown m ls false
+pub grown_spent : (m : Meaning) (ls : Lists) → HoldsLists m ls → m.left ≡ 0 → IsGrown m ls false
 grown_spent m ls listed spent = record { listed = listed; explored = λ e. absurd (true≢false (sym e)); spent = λ _. spent }

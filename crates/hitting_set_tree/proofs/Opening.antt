@@ -14,12 +14,12 @@ use Rattle.axiom_sets.specs.Sets.{Limited}
 use Rattle.pinpointing_specs.specs.Smallest.{AreApart}
 use Rattle.pinpointing_specs.specs.Nodes.{IsChild, IsTree, IsSettled, AreSettled}
 use Rattle.set_questions.specs.Meaning.{Meaning, one_more}
-use Rattle.hitting_set_frames.specs.declared.frames.Frame.{Frame}
-use Rattle.hitting_set_frames.specs.declared.frames.Node.{Node}
-use Rattle.hitting_set_frames.specs.Territory.{InNode, InScope, InFrame, IsNode, IsFrame, IsNextChild, Frames}
+use Rattle.hitting_set_tree.specs.declared.frames.Frame.{Frame}
+use Rattle.hitting_set_tree.specs.declared.frames.Node.{Node}
+use Rattle.hitting_set_tree.specs.Territory.{InNode, InScope, InFrame, IsNode, IsFrame, IsNextChild, Frames}
 use Rattle.hitting_set_tree.specs.Tree.{Lists, with_frame}
 use Rattle.hitting_set_tree.specs.Open.{Stands, IsBuilt, IsOpen, IsBeside, IsPending, IsEnded, HasOpen, AsksFew}
-use Rattle.hitting_set_frames.proofs.Children.{apart_turned}
+use Rattle.hitting_set_tree.proofs.Children.{apart_turned}
 
 -- ---- lists that grow at the end
 
@@ -104,9 +104,9 @@ stands_within fs hit hit' scope scope' e inside stands =
 
 -- ---- one node more
 
-module _ (justs taken : List Limited) (label label' : ℕ → Limited) (hit : Limited) (tree : IsTree justs taken label) (agrees : (p : ℕ) → p < length taken → label' p ≡ label p) (new : ¬ Contains taken hit)
+module _ (justifications taken : List Limited) (label label' : ℕ → Limited) (hit : Limited) (tree : IsTree justifications taken label) (agrees : (p : ℕ) → p < length taken → label' p ≡ label p) (new : ¬ Contains taken hit)
     (root : length taken ≡ 0 → hit.members ≡ set.empty)
-    (parent : 0 < length taken → (p : ℕ) × (p < length taken) × Contains justs (label p) × ((d : Limited) → IsChild (get_or taken p d) (label p) hit)) where
+    (parent : 0 < length taken → (p : ℕ) × (p < length taken) × Contains justifications (label p) × ((d : Limited) → IsChild (get_or taken p d) (label p) hit)) where
   distinct_more : (i j : ℕ) (d : Limited) → i < j → j < length (taken ++ hit ∷ []) → ¬ (get_or (taken ++ hit ∷ []) i d ≡ get_or (taken ++ hit ∷ []) j d)
   distinct_more i j d lt within same =
       elim (cases_lt j (length taken)) [
@@ -125,7 +125,7 @@ module _ (justs taken : List Limited) (label label' : ℕ → Limited) (hit : Li
       ]
 
   parent_more : (k : ℕ) (d : Limited) → 0 < k → k < length (taken ++ hit ∷ [])
-      → (i : ℕ) × (i < k) × Contains justs (label' i) × IsChild (get_or (taken ++ hit ∷ []) i d) (label' i) (get_or (taken ++ hit ∷ []) k d)
+      → (i : ℕ) × (i < k) × Contains justifications (label' i) × IsChild (get_or (taken ++ hit ∷ []) i d) (label' i) (get_or (taken ++ hit ∷ []) k d)
   parent_more k d pos within =
       elim (cases_lt k (length taken)) [
         | inl low ↦
@@ -134,7 +134,7 @@ module _ (justs taken : List Limited) (label label' : ℕ → Limited) (hit : Li
             let same = sym (agrees up.0 i_low) in (
               up.0,
               up.1,
-              subst (λ (l : Limited). Contains justs l) same up.2,
+              subst (λ (l : Limited). Contains justifications l) same up.2,
               child_along _ _ _ _ _ _ (sym (old taken hit d up.0 i_low)) same (sym (old taken hit d k low)) up.3,
             )
         | inr high ↦
@@ -142,17 +142,17 @@ module _ (justs taken : List Limited) (label label' : ℕ → Limited) (hit : Li
             let same = sym (agrees up.0 up.1) in (
               up.0,
               omega (arith, up.1),
-              subst (λ (l : Limited). Contains justs l) same up.2,
+              subst (λ (l : Limited). Contains justifications l) same up.2,
               child_along _ _ _ _ _ _ (sym (old taken hit d up.0 up.1)) same (sym (last taken hit d k (omega (arith, long taken hit)))) (up.3 d),
             )
       ]
 
-  pub tree_more : IsTree justs (taken ++ hit ∷ []) label'
+  pub tree_more : IsTree justifications (taken ++ hit ∷ []) label'
   tree_more = record { distinct = distinct_more; root = root_more; parent = parent_more }
 
 -- the parent of a node that stands on frames whose nodes were taken
-module _ (justs taken : List Limited) (below : List Frame) (label : ℕ → Limited) (hit : Limited) (scope : NumberSet → Type 0) (tree : IsTree justs taken label) (stands : Stands below hit scope)
-    (own : scope hit.members) (fresh : (t : Limited) → Contains taken t → ¬ scope t.members) (labels : (f : Frame) → Contains below f → Contains justs f.label)
+module _ (justifications taken : List Limited) (below : List Frame) (label : ℕ → Limited) (hit : Limited) (scope : NumberSet → Type 0) (tree : IsTree justifications taken label) (stands : Stands below hit scope)
+    (own : scope hit.members) (fresh : (t : Limited) → Contains taken t → ¬ scope t.members) (labels : (f : Frame) → Contains below f → Contains justifications f.label)
     (placed : (i : ℕ) (d : Frame) (e : Limited) → i < length below → (p : ℕ) × (p < length taken) × (get_or taken p e ≡ (get_or below i d).hit) × (label p ≡ (get_or below i d).label)) where
   pub new_node : ¬ Contains taken hit
   new_node at = fresh hit at own
@@ -165,7 +165,7 @@ module _ (justs taken : List Limited) (below : List Frame) (label : ℕ → Limi
           | inr no' ↦ stands.root (omega arith)
         ]
 
-    pub parent_of : 0 < length taken → (p : ℕ) × (p < length taken) × Contains justs (label p) × ((d : Limited) → IsChild (get_or taken p d) (label p) hit)
+    pub parent_of : 0 < length taken → (p : ℕ) × (p < length taken) × Contains justifications (label p) × ((d : Limited) → IsChild (get_or taken p d) (label p) hit)
     parent_of some =
         elim (cases_lt 0 (length below)) [
           | inl on ↦
@@ -176,7 +176,7 @@ module _ (justs taken : List Limited) (below : List Frame) (label : ℕ → Limi
               let child : IsChild g.hit g.label hit = stands.child f on in (
                 at.0,
                 at.1,
-                subst (λ (l : Limited). Contains justs l) (sym at.3) (labels g (Contains-get_or below n f lt)),
+                subst (λ (l : Limited). Contains justifications l) (sym at.3) (labels g (Contains-get_or below n f lt)),
                 λ d. child_along _ _ _ _ _ _ (sym (get_or_default taken at.0 d hit at.1 ∙ at.2)) (sym at.3) refl child,
               )
           | inr none ↦
@@ -186,9 +186,9 @@ module _ (justs taken : List Limited) (below : List Frame) (label : ℕ → Limi
         ]
 
 -- settled nodes stay so
-pub settled_still : (justs justs' leaves leaves' : List Limited) (node : Limited) → ((x : Limited) → Contains justs x → Contains justs' x) → ((x : Limited) → Contains leaves x → Contains leaves' x)
-    → IsSettled justs leaves node → IsSettled justs' leaves' node
-settled_still justs justs' leaves leaves' node more more' settled = elim settled [ inl leaf ↦ inl (more' node leaf) | inr just ↦ inr (just.0, more just.0 just.1, just.2) ]
+pub settled_still : (justifications justifications' leaves leaves' : List Limited) (node : Limited) → ((x : Limited) → Contains justifications x → Contains justifications' x) → ((x : Limited) → Contains leaves x → Contains leaves' x)
+    → IsSettled justifications leaves node → IsSettled justifications' leaves' node
+settled_still justifications justifications' leaves leaves' node more more' settled = elim settled [ inl leaf ↦ inl (more' node leaf) | inr just ↦ inr (just.0, more just.0 just.1, just.2) ]
 
 -- ---- the node of a frame is taken
 
@@ -236,18 +236,18 @@ module _ (n : ℕ) (taken : List Limited) (ls : Lists) (r : ℕ) (label : ℕ �
   newest : label' (length taken) ≡ frame.label
   newest = relabel_same label (length taken) frame.label
 
-  labels_below : (f : Frame) → Contains (take r ls.frames) f → Contains ls.justs f.label
+  labels_below : (f : Frame) → Contains (take r ls.frames) f → Contains ls.justifications f.label
   labels_below f at = open'.labels f (below_in f at)
 
-  more_tree : IsTree ls.justs (taken ++ hit ∷ []) label'
+  more_tree : IsTree ls.justifications (taken ++ hit ∷ []) label'
   more_tree =
-      tree_more ls.justs taken label label' hit open'.tree agrees free
-      (root_of ls.justs taken (take r ls.frames) label hit (InScope frame) open'.tree stands own fresh_here labels_below placed_below frame)
-      (parent_of ls.justs taken (take r ls.frames) label hit (InScope frame) open'.tree stands own fresh_here labels_below placed_below frame)
+      tree_more ls.justifications taken label label' hit open'.tree agrees free
+      (root_of ls.justifications taken (take r ls.frames) label hit (InScope frame) open'.tree stands own fresh_here labels_below placed_below frame)
+      (parent_of ls.justifications taken (take r ls.frames) label hit (InScope frame) open'.tree stands own fresh_here labels_below placed_below frame)
 
-  more_settled : AreSettled ls.justs ls.leaves (taken ++ hit ∷ []) (length (taken ++ hit ∷ []))
+  more_settled : AreSettled ls.justifications ls.leaves (taken ++ hit ∷ []) (length (taken ++ hit ∷ []))
   more_settled k d low within =
-      each_place (λ i t. IsSettled ls.justs ls.leaves t) taken hit (λ i e i_low. open'.settled i e i_low i_low)
+      each_place (λ i t. IsSettled ls.justifications ls.leaves t) taken hit (λ i e i_low. open'.settled i e i_low i_low)
       (inr (frame.label, open'.labels frame in_list, (frames frame in_list).label_apart)) k d within
 
   -- a frame that stands higher hits more
@@ -331,15 +331,15 @@ module _ (n : ℕ) (taken : List Limited) (ls : Lists) (r : ℕ) (label : ℕ �
   pub taken_node : IsPending (taken ++ node_hit ∷ []) ls node label
   taken_node =
       record {
-        tree = tree_more ls.justs taken label label node_hit open'.tree (λ p lt. refl) node_free
-            (root_of ls.justs taken ls.frames label node_hit (InNode node) open'.tree beside.stands own_in beside.fresh open'.labels placed_all spare)
-            (parent_of ls.justs taken ls.frames label node_hit (InNode node) open'.tree beside.stands own_in beside.fresh open'.labels placed_all spare);
+        tree = tree_more ls.justifications taken label label node_hit open'.tree (λ p lt. refl) node_free
+            (root_of ls.justifications taken ls.frames label node_hit (InNode node) open'.tree beside.stands own_in beside.fresh open'.labels placed_all spare)
+            (parent_of ls.justifications taken ls.frames label node_hit (InNode node) open'.tree beside.stands own_in beside.fresh open'.labels placed_all spare);
         leaf_taken = λ l at. Contains-append_left taken (node_hit ∷ []) l (open'.leaf_taken l at);
         some = omega (arith, long taken node_hit);
         last = λ d. last taken node_hit d (length (taken ++ node_hit ∷ []) - 1) (omega (arith, long taken node_hit));
         settled = λ k d lt within.
             let low : k < length taken = omega (arith, long taken node_hit) in
-            subst (λ (t : Limited). IsSettled ls.justs ls.leaves t) (sym (old taken node_hit d k low)) (open'.settled k d low low);
+            subst (λ (t : Limited). IsSettled ls.justifications ls.leaves t) (sym (old taken node_hit d k low)) (open'.settled k d low low);
         built = open'.built;
         labels = open'.labels;
         ahead = λ f at t t_at inside. elim (Contains-push_cases taken node_hit t t_at) [
@@ -372,13 +372,13 @@ module _ (n : ℕ) (taken : List Limited) (ls : Lists) (node : Node) (label : �
   node_taken : Contains taken node.hit
   node_taken = (length taken - 1, omega (arith, pending.some), pending.last node.hit)
 
-  leaf_open : IsOpen taken (record { justs = ls.justs; leaves = ls.leaves ++ node.hit ∷ []; frames = ls.frames }) (length ls.frames) label
+  leaf_open : IsOpen taken (record { justifications = ls.justifications; leaves = ls.leaves ++ node.hit ∷ []; frames = ls.frames }) (length ls.frames) label
   leaf_open =
       record {
         tree = pending.tree;
         leaf_taken = λ l at. elim (Contains-push_cases ls.leaves node.hit l at) [ inl before ↦ pending.leaf_taken l before | inr e ↦ subst (λ (x : Limited). Contains taken x) e node_taken ];
-        settled = λ k d _ lt. all_nodes (IsSettled ls.justs (ls.leaves ++ node.hit ∷ []))
-            (λ i e low i_lt. settled_still ls.justs ls.justs ls.leaves (ls.leaves ++ node.hit ∷ []) (get_or taken i e) (λ x at. at) (λ x at. Contains-append_left ls.leaves (node.hit ∷ []) x at) (pending.settled i e low i_lt))
+        settled = λ k d _ lt. all_nodes (IsSettled ls.justifications (ls.leaves ++ node.hit ∷ []))
+            (λ i e low i_lt. settled_still ls.justifications ls.justifications ls.leaves (ls.leaves ++ node.hit ∷ []) (get_or taken i e) (λ x at. at) (λ x at. Contains-append_left ls.leaves (node.hit ∷ []) x at) (pending.settled i e low i_lt))
             (inl (Contains-push ls.leaves node.hit)) k d lt;
         rooted_within = omega arith;
         built = pending.built;
@@ -388,15 +388,15 @@ module _ (n : ℕ) (taken : List Limited) (ls : Lists) (node : Node) (label : �
         placed = λ i d e lt. let at = pending.placed i d e lt in (at.0, omega (arith, at.1), at.2, at.3);
       }
 
-  pub has_leaf_open : HasOpen taken (record { justs = ls.justs; leaves = ls.leaves ++ node.hit ∷ []; frames = ls.frames }) (length ls.frames)
+  pub has_leaf_open : HasOpen taken (record { justifications = ls.justifications; leaves = ls.leaves ++ node.hit ∷ []; frames = ls.frames }) (length ls.frames)
   has_leaf_open = (label, leaf_open)
 
   module _ (j : Limited) (f : Frame) (stands : Frames node j f) where
-    abbrev justs' : List Limited
-    justs' = ls.justs ++ j ∷ []
+    abbrev justifications' : List Limited
+    justifications' = ls.justifications ++ j ∷ []
 
-    more_justs : (x : Limited) → Contains ls.justs x → Contains justs' x
-    more_justs x at = Contains-append_left ls.justs (j ∷ []) x at
+    more_justs : (x : Limited) → Contains ls.justifications x → Contains justifications' x
+    more_justs x at = Contains-append_left ls.justifications (j ∷ []) x at
 
     abbrev label'' : ℕ → Limited
     label'' = relabel label (length taken - 1) j
@@ -407,7 +407,7 @@ module _ (n : ℕ) (taken : List Limited) (ls : Lists) (node : Node) (label : �
     newest'' : label'' (length taken - 1) ≡ j
     newest'' = relabel_same label (length taken - 1) j
 
-    just_tree : IsTree justs' taken label''
+    just_tree : IsTree justifications' taken label''
     just_tree =
         record {
           distinct = pending.tree.distinct;
@@ -417,7 +417,7 @@ module _ (n : ℕ) (taken : List Limited) (ls : Lists) (node : Node) (label : �
               let same = sym (before up.0 (omega (arith, up.1))) in (
                 up.0,
                 up.1,
-                subst (λ (l : Limited). Contains justs' l) same (more_justs (label up.0) up.2),
+                subst (λ (l : Limited). Contains justifications' l) same (more_justs (label up.0) up.2),
                 child_along _ _ _ _ _ _ refl same refl up.3,
               );
         }
@@ -430,19 +430,19 @@ module _ (n : ℕ) (taken : List Limited) (ls : Lists) (node : Node) (label : �
     label_apart : AreApart j.members node.hit.members
     label_apart = subst (λ (h : Limited). AreApart j.members h.members) stands.same_hit (subst (λ (l : Limited). AreApart l.members f.hit.members) stands.same_label stands.good.label_apart)
 
-    just_open : IsOpen taken (record { justs = justs'; leaves = ls.leaves; frames = ls.frames ++ f ∷ [] }) (length (ls.frames ++ f ∷ [])) label''
+    just_open : IsOpen taken (record { justifications = justifications'; leaves = ls.leaves; frames = ls.frames ++ f ∷ [] }) (length (ls.frames ++ f ∷ [])) label''
     just_open =
         record {
           tree = just_tree;
           leaf_taken = pending.leaf_taken;
-          settled = λ k d _ lt. all_nodes (IsSettled justs' ls.leaves)
-              (λ i e low i_lt. settled_still ls.justs justs' ls.leaves ls.leaves (get_or taken i e) more_justs (λ x at. at) (pending.settled i e low i_lt))
-              (inr (j, Contains-push ls.justs j, label_apart)) k d lt;
+          settled = λ k d _ lt. all_nodes (IsSettled justifications' ls.leaves)
+              (λ i e low i_lt. settled_still ls.justifications justifications' ls.leaves ls.leaves (get_or taken i e) more_justs (λ x at. at) (pending.settled i e low i_lt))
+              (inr (j, Contains-push ls.justifications j, label_apart)) k d lt;
           rooted_within = omega arith;
           built = built_push ls.frames f pending.built (stands_within ls.frames node.hit f.hit (InNode node) (InScope f) stands.same_hit stands.inside pending.stands);
           labels = λ g at. elim (Contains-push_cases ls.frames f g at) [
             | inl old' ↦ more_justs g.label (pending.labels g old')
-            | inr e ↦ subst (λ (x : Limited). Contains justs' x) (sym stands.same_label ∙ ap (λ (x : Frame). x.label) e) (Contains-push ls.justs j)
+            | inr e ↦ subst (λ (x : Limited). Contains justifications' x) (sym stands.same_label ∙ ap (λ (x : Frame). x.label) e) (Contains-push ls.justifications j)
           ];
           ahead = λ g at t t_at inside. elim (Contains-push_cases ls.frames f g at) [
             | inl old' ↦ pending.ahead g old' t t_at inside
@@ -464,12 +464,12 @@ module _ (n : ℕ) (taken : List Limited) (ls : Lists) (node : Node) (label : �
           ];
         }
 
-    pub has_just_open : HasOpen taken (record { justs = justs'; leaves = ls.leaves; frames = ls.frames ++ f ∷ [] }) (length (ls.frames ++ f ∷ []))
+    pub has_just_open : HasOpen taken (record { justifications = justifications'; leaves = ls.leaves; frames = ls.frames ++ f ∷ [] }) (length (ls.frames ++ f ∷ []))
     has_just_open = (label'', just_open)
 
 -- ---- a frame by a listed label
 
-pub frame_open : (taken : List Limited) (ls : Lists) (r : ℕ) (label : ℕ → Limited) (node : Node) (j : Limited) (f : Frame) → IsOpen taken ls r label → IsBeside taken ls.frames node → Contains ls.justs j → Frames node j f
+pub frame_open : (taken : List Limited) (ls : Lists) (r : ℕ) (label : ℕ → Limited) (node : Node) (j : Limited) (f : Frame) → IsOpen taken ls r label → IsBeside taken ls.frames node → Contains ls.justifications j → Frames node j f
     → IsOpen taken (with_frame ls f) r label
 frame_open taken ls r label node j f open' beside listed stands =
     record {
@@ -480,7 +480,7 @@ frame_open taken ls r label node j f open' beside listed stands =
       built = built_push ls.frames f open'.built (stands_within ls.frames node.hit f.hit (InNode node) (InScope f) stands.same_hit stands.inside beside.stands);
       labels = λ g at. elim (Contains-push_cases ls.frames f g at) [
         | inl old' ↦ open'.labels g old'
-        | inr e ↦ subst (λ (x : Limited). Contains ls.justs x) (sym stands.same_label ∙ ap (λ (x : Frame). x.label) e) listed
+        | inr e ↦ subst (λ (x : Limited). Contains ls.justifications x) (sym stands.same_label ∙ ap (λ (x : Frame). x.label) e) listed
       ];
       ahead = λ g at t t_at inside. elim (Contains-push_cases ls.frames f g at) [
         | inl old' ↦ open'.ahead g old' t t_at inside
@@ -540,7 +540,7 @@ module _ (taken : List Limited) (ls : Lists) (r : ℕ) (label : ℕ → Limited)
           built = built_push ls.frames left (built_front ls.frames frame open'.built) (stands_within ls.frames frame.hit left.hit (InScope frame) (InScope left) next.same_hit next.left_inside stands_last);
           labels = λ g at. elim (Contains-push_cases ls.frames left g at) [
             | inl old' ↦ open'.labels g (front g old')
-            | inr e ↦ subst (λ (x : Limited). Contains ls.justs x) (sym next.same_label ∙ ap (λ (x : Frame). x.label) e) (open'.labels frame here)
+            | inr e ↦ subst (λ (x : Limited). Contains ls.justifications x) (sym next.same_label ∙ ap (λ (x : Frame). x.label) e) (open'.labels frame here)
           ];
           ahead = λ g at t t_at inside. elim (Contains-push_cases ls.frames left g at) [
             | inl old' ↦ open'.ahead g (front g old') t t_at inside
@@ -598,7 +598,7 @@ ended_pending taken ls node label pending = record { nodes = (label, pending.tre
 
 -- ---- the root
 
-pub root_open : (label : ℕ → Limited) → IsOpen [] (record { justs = []; leaves = []; frames = [] }) 0 label
+pub root_open : (label : ℕ → Limited) → IsOpen [] (record { justifications = []; leaves = []; frames = [] }) 0 label
 root_open label =
     record {
       tree = record { distinct = λ i j d lt within. absurd (omega arith); root = λ d within. absurd (omega arith); parent = λ k d pos within. absurd (omega arith) };

@@ -4,9 +4,9 @@ use Rattle.std.specs.List.{Contains}
 use Rattle.axiom_sets.specs.Sets.{Limited}
 use Rattle.set_questions.specs.Meaning.{Meaning, Keeps}
 use Rattle.set_questions.specs.Asked.{Takes}
-use Rattle.hitting_set_frames.specs.declared.frames.Frame.{Frame}
-use Rattle.hitting_set_frames.specs.declared.frames.Node.{Node}
-use Rattle.hitting_set_frames.specs.Territory.{IsNode, IsFrame}
+use Rattle.hitting_set_tree.specs.declared.frames.Frame.{Frame}
+use Rattle.hitting_set_tree.specs.declared.frames.Node.{Node}
+use Rattle.hitting_set_tree.specs.Territory.{IsNode, IsFrame}
 use Rattle.hitting_set_tree.specs.Tree.{Lists}
 use Rattle.hitting_set_tree.specs.Open.{HasOpen, HasPending, IsBeside, IsEnded, TakesPath}
 use Rattle.hitting_set_tree.proofs.Opening.{has_taken_frame, beside_still, taken_node, ended}

@@ -7,16 +7,16 @@ use Rattle.pinpointing_specs.specs.Smallest.{IsMinimalYes, rest, numbers_to}
 use Rattle.pinpointing_specs.proofs.Choices.{in_difference}
 use Rattle.set_questions.specs.Meaning.{Meaning, Keeps}
 use Rattle.set_questions.proofs.Rest.{numbers_within}
-use Rattle.hitting_set_frames.specs.declared.frames.Node.{Node}
-use Rattle.hitting_set_frames.specs.Territory.{IsNode, InNode}
-use Rattle.hitting_set_frames.specs.Weight.{node_weight}
-use Rattle.hitting_set_tree.specs.Tree.{Lists, IsListed, IsStep, AddsLabel, AddsLeaf}
+use Rattle.hitting_set_tree.specs.declared.frames.Node.{Node}
+use Rattle.hitting_set_tree.specs.Territory.{IsNode, InNode}
+use Rattle.hitting_set_tree.specs.Weight.{node_weight}
+use Rattle.hitting_set_tree.specs.Tree.{Lists, HoldsLists, IsStep, AddsLabel, AddsLeaf}
 use Rattle.hitting_set_tree.specs.Open.{HasOpen, HasPending}
 use Rattle.hitting_set_tree.proofs.Opening.{has_just_open, has_leaf_open}
 use Rattle.hitting_set_tree.proofs.Stepping.{with_just, with_leaf, step_just, step_leaf}
 
-same_lists : (a b : Lists) → a.justs ≡ b.justs → a.leaves ≡ b.leaves → a.frames ≡ b.frames → a ≡ b
-same_lists a b e f g = λ i. record { justs = e i; leaves = f i; frames = g i }
+same_lists : (a b : Lists) → a.justifications ≡ b.justifications → a.leaves ≡ b.leaves → a.frames ≡ b.frames → a ≡ b
+same_lists a b e f g = λ i. record { justifications = e i; leaves = f i; frames = g i }
 
 pub own_limit : (n : ℕ) (node : Node) → IsNode n node → IsNode node.hit.limit node
 own_limit n node good = subst (λ (k : ℕ). IsNode k node) (sym good.hit_limit) good
@@ -34,12 +34,12 @@ few_in_rest s part n inside e f =
 
 module _ (old new : Lists) (rooted : ℕ) (node : Node) where
   labelled : (just : Limited) (adds : AddsLabel old new rooted node just) → with_just old just adds.frame ≡ new
-  labelled just adds = same_lists (with_just old just adds.frame) new (sym adds.justs) (sym adds.leaves) (sym adds.frames)
+  labelled just adds = same_lists (with_just old just adds.frame) new (sym adds.justifications) (sym adds.leaves) (sym adds.frames)
 
   leaf : AddsLeaf old new rooted node → with_leaf old node.hit ≡ new
-  leaf adds = same_lists (with_leaf old node.hit) new (sym adds.justs) (sym adds.leaves) (sym adds.frames)
+  leaf adds = same_lists (with_leaf old node.hit) new (sym adds.justifications) (sym adds.leaves) (sym adds.frames)
 
-  module _ (m : Meaning) (good : IsNode m.size node) (listed : IsListed m old) where
+  module _ (m : Meaning) (good : IsNode m.size node) (listed : HoldsLists m old) where
     pub labelled_step : (just : Limited) → AddsLabel old new rooted node just → just.limit ≡ m.size → IsMinimalYes m.holds just → m.shown_yes just.members → IsStep m old new (InNode node) (node_weight node) true
     labelled_step just adds limit smallest shown =
         subst (λ (ls : Lists). IsStep m old ls (InNode node) (node_weight node) true) (labelled just adds) (step_just m old node listed just adds.frame good.hit_limit limit smallest shown adds.stands)

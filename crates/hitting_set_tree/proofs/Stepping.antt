@@ -11,19 +11,19 @@ use Rattle.axiom_sets.specs.Sets.{Limited, IsWithin}
 use Rattle.pinpointing_specs.specs.Smallest.{AreApart, rest, IsMinimalYes, HasPart, IsExplored}
 use Rattle.pinpointing_specs.proofs.Choices.{in_rest}
 use Rattle.set_questions.specs.Meaning.{Meaning, Keeps}
-use Rattle.hitting_set_frames.specs.declared.frames.Frame.{Frame}
-use Rattle.hitting_set_frames.specs.declared.frames.Node.{Node}
-use Rattle.hitting_set_frames.specs.declared.frames.Look.TheVariants.{Done}
-use Rattle.hitting_set_frames.specs.Territory.{InNode, InFrame, IsFrame, IsNextChild, Frames, Looks}
-use Rattle.hitting_set_frames.specs.Weight.{weight, frame_weight, node_weight, free_count}
-use Rattle.hitting_set_tree.specs.Tree.{Lists, with_frame, IsListed, IsCovered, IsStep}
-use Rattle.hitting_set_frames.proofs.Counts.{pow_pos}
+use Rattle.hitting_set_tree.specs.declared.frames.Frame.{Frame}
+use Rattle.hitting_set_tree.specs.declared.frames.Node.{Node}
+use Rattle.hitting_set_tree.specs.declared.frames.Look.TheVariants.{Done}
+use Rattle.hitting_set_tree.specs.Territory.{InNode, InFrame, IsFrame, IsNextChild, Frames, Looks}
+use Rattle.hitting_set_tree.specs.Weight.{weight, frame_weight, node_weight, free_count}
+use Rattle.hitting_set_tree.specs.Tree.{Lists, with_frame, HoldsLists, IsCovered, IsStep}
+use Rattle.hitting_set_tree.proofs.Counts.{pow_pos}
 
 pub keeps_minimal : (m m' : Meaning) → Keeps m m' → (s : Limited) → IsMinimalYes m.holds s → IsMinimalYes m'.holds s
 keeps_minimal m m' keeps s h =
     record { within = h.within; yes_set = (keeps.same_question s.members).0 h.yes_set; needed = λ k member claim. h.needed k member ((keeps.same_question (set.remove s.members k)).1 claim) }
 
-pub keeps_listed : (m m' : Meaning) (ls : Lists) → Keeps m m' → IsListed m ls → IsListed m' ls
+pub keeps_listed : (m m' : Meaning) (ls : Lists) → Keeps m m' → HoldsLists m ls → HoldsLists m' ls
 keeps_listed m m' ls keeps h =
     record {
       just_limits = λ j at. h.just_limits j at ∙ sym keeps.same_size;
@@ -45,12 +45,12 @@ pushed : {X : Type 0} (P : X → Type 0) (xs : List X) (y : X) → ((x : X) → 
 pushed P xs y each new x at = elim (Contains-push_cases xs y x at) [ inl old ↦ each x old | inr e ↦ subst P e new ]
 
 abbrev pub with_just : Lists → Limited → Frame → Lists
-with_just ls j f = record { justs = ls.justs ++ j ∷ []; leaves = ls.leaves; frames = ls.frames ++ f ∷ [] }
+with_just ls j f = record { justifications = ls.justifications ++ j ∷ []; leaves = ls.leaves; frames = ls.frames ++ f ∷ [] }
 
 abbrev pub with_leaf : Lists → Limited → Lists
-with_leaf ls l = record { justs = ls.justs; leaves = ls.leaves ++ l ∷ []; frames = ls.frames }
+with_leaf ls l = record { justifications = ls.justifications; leaves = ls.leaves ++ l ∷ []; frames = ls.frames }
 
-module _ (m : Meaning) (ls : Lists) (node : Node) (listed : IsListed m ls) where
+module _ (m : Meaning) (ls : Lists) (node : Node) (listed : HoldsLists m ls) where
   pub step_spent : m.left ≡ 0 → IsStep m ls ls (InNode node) (node_weight node) false
   step_spent none = record { listed = listed; covered = λ e. absurd (true≢false (sym e)); lighter = λ e. absurd (true≢false (sym e)); spent = λ _. none }
 
@@ -88,10 +88,10 @@ module _ (m : Meaning) (ls : Lists) (node : Node) (listed : IsListed m ls) where
       }
 
   -- a frame takes over from its node, whose label each set meets
-  framed : (justs : List Limited) (j : Limited) (f : Frame) → node.hit.limit ≡ m.size → Frames node j f → Contains justs j
-      → ((x : Limited) → Contains ls.justs x → Contains justs x)
-      → IsCovered ls (InNode node) → IsCovered (record { justs = justs; leaves = ls.leaves; frames = ls.frames ++ f ∷ [] }) (λ _. ⊥)
-  framed justs j f e stands at more before t meets =
+  framed : (justifications : List Limited) (j : Limited) (f : Frame) → node.hit.limit ≡ m.size → Frames node j f → Contains justifications j
+      → ((x : Limited) → Contains ls.justifications x → Contains justifications x)
+      → IsCovered ls (InNode node) → IsCovered (record { justifications = justifications; leaves = ls.leaves; frames = ls.frames ++ f ∷ [] }) (λ _. ⊥)
+  framed justifications j f e stands at more before t meets =
       elim (before t (λ x x_at. meets x (more x x_at))) [
         | inl known ↦ inl known
         | inr r ↦ elim r [
@@ -104,20 +104,20 @@ module _ (m : Meaning) (ls : Lists) (node : Node) (listed : IsListed m ls) where
   step_just j f e limit smallest shown stands =
       record {
         listed = record {
-          just_limits = pushed (λ (x : Limited). x.limit ≡ m.size) ls.justs j listed.just_limits limit;
-          smallest = pushed (λ (x : Limited). IsMinimalYes m.holds x) ls.justs j listed.smallest smallest;
-          shown_yes = pushed (λ (x : Limited). m.shown_yes x.members) ls.justs j listed.shown_yes shown;
+          just_limits = pushed (λ (x : Limited). x.limit ≡ m.size) ls.justifications j listed.just_limits limit;
+          smallest = pushed (λ (x : Limited). IsMinimalYes m.holds x) ls.justifications j listed.smallest smallest;
+          shown_yes = pushed (λ (x : Limited). m.shown_yes x.members) ls.justifications j listed.shown_yes shown;
           leaf_limits = listed.leaf_limits;
           ends = listed.ends;
           shown_no = listed.shown_no;
           frames = pushed (λ (x : Frame). IsFrame m.size x) ls.frames f listed.frames (subst (λ (n : ℕ). IsFrame n f) e stands.good);
         };
-        covered = λ _. framed (ls.justs ++ j ∷ []) j f e stands (Contains-push ls.justs j) (λ x at. Contains-append_left ls.justs (j ∷ []) x at);
+        covered = λ _. framed (ls.justifications ++ j ∷ []) j f e stands (Contains-push ls.justifications j) (λ x at. Contains-append_left ls.justifications (j ∷ []) x at);
         lighter = λ _. omega (arith, weight_push ls.frames f, stands.lighter);
         spent = λ e. absurd (true≢false e);
       }
 
-  pub step_frame : (j : Limited) (f : Frame) → node.hit.limit ≡ m.size → Contains ls.justs j → Frames node j f → IsStep m ls (with_frame ls f) (InNode node) (node_weight node) true
+  pub step_frame : (j : Limited) (f : Frame) → node.hit.limit ≡ m.size → Contains ls.justifications j → Frames node j f → IsStep m ls (with_frame ls f) (InNode node) (node_weight node) true
   step_frame j f e at stands =
       record {
         listed = record {
@@ -129,7 +129,7 @@ module _ (m : Meaning) (ls : Lists) (node : Node) (listed : IsListed m ls) where
           shown_no = listed.shown_no;
           frames = pushed (λ (x : Frame). IsFrame m.size x) ls.frames f listed.frames (subst (λ (n : ℕ). IsFrame n f) e stands.good);
         };
-        covered = λ _. framed ls.justs j f e stands at (λ x x_at. x_at);
+        covered = λ _. framed ls.justifications j f e stands at (λ x x_at. x_at);
         lighter = λ _. omega (arith, weight_push ls.frames f, stands.lighter);
         spent = λ e. absurd (true≢false e);
       }
@@ -156,7 +156,7 @@ step_child m ls new frame left node went_on looks step =
     }
 
 -- a frame that has no child left
-pub step_done : (m : Meaning) (ls : Lists) (frame left : Frame) → IsListed m ls → Looks frame left Done → IsStep m ls ls (InFrame frame) (frame_weight frame) true
+pub step_done : (m : Meaning) (ls : Lists) (frame left : Frame) → HoldsLists m ls → Looks frame left Done → IsStep m ls ls (InFrame frame) (frame_weight frame) true
 step_done m ls frame left listed looks =
     record {
       listed = listed;
@@ -169,7 +169,7 @@ step_done m ls frame left listed looks =
     }
 
 -- the frame that was taken off the lists
-pub listed_with : (m : Meaning) (ls : Lists) (f : Frame) → IsListed m ls → IsFrame m.size f → IsListed m (with_frame ls f)
+pub listed_with : (m : Meaning) (ls : Lists) (f : Frame) → HoldsLists m ls → IsFrame m.size f → HoldsLists m (with_frame ls f)
 listed_with m ls f listed good =
     record {
       just_limits = listed.just_limits;
@@ -184,7 +184,7 @@ listed_with m ls f listed good =
 in_none : (f : Frame) → ¬ Contains {X = Frame} [] f
 in_none f at = absurd (omega (arith, at.1))
 
-pub explored : (m : Meaning) (ls : Lists) → ls.frames ≡ [] → IsListed m ls → IsCovered ls (λ _. ⊥) → IsExplored m.holds m.size ls.justs ls.leaves
+pub explored : (m : Meaning) (ls : Lists) → ls.frames ≡ [] → HoldsLists m ls → IsCovered ls (λ _. ⊥) → IsExplored m.holds m.size ls.justifications ls.leaves
 explored m ls none listed covered =
     record {
       limits = listed.just_limits;
@@ -210,12 +210,12 @@ some_of (Some n) P Q e p q = (n, p, q)
 pub none_in : (s : NumberSet) → s ≡ set.empty → (k : ℕ) → set.contains s k ≡ true → ⊥
 none_in s e k h = true≢false (sym h ∙ ap (λ (x : NumberSet). set.contains x k) e ∙ set.contains-empty nat_cmp k)
 
-pub root_covered : (node : Node) → node.hit.members ≡ set.empty → node.barred.members ≡ set.empty → IsCovered (record { justs = []; leaves = []; frames = [] }) (InNode node)
+pub root_covered : (node : Node) → node.hit.members ≡ set.empty → node.barred.members ≡ set.empty → IsCovered (record { justifications = []; leaves = []; frames = [] }) (InNode node)
 root_covered node hit barred t meets = inr (inr (λ k h. absurd (none_in node.hit.members hit k h), λ k h. absurd (none_in node.barred.members barred k h)))
 
 -- ---- the last frame is taken off
 
-pub unlisted : (m : Meaning) (ls : Lists) (f : Frame) → IsListed m (with_frame ls f) → IsListed m ls
+pub unlisted : (m : Meaning) (ls : Lists) (f : Frame) → HoldsLists m (with_frame ls f) → HoldsLists m ls
 unlisted m ls f listed =
     record {
       just_limits = listed.just_limits;
@@ -227,7 +227,7 @@ unlisted m ls f listed =
       frames = λ x at. listed.frames x (Contains-append_left ls.frames (f ∷ []) x at);
     }
 
-pub last_frame : (m : Meaning) (ls : Lists) (f : Frame) → IsListed m (with_frame ls f) → IsFrame m.size f
+pub last_frame : (m : Meaning) (ls : Lists) (f : Frame) → HoldsLists m (with_frame ls f) → IsFrame m.size f
 last_frame m ls f listed = listed.frames f (Contains-push ls.frames f)
 
 pub uncovered : (ls : Lists) (f : Frame) → IsCovered (with_frame ls f) (λ _. ⊥) → IsCovered ls (InFrame f)

@@ -11,20 +11,20 @@ use Rattle.hitting_set_tree.specs.declared.tree.Found.{Found}
 
 pub record IsFound (m : Meaning) (f : Found) : Type 0 where
   -- smallest yes-sets, in order, each of which was shown to be a yes-set
-  pub order : IsAscending f.justs.items
-  pub just_limits : (j : Limited) → Contains f.justs.items j → j.limit ≡ m.size
-  pub smallest : (j : Limited) → Contains f.justs.items j → IsMinimalYes m.holds j
-  pub shown_yes : (j : Limited) → Contains f.justs.items j → m.shown_yes j.members
+  pub order : IsAscending f.justifications.items
+  pub just_limits : (j : Limited) → Contains f.justifications.items j → j.limit ≡ m.size
+  pub smallest : (j : Limited) → Contains f.justifications.items j → IsMinimalYes m.holds j
+  pub shown_yes : (j : Limited) → Contains f.justifications.items j → m.shown_yes j.members
   -- leaves are taken nodes whose rests are no yes-sets, which was shown
   pub leaf_limits : (l : Limited) → Contains f.leaves.items l → l.limit ≡ m.size
   pub leaf_taken : (l : Limited) → Contains f.leaves.items l → Contains m.taken l
   pub ends : (l : Limited) → Contains f.leaves.items l → IsWithin l.limit l.members × ¬ m.holds (rest l)
   pub shown_no : (l : Limited) → Contains f.leaves.items l → m.shown_no (rest l)
-  pub limits : HaveOneLimit (f.justs.items ++ f.leaves.items)
+  pub limits : HaveOneLimit (f.justifications.items ++ f.leaves.items)
   -- the taken nodes are those of a hitting-set tree, and settled, the last one apart where the budget was spent
-  pub nodes : AreNodes f.justs.items m.taken
-  pub settled : AreSettled f.justs.items f.leaves.items m.taken (cond f.finished (length m.taken) (length m.taken - 1))
+  pub nodes : AreNodes f.justifications.items m.taken
+  pub settled : AreSettled f.justifications.items f.leaves.items m.taken (cond f.finished (length m.taken) (length m.taken - 1))
   -- a finished list is whole
-  pub all : f.finished ≡ true → (s : Limited) → s.limit ≡ m.size → IsMinimalYes m.holds s → Contains f.justs.items s
-  pub explored : f.finished ≡ true → IsExplored m.holds m.size f.justs.items f.leaves.items
+  pub all : f.finished ≡ true → (s : Limited) → s.limit ≡ m.size → IsMinimalYes m.holds s → Contains f.justifications.items s
+  pub explored : f.finished ≡ true → IsExplored m.holds m.size f.justifications.items f.leaves.items
   pub spent : f.finished ≡ false → m.left ≡ 0

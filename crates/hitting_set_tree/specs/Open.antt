@@ -6,9 +6,9 @@ use Rattle.lane_sieve.specs.Sets.{NumberSet}
 use Rattle.axiom_sets.specs.Sets.{Limited}
 use Rattle.pinpointing_specs.specs.Nodes.{IsChild, IsTree, AreNodes, AreSettled}
 use Rattle.set_questions.specs.Meaning.{Meaning}
-use Rattle.hitting_set_frames.specs.declared.frames.Frame.{Frame}
-use Rattle.hitting_set_frames.specs.declared.frames.Node.{Node}
-use Rattle.hitting_set_frames.specs.Territory.{InNode, InScope, InFrame}
+use Rattle.hitting_set_tree.specs.declared.frames.Frame.{Frame}
+use Rattle.hitting_set_tree.specs.declared.frames.Node.{Node}
+use Rattle.hitting_set_tree.specs.Territory.{InNode, InScope, InFrame}
 use Rattle.hitting_set_tree.specs.Tree.{Lists}
 
 -- how a node stands on the frames below it, where `scope` has the node's sets: they are none of a frame's, the node hits
@@ -26,12 +26,12 @@ IsBuilt fs = (i : ℕ) (d : Frame) → i < length fs → Stands (take i fs) (sli
 -- between two looks: the nodes of the first `rooted` frames were taken, and all taken nodes are settled; none of the others
 -- is, nor is a set that is still to be looked at
 pub record IsOpen (taken : List Limited) (ls : Lists) (rooted : ℕ) (label : ℕ → Limited) : Type 0 where
-  pub tree : IsTree ls.justs taken label
+  pub tree : IsTree ls.justifications taken label
   pub leaf_taken : (l : Limited) → Contains ls.leaves l → Contains taken l
-  pub settled : AreSettled ls.justs ls.leaves taken (length taken)
+  pub settled : AreSettled ls.justifications ls.leaves taken (length taken)
   pub rooted_within : rooted ≤ length ls.frames
   pub built : IsBuilt ls.frames
-  pub labels : (f : Frame) → Contains ls.frames f → Contains ls.justs f.label
+  pub labels : (f : Frame) → Contains ls.frames f → Contains ls.justifications f.label
   pub ahead : (f : Frame) → Contains ls.frames f → (t : Limited) → Contains taken t → ¬ InFrame f t.members
   pub fresh : (i : ℕ) (d : Frame) → rooted ≤ i → i < length ls.frames → (t : Limited) → Contains taken t → ¬ InScope (slice_index_or ls.frames i d) t.members
   pub placed : (i : ℕ) (d : Frame) (e : Limited) → i < rooted
@@ -44,13 +44,13 @@ pub record IsBeside (taken : List Limited) (frames : List Frame) (node : Node) :
 
 -- the node was taken last, and is not settled yet
 pub record IsPending (taken : List Limited) (ls : Lists) (node : Node) (label : ℕ → Limited) : Type 0 where
-  pub tree : IsTree ls.justs taken label
+  pub tree : IsTree ls.justifications taken label
   pub leaf_taken : (l : Limited) → Contains ls.leaves l → Contains taken l
   pub some : 0 < length taken
   pub last : (d : Limited) → slice_index_or taken (length taken - 1) d ≡ node.hit
-  pub settled : AreSettled ls.justs ls.leaves taken (length taken - 1)
+  pub settled : AreSettled ls.justifications ls.leaves taken (length taken - 1)
   pub built : IsBuilt ls.frames
-  pub labels : (f : Frame) → Contains ls.frames f → Contains ls.justs f.label
+  pub labels : (f : Frame) → Contains ls.frames f → Contains ls.justifications f.label
   pub ahead : (f : Frame) → Contains ls.frames f → (t : Limited) → Contains taken t → ¬ InFrame f t.members
   pub placed : (i : ℕ) (d : Frame) (e : Limited) → i < length ls.frames
       → (p : ℕ) × (p + 1 < length taken) × (slice_index_or taken p e ≡ (slice_index_or ls.frames i d).hit) × (label p ≡ (slice_index_or ls.frames i d).label)
@@ -59,9 +59,9 @@ pub record IsPending (taken : List Limited) (ls : Lists) (node : Node) (label : 
 
 -- at any time: all taken nodes are settled, the last one apart
 pub record IsEnded (taken : List Limited) (ls : Lists) : Type 0 where
-  pub nodes : AreNodes ls.justs taken
+  pub nodes : AreNodes ls.justifications taken
   pub leaf_taken : (l : Limited) → Contains ls.leaves l → Contains taken l
-  pub settled : AreSettled ls.justs ls.leaves taken (length taken - 1)
+  pub settled : AreSettled ls.justifications ls.leaves taken (length taken - 1)
 
 abbrev pub HasOpen : List Limited → Lists → ℕ → Type 0
 HasOpen taken ls rooted = (label : ℕ → Limited) × IsOpen taken ls rooted label
@@ -81,7 +81,7 @@ TakesPath m ls node false = IsEnded m.taken ls × (m.left ≡ 0)
 
 -- in the end all taken nodes are settled where the budget sufficed
 abbrev pub Closes : List Limited → Lists → Bool → Type 0
-Closes taken ls finished = AreNodes ls.justs taken × ((l : Limited) → Contains ls.leaves l → Contains taken l) × AreSettled ls.justs ls.leaves taken (cond finished (length taken) (length taken - 1))
+Closes taken ls finished = AreNodes ls.justifications taken × ((l : Limited) → Contains ls.leaves l → Contains taken l) × AreSettled ls.justifications ls.leaves taken (cond finished (length taken) (length taken - 1))
 
 -- from m to m' no more than size + 1 asks were made for each node that was taken
 abbrev pub AsksFew : ℕ → Meaning → Meaning → Type 0

@@ -5,32 +5,32 @@ use Rattle.lane_sieve.specs.Sets.{NumberSet}
 use Rattle.axiom_sets.specs.Sets.{Limited, IsWithin}
 use Rattle.pinpointing_specs.specs.Smallest.{rest, IsMinimalYes, HasPart, MeetsEach, IsExplored}
 use Rattle.set_questions.specs.Meaning.{Meaning}
-use Rattle.hitting_set_frames.specs.declared.frames.Frame.{Frame}
-use Rattle.hitting_set_frames.specs.declared.frames.Node.{Node}
+use Rattle.hitting_set_tree.specs.declared.frames.Frame.{Frame}
+use Rattle.hitting_set_tree.specs.declared.frames.Node.{Node}
 use Rattle.hitting_set_tree.specs.declared.tree.Tree.{Tree}
-use Rattle.hitting_set_frames.specs.Territory.{IsFrame, InFrame, Frames}
-use Rattle.hitting_set_frames.specs.Weight.{weight}
+use Rattle.hitting_set_tree.specs.Territory.{IsFrame, InFrame, Frames}
+use Rattle.hitting_set_tree.specs.Weight.{weight}
 
 -- the lists that the tree keeps
 pub record Lists : Type 0 where
-  pub justs : List Limited
+  pub justifications : List Limited
   pub leaves : List Limited
   pub frames : List Frame
 
 abbrev pub lists : Tree → Lists
-lists t = record { justs = t.justs.items; leaves = t.leaves.items; frames = t.frames.items }
+lists t = record { justifications = t.justifications.items; leaves = t.leaves.items; frames = t.frames.items }
 
 abbrev pub with_frame : Lists → Frame → Lists
-with_frame ls f = record { justs = ls.justs; leaves = ls.leaves; frames = ls.frames ++ f ∷ [] }
+with_frame ls f = record { justifications = ls.justifications; leaves = ls.leaves; frames = ls.frames ++ f ∷ [] }
 
 abbrev pub InFrames : List Frame → NumberSet → Type 0
 InFrames fs t = (f : Frame) × Contains fs f × InFrame f t
 
 -- each listed set is a smallest yes-set and was shown to be one, the rest of each leaf was shown to be none
-pub record IsListed (m : Meaning) (ls : Lists) : Type 0 where
-  pub just_limits : (j : Limited) → Contains ls.justs j → j.limit ≡ m.size
-  pub smallest : (j : Limited) → Contains ls.justs j → IsMinimalYes m.holds j
-  pub shown_yes : (j : Limited) → Contains ls.justs j → m.shown_yes j.members
+pub record HoldsLists (m : Meaning) (ls : Lists) : Type 0 where
+  pub just_limits : (j : Limited) → Contains ls.justifications j → j.limit ≡ m.size
+  pub smallest : (j : Limited) → Contains ls.justifications j → IsMinimalYes m.holds j
+  pub shown_yes : (j : Limited) → Contains ls.justifications j → m.shown_yes j.members
   pub leaf_limits : (l : Limited) → Contains ls.leaves l → l.limit ≡ m.size
   pub ends : (l : Limited) → Contains ls.leaves l → IsWithin l.limit l.members × ¬ m.holds (rest l)
   pub shown_no : (l : Limited) → Contains ls.leaves l → m.shown_no (rest l)
@@ -47,32 +47,32 @@ others node = record { limit = node.hit.limit; members = rest node.hit }
 pub record AddsLabel (old new : Lists) (rooted : ℕ) (node : Node) (just : Limited) : Type 0 where
   pub frame : Frame
   pub stands : Frames node just frame
-  pub justs : new.justs ≡ old.justs ++ just ∷ []
+  pub justifications : new.justifications ≡ old.justifications ++ just ∷ []
   pub leaves : new.leaves ≡ old.leaves
   pub frames : new.frames ≡ old.frames ++ frame ∷ []
   pub all : rooted ≡ length new.frames
 
 -- a node was put last among the leaves, and all frames count as taken
 pub record AddsLeaf (old new : Lists) (rooted : ℕ) (node : Node) : Type 0 where
-  pub justs : new.justs ≡ old.justs
+  pub justifications : new.justifications ≡ old.justifications
   pub leaves : new.leaves ≡ old.leaves ++ node.hit ∷ []
   pub frames : new.frames ≡ old.frames
   pub all : rooted ≡ length new.frames
 
 -- a set that meets each listed one has a leaf as part, or is still to be looked at
 abbrev pub IsCovered : Lists → (NumberSet → Type 0) → Type 0
-IsCovered ls beside = (t : NumberSet) → MeetsEach ls.justs t → HasPart ls.leaves t ⊎ (InFrames ls.frames t ⊎ beside t)
+IsCovered ls beside = (t : NumberSet) → MeetsEach ls.justifications t → HasPart ls.leaves t ⊎ (InFrames ls.frames t ⊎ beside t)
 
 -- what a look at a node or a frame does, which stands for the sets `beside` and weighs `heavy`: where the budget sufficed,
 -- the lists take these sets over, and weigh less
 pub record IsStep (m : Meaning) (old new : Lists) (beside : NumberSet → Type 0) (heavy : ℕ) (went_on : Bool) : Type 0 where
-  pub listed : IsListed m new
+  pub listed : HoldsLists m new
   pub covered : went_on ≡ true → IsCovered old beside → IsCovered new (λ _. ⊥)
   pub lighter : went_on ≡ true → weight new.frames + 1 ≤ weight old.frames + heavy
   pub spent : went_on ≡ false → m.left ≡ 0
 
 -- what the lists are in the end: explored, or nothing is left of the budget
 pub record IsGrown (m : Meaning) (ls : Lists) (finished : Bool) : Type 0 where
-  pub listed : IsListed m ls
-  pub explored : finished ≡ true → IsExplored m.holds m.size ls.justs ls.leaves
+  pub listed : HoldsLists m ls
+  pub explored : finished ≡ true → IsExplored m.holds m.size ls.justifications ls.leaves
   pub spent : finished ≡ false → m.left ≡ 0

@@ -1,8 +1,14 @@
 //! All smallest yes-sets, and the leaves of a tree of sets that hit them.
+//!
+//! The nodes that are still to be looked at, and what they stand for, are kept in `frames`.
 #![tactic(auto)]
 
+mod frames;
 mod law;
+mod steps;
 mod tree;
 
+pub use frames::{Frame, Look, Node};
 pub use law::explored_lists_are_all;
+pub use steps::{frame_of, next_child};
 pub use tree::{Found, enumerate};

@@ -8,23 +8,23 @@ ghost use Rattle.axiom_sets.specs.Sets.{Limited, IsWithin};
 ghost use Rattle.pinpointing_specs.specs.Smallest.{AreApart};
 ghost use Rattle.set_questions.specs.Meaning.{Keeps};
 ghost use Rattle.set_questions.specs.Asked.{Answers};
-ghost use Rattle.hitting_set_frames.specs.Territory.{IsNode, IsFrame, InNode, InFrame, Frames};
-ghost use Rattle.hitting_set_frames.specs.Weight.{node_weight, frame_weight};
-ghost use Rattle.hitting_set_tree.specs.Tree.{lists, with_frame, others, IsListed, AreFrames, IsCovered, IsStep, IsGrown, AddsLabel, AddsLeaf};
+ghost use Rattle.hitting_set_tree.specs.Territory.{IsNode, IsFrame, InNode, InFrame, Frames};
+ghost use Rattle.hitting_set_tree.specs.Weight.{node_weight, frame_weight};
+ghost use Rattle.hitting_set_tree.specs.Tree.{lists, with_frame, others, HoldsLists, AreFrames, IsCovered, IsStep, IsGrown, AddsLabel, AddsLeaf};
 ghost use Rattle.hitting_set_tree.specs.Open.{HasOpen, HasPending, IsBeside, StaysOpen, TakesPath, Closes, AsksFew};
 ghost use Rattle.hitting_set_tree.specs.Found.{IsFound};
 
+use crate::{Frame, Look, Node, frame_of, next_child};
 use axiom_sets::AxiomSet;
-use hitting_set_frames::{Frame, Look, Node, frame_of, next_child};
 use justification_shrink::{Shrunk, shrink};
-use set_questions::{Ask, Entail, in_order, place_apart, place_of_part, rest_of};
-use shq_base::NoMemory;
+use lane_sieve::NoMemory;
+use set_questions::{Entail, Reply, in_order, place_apart, place_of_part, rest_of};
 use std::alloc::Global;
 
 /// What is known, and what is still to be looked at.
 #[derive(Drop)]
 pub struct Tree {
-    justs: Vec<AxiomSet>,
+    justifications: Vec<AxiomSet>,
     leaves: Vec<AxiomSet>,
     frames: Vec<Frame>,
 
@@ -36,7 +36,7 @@ pub struct Tree {
 #[derive(Drop)]
 pub struct Found {
     /// The smallest yes-sets, in their order.
-    pub justs: Vec<AxiomSet>,
+    pub justifications: Vec<AxiomSet>,
 
     /// The sets that were asked and whose rest is no yes-set.
     pub leaves: Vec<AxiomSet>,
@@ -56,7 +56,7 @@ pub fn enumerate<E: Entail>(alloc: Global, entail: &mut E) -> Result<Found, NoMe
 {
     let count = entail.count();
     let mut tree = Tree {
-        justs: Vec::new(alloc),
+        justifications: Vec::new(alloc),
         leaves: Vec::new(alloc),
         frames: Vec::new(alloc),
         rooted: 0,
@@ -66,15 +66,15 @@ pub fn enumerate<E: Entail>(alloc: Global, entail: &mut E) -> Result<Found, NoMe
         barred: AxiomSet::empty(alloc, count)?,
     };
     let finished = grow(alloc, entail, &mut tree, root)?;
-    let justs = in_order(alloc, &tree.justs)?;
+    let justifications = in_order(alloc, &tree.justifications)?;
     let Tree {
-        justs: _,
+        justifications: _,
         leaves,
         frames: _,
         rooted: _,
     } = tree;
     Ok(Found {
-        justs,
+        justifications,
         leaves,
         finished,
     })
@@ -88,7 +88,7 @@ fn grow<E: Entail>(
     root: Node,
 ) -> Result<bool, NoMemory>
     requires node { IsNode (E.meaning entail.old).size root }
-    requires listed { IsListed (E.meaning entail.old) (lists tree.old) }
+    requires listed { HoldsLists (E.meaning entail.old) (lists tree.old) }
     requires open { HasOpen (E.meaning entail.old).taken (lists tree.old) tree.old.rooted }
     requires beside { IsBeside (E.meaning entail.old).taken (lists tree.old).frames root }
     requires covered { IsCovered (lists tree.old) (InNode root) }
@@ -107,7 +107,7 @@ fn grow<E: Entail>(
 
 /// Looks at frames, the last one first, until none is left or the budget is spent.
 fn run<E: Entail>(alloc: Global, entail: &mut E, tree: &mut Tree) -> Result<bool, NoMemory>
-    requires listed { IsListed (E.meaning entail.old) (lists tree.old) }
+    requires listed { HoldsLists (E.meaning entail.old) (lists tree.old) }
     requires open { HasOpen (E.meaning entail.old).taken (lists tree.old) tree.old.rooted }
     requires covered { IsCovered (lists tree.old) (λ _. ⊥) }
     ensures keeps { Keeps (E.meaning entail.old) (E.meaning entail.new) }
@@ -133,7 +133,7 @@ fn look_on<E: Entail>(
     mut frame: Frame,
 ) -> Result<bool, NoMemory>
     requires frame { IsFrame (E.meaning entail.old).size frame }
-    requires listed { IsListed (E.meaning entail.old) (lists tree.old) }
+    requires listed { HoldsLists (E.meaning entail.old) (lists tree.old) }
     requires open { HasOpen (E.meaning entail.old).taken (with_frame (lists tree.old) frame) tree.old.rooted }
     ensures keeps { Keeps (E.meaning entail.old) (E.meaning entail.new) }
     ensures same { E.origin entail.new ≡ E.origin entail.old }
@@ -164,7 +164,7 @@ fn visit<E: Entail>(
     node: Node,
 ) -> Result<bool, NoMemory>
     requires node { IsNode (E.meaning entail.old).size node }
-    requires listed { IsListed (E.meaning entail.old) (lists tree.old) }
+    requires listed { HoldsLists (E.meaning entail.old) (lists tree.old) }
     requires open { HasOpen (E.meaning entail.old).taken (lists tree.old) tree.old.rooted }
     requires beside { IsBeside (E.meaning entail.old).taken (lists tree.old).frames node }
     ensures keeps { Keeps (E.meaning entail.old) (E.meaning entail.new) }
@@ -174,8 +174,8 @@ fn visit<E: Entail>(
         (IsStep (E.meaning entail.new) (lists tree.old) (lists tree.new) (InNode node) (node_weight node)) }
     ensures asked { OnOk result (AsksFew (E.meaning entail.old).size (E.meaning entail.old) (E.meaning entail.new)) }
 {
-    if let Some(place) = place_apart(&tree.justs, &node.hit) {
-        let frame = frame_by(node, &tree.justs, place)?;
+    if let Some(place) = place_apart(&tree.justifications, &node.hit) {
+        let frame = frame_by(node, &tree.justifications, place)?;
         tree.frames.push(frame)?;
         return Ok(true);
     }
@@ -186,14 +186,14 @@ fn visit<E: Entail>(
 }
 
 /// The frame of a node with one of the listed sets that is apart from it.
-fn frame_by(node: Node, justs: &[AxiomSet], place: usize) -> Result<Frame, NoMemory>
+fn frame_by(node: Node, justifications: &[AxiomSet], place: usize) -> Result<Frame, NoMemory>
     requires node { IsNode node.hit.limit node }
-    requires within { place < length justs.now }
-    requires limits { All (λ s. s.limit ≡ node.hit.limit) justs.now }
-    requires apart { ¬ DoMeet (slice_index_or justs.now place node.hit).members node.hit.members }
-    ensures { IfOk result (λ f. (j : Limited) × Contains justs.now j × Frames node j f) }
+    requires within { place < length justifications.now }
+    requires limits { All (λ s. s.limit ≡ node.hit.limit) justifications.now }
+    requires apart { ¬ DoMeet (slice_index_or justifications.now place node.hit).members node.hit.members }
+    ensures { IfOk result (λ f. (j : Limited) × Contains justifications.now j × Frames node j f) }
 {
-    let frame = frame_of(node, &justs[place])?;
+    let frame = frame_of(node, &justifications[place])?;
     Ok(frame)
 }
 
@@ -205,7 +205,7 @@ fn take_and_ask<E: Entail>(
     node: Node,
 ) -> Result<bool, NoMemory>
     requires node { IsNode (E.meaning entail.old).size node }
-    requires listed { IsListed (E.meaning entail.old) (lists tree.old) }
+    requires listed { HoldsLists (E.meaning entail.old) (lists tree.old) }
     requires open { HasOpen (E.meaning entail.old).taken (lists tree.old) tree.old.rooted }
     requires beside { IsBeside (E.meaning entail.old).taken (lists tree.old).frames node }
     ensures keeps { Keeps (E.meaning entail.old) (E.meaning entail.new) }
@@ -254,7 +254,7 @@ fn ask_node<E: Entail>(
     node: Node,
 ) -> Result<bool, NoMemory>
     requires node { IsNode (E.meaning entail.old).size node }
-    requires listed { IsListed (E.meaning entail.old) (lists tree.old) }
+    requires listed { HoldsLists (E.meaning entail.old) (lists tree.old) }
     requires pending { HasPending (E.meaning entail.old).taken (lists tree.old) node }
     ensures keeps { Keeps (E.meaning entail.old) (E.meaning entail.new) }
     ensures same { E.origin entail.new ≡ E.origin entail.old }
@@ -276,11 +276,11 @@ fn settle<E: Entail>(
     entail: &mut E,
     tree: &mut Tree,
     node: Node,
-    answer: Ask,
+    answer: Reply,
 ) -> Result<bool, NoMemory>
     requires node { IsNode (E.meaning entail.old).size node }
     requires within { IsWithin node.hit.limit node.hit.members }
-    requires listed { IsListed (E.meaning entail.old) (lists tree.old) }
+    requires listed { HoldsLists (E.meaning entail.old) (lists tree.old) }
     requires pending { HasPending (E.meaning entail.old).taken (lists tree.old) node }
     requires answer { Answers (E.meaning entail.old) (others node) answer }
     ensures keeps { Keeps (E.meaning entail.old) (E.meaning entail.new) }
@@ -293,12 +293,12 @@ fn settle<E: Entail>(
         ((E.meaning entail.new).asks ≤ (E.meaning entail.old).asks + (E.meaning entail.old).size) }
 {
     match answer {
-        Ask::Yes(part) => label_node(entail, tree, node, &part),
-        Ask::No => {
+        Reply::Yes(part) => label_node(entail, tree, node, &part),
+        Reply::No => {
             add_leaf(tree, node)?;
             Ok(true)
         }
-        Ask::Spent => Ok(false),
+        Reply::Spent => Ok(false),
     }
 }
 
@@ -310,9 +310,9 @@ fn label_node<E: Entail>(
     part: &AxiomSet,
 ) -> Result<bool, NoMemory>
     requires node { IsNode (E.meaning entail.old).size node }
-    requires listed { IsListed (E.meaning entail.old) (lists tree.old) }
+    requires listed { HoldsLists (E.meaning entail.old) (lists tree.old) }
     requires pending { HasPending (E.meaning entail.old).taken (lists tree.old) node }
-    requires part { Answers (E.meaning entail.old) (others node) (Ask.Yes part.now) }
+    requires part { Answers (E.meaning entail.old) (others node) (Reply.Yes part.now) }
     ensures keeps { Keeps (E.meaning entail.old) (E.meaning entail.new) }
     ensures same { E.origin entail.new ≡ E.origin entail.old }
     ensures taken { (E.meaning entail.new).taken ≡ (E.meaning entail.old).taken }
@@ -339,7 +339,7 @@ fn add_label(tree: &mut Tree, node: Node, just: AxiomSet) -> Result<(), NoMemory
     ensures { OnOk result (AddsLabel (lists tree.old) (lists tree.new) tree.new.rooted node just) }
 {
     let frame = frame_of(node, &just)?;
-    tree.justs.push(just)?;
+    tree.justifications.push(just)?;
     tree.frames.push(frame)?;
     tree.rooted = tree.frames.len();
     Ok(())

@@ -4,10 +4,10 @@ use Rattle.shq_terms.specs.Listed.{Listed}
 use Rattle.ofn_expressions.specs.declared.refusal.Refusal.{Refusal}
 use Rattle.ofn_expressions.specs.declared.refusal.Refusal.TheVariants as R
 use Rattle.ofn_reader.specs.DocumentContext.{DocumentContext}
-use Rattle.certificate_check.specs.Unread.{query_unread}
-use Rattle.certificate_check.specs.declared.unread.Unread.{Unread}
-use Rattle.certificate_check.specs.declared.unread.Unread.TheVariants as U
-use Rattle.certificate_check.specs.Checking.{IsUndocumented}
+use Rattle.job_inputs.specs.Unread.{query_unread}
+use Rattle.job_inputs.specs.declared.unread.Unread.{Unread}
+use Rattle.job_inputs.specs.declared.unread.Unread.TheVariants as U
+use Rattle.job_inputs.specs.Asked.{IsUndocumented}
 use Rattle.job_inputs.specs.Questions.{has_element, no_document, IsNoClassOf, IsUnreadDocument, IsUnreadQuestion}
 
 pub class_refused : (o : Listed) (kept : DocumentContext) (class : List ℕ) (e : Refusal) (u : Unread) → u ≡ query_unread e → (e ≢ R.NoMemory → IsNoClassOf o kept class e) → IsUnreadQuestion o kept (has_element class) u

@@ -1,2 +1,9 @@
+pub mod Answer
+pub mod Complaints
+pub mod Unread
+pub mod Asked
+pub mod Replies
 pub mod Rest
 pub mod Questions
+pub mod Refusals
+pub use Rattle.text_laws.specs.LimitLaws

@@ -1,6 +1,6 @@
 -- What is asked of a document.
 use Rattle.std.specs.Prelude.{◌≡◌, ℕ, ◌+◌, List, drop}
-use Rattle.shq_base.specs.Concept.{Concept, bottom}
+use Rattle.shq_terms.specs.Concept.{Concept, bottom}
 use Rattle.shq_terms.specs.Listed.{Listed}
 use Rattle.shq_terms.specs.declared.axioms.Query.{Query as Asked}
 use Rattle.ofn_expressions.specs.Counts.{Counts}
@@ -9,10 +9,10 @@ use Rattle.ofn_expressions.specs.declared.refusal.Refusal.TheVariants.{BadShape}
 use Rattle.ofn_reader.specs.DocumentContext.{DocumentContext}
 use Rattle.ofn_reader.specs.Documents.{IsDocument, IsNoDocument}
 use Rattle.ofn_reader.specs.Queries.{IsClass, IsNoClass, query_start}
-use Rattle.read_limits.specs.Laws.{with_names}
-use Rattle.certificate_check.specs.Checking.{IsAsked, IsNotAsked, Reply, refused_document, refused_query}
-use Rattle.certificate_check.specs.declared.unread.Unread.{Unread}
-use Rattle.certificate_check.specs.declared.unread.Unread.TheVariants as U
+use Rattle.text_laws.specs.LimitLaws.{with_names}
+use Rattle.job_inputs.specs.Asked.{IsAsked, IsNotAsked, Reply, refused_document, refused_query}
+use Rattle.job_inputs.specs.declared.unread.Unread.{Unread}
+use Rattle.job_inputs.specs.declared.unread.Unread.TheVariants as U
 use Rattle.job_inputs.specs.Rest.{IsOnlyGap, IsStray, line_at}
 use Rattle.job_inputs.specs.declared.reading.Question.{Question}
 use Rattle.job_inputs.specs.declared.reading.Question.TheVariants as Q

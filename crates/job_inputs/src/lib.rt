@@ -1,13 +1,29 @@
-//! What the jobs that search read: a document with nothing else after it, and a question on it.
+//! What the jobs read, how they end, and what is written where something is refused.
 //!
-//! A job is asked about a document alone. After its last bracket only whitespace and comments may stand (OWL 2 Structural
-//! Specification and Functional-Style Syntax, section 2.1, has no more in an ontology document); the first other byte is a fault
-//! of the document, on its line. A question is an inclusion of two class expressions, or whether a class expression has an
-//! element, which asks for the inclusion of it in `owl:Nothing`.
+//! - **Inputs.** A job is asked about a document alone. After its last bracket only whitespace and comments may stand (OWL 2
+//!   Structural Specification and Functional-Style Syntax, section 2.1, has no more in an ontology document); the first other byte
+//!   is a fault of the document, on its line. A question is an inclusion of two class expressions, or whether a class expression has
+//!   an element, which asks for the inclusion of it in `owl:Nothing`.
+//! - **Answers.** Each job answers a status and one text. A document or a query that is refused is answered in the same way by each
+//!   of them: with the sort of the refusal, what is wrong, and where.
 #![tactic(auto)]
 
+mod complaint;
+mod documents;
+mod message;
 mod reading;
 mod rest;
+mod status;
+mod text;
+mod unread;
+mod verdict;
 
+pub use complaint::{Complaint, Place, Sort, complaint_of};
+pub use documents::{document, query_on};
+pub use message::{Message, unread_reply};
 pub use reading::{Question, read_document, read_question};
 pub use rest::first_stray;
+pub use status::Status;
+pub use text::Text;
+pub use unread::Unread;
+pub use verdict::Verdict;

@@ -1,11 +1,12 @@
 // Documents alone, and questions on them.
 ghost use Rattle.std.specs.Prelude.{◌≡◌, ◌≤◌, IfOk, IfErr, IfSome, IsNone, OnErr, drop, length};
-ghost use Rattle.shq_base.specs.Concept.{bottom};
+ghost use Rattle.shq_terms.specs.Concept.{bottom};
 ghost use Rattle.job_inputs.specs.Rest.{IsOnlyGap, IsStrayLine};
 ghost use Rattle.job_inputs.specs.Questions.{question_text, has_element, follows, IsDocumentAlone, IsReadQuestion, IsUnreadDocument, IsUnreadQuestion};
 
+use crate::documents::{document, query_on};
 use crate::rest::first_stray;
-use certificate_check::{Unread, document, query_on};
+use crate::unread::Unread;
 use ofn_reader::{Context, Refusal, read_class};
 use ofn_tree::end_line;
 use shq_terms::{Concept, Node, Ontology, Query};

@@ -19,18 +19,3 @@ pub fn checked(
     input.extend_from_slice(certificate)?;
     run_on(alloc, &["check", query.as_str()], &input)
 }
-
-/// Whether `check` accepts the certificate, whichever of the two verdicts it is for.
-///
-/// # Errors
-///
-/// Out of memory before the run.
-pub fn is_accepted(
-    alloc: Global,
-    words: [&str; 2],
-    document: &str,
-    certificate: &[u8],
-) -> Result<bool, NoMemory> {
-    let answer = checked(alloc, words, document, certificate)?;
-    Ok(answer.text().starts_with(b"accepted "))
-}

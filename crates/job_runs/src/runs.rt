@@ -27,7 +27,8 @@ impl Answer {
         self.sink.taken()
     }
 
-    /// The first line of what was written, without its end: the verdict of a question. What was written is its certificate.
+    /// The first line of what was written, without its end: the verdict of a question. What was written is its
+    /// certificate.
     pub fn verdict(&self) -> &[u8]
         ensures { result.now ≡ first_line self.now.sink.kept }
     {

@@ -31,7 +31,8 @@ pub fn document(alloc: Global, axioms: &str) -> Result<String, NoMemory>
     )
 }
 
-/// The axiom that a question asks for: the class expression of `sat` is part of nothing, and that of `entails` is the axiom itself.
+/// The axiom that a question asks for: the class expression of `sat` is part of nothing, and that of `entails` is the
+/// axiom itself.
 ///
 /// # Errors
 ///

@@ -1,14 +1,23 @@
-//! Tests of the jobs that search: questions and lists whose answers were worked out by hand, what `check` says of each
-//! certificate, and lists compared with what all subsets say.
+//! Tests of the jobs that no text can say: budgets from one step on, calls that fail, lists and taxonomies compared
+//! with what all subsets and all pairs say, long documents, and calls below the jobs. What can be said by text stands
+//! in `job_cases`.
 #![tactic(auto)]
 
 #[cfg(test)]
+mod asker_tests;
+#[cfg(test)]
 mod budget_tests;
 #[cfg(test)]
-mod classification_tests;
+mod fault_tests;
 #[cfg(test)]
-mod listing_tests;
+mod large_tests;
 #[cfg(test)]
-mod question_tests;
+mod reading;
+#[cfg(test)]
+mod relation;
+#[cfg(test)]
+mod set_tests;
 #[cfg(test)]
 mod subset_tests;
+#[cfg(test)]
+mod taxonomy_tests;

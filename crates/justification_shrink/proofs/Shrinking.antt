@@ -2,7 +2,7 @@
 use Rattle.std.proofs.Common.{◌≡◌, ℕ, ◌+◌, ◌<◌, ◌≤◌, ◌⊎◌, true, ap, ◌∙◌, sym, subst, arith, inl, inr, eq-eqb, length, refl, cond, ◌-◌, zero-add, length-append}
 use Rattle.std.specs.FinSet as set
 use Rattle.std.proofs.lemmas.Bool.{cases_eq, cases_Bool, ne_eqb}
-use Rattle.shq_base.proofs.Bools.{counted_le}
+use Rattle.lane_sieve.proofs.Bools.{counted_le}
 use Rattle.lane_sieve.specs.Sets.{NumberSet, IsPart, members_below, passing}
 use Rattle.lane_sieve.proofs.Bits.{contains_insert}
 use Rattle.lane_sieve.proofs.Ranges.{passing-add, passing_take, passing_skip}

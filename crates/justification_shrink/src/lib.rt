@@ -16,8 +16,8 @@ ghost use Rattle.set_questions.specs.Meaning.{Keeps};
 ghost use Rattle.justification_shrink.specs.Shrunk.{ShrinksTo, Tries};
 
 use axiom_sets::AxiomSet;
-use set_questions::{Ask, Entail};
-use shq_base::NoMemory;
+use lane_sieve::NoMemory;
+use set_questions::{Entail, Reply};
 
 /// What came of shrinking a set.
 #[derive(Drop)]
@@ -74,11 +74,11 @@ fn try_without<E: Entail>(
     }
     kept.take(number);
     match entail.ask(&kept)? {
-        Ask::Yes(part) => Ok(Shrunk::Just(part)),
-        Ask::No => {
+        Reply::Yes(part) => Ok(Shrunk::Just(part)),
+        Reply::No => {
             kept.put(number);
             Ok(Shrunk::Just(kept))
         }
-        Ask::Spent => Ok(Shrunk::Spent),
+        Reply::Spent => Ok(Shrunk::Spent),
     }
 }

@@ -29,4 +29,5 @@ pub use new_words::{copy_words, repeat_word};
 pub use numbers::Numbers;
 pub use order::compare_numbers;
 pub use pairs::{do_meet, is_part, subtract, unite};
+pub use shq_base::NoMemory;
 pub use words::{meets_words, subset_words, union_words};

@@ -7,8 +7,8 @@ use Rattle.std.proofs.lemmas.Bool.Decides.{nat_tests}
 use Rattle.shq_terms.specs.Listed.{Listed}
 use Rattle.shq_terms.specs.declared.axioms.Query.{Query}
 use Rattle.shq_meaning.specs.Truth.{Interpretation}
-use Rattle.shape_specs.specs.Shape.{Shape}
-use Rattle.shape_specs.specs.Rows.{Row}
+use Rattle.calculus_specs.specs.Shape.{Shape}
+use Rattle.calculus_specs.specs.Rows.{Row}
 use Rattle.role_box.specs.declared.role_axiom.RoleAxiom.{RoleAxiom}
 use Rattle.role_box.specs.RoleAxioms.{role_axioms}
 use Rattle.role_box.specs.Steps.{is_transitive}
@@ -16,22 +16,22 @@ use Rattle.role_box.specs.Paths.{has_path, role_limit, is_below}
 use Rattle.role_box.specs.Closure.{any_below}
 use Rattle.role_box.proofs.Limits.{transitive_within}
 use Rattle.ontology_limits.specs.Limits.{IsInLimit}
-use Rattle.fact_specs.specs.declared.Fact.{Fact}
-use Rattle.refutation_truth.specs.Theory.{theory_of}
+use Rattle.calculus_specs.specs.declared.facts.Fact.{Fact}
+use Rattle.search_laws.specs.Theory.{theory_of}
 use Rattle.tableau_specs.specs.declared.Item.{Item}
 use Rattle.tableau_specs.specs.Items.{facts_of}
 use Rattle.tableau_specs.specs.Steps.{SearchContext}
 use Rattle.tableau_specs.specs.Reached.{IsReached}
-use Rattle.counter_models.specs.Elements.{elements}
-use Rattle.counter_models.specs.Built.{IsBuilt}
-use Rattle.counter_models.specs.Computed.{leads_to, has_chain, has_pair, built}
-use Rattle.counter_models.specs.Laws.{context_of}
-use Rattle.counter_models.proofs.Nodes.{any_in_range, member}
-use Rattle.counter_models.proofs.InLimit.{theory_is_order, names_are_listed}
-use Rattle.counter_models.proofs.Laws.{computed_interpretations_are_built}
-use Rattle.structure_model.specs.declared.structure.Member.{Member}
-use Rattle.structure_model.specs.declared.structure.Edge.{Edge}
-use Rattle.structure_model.specs.Structure.{leads, leads_listed, has_chain_of, has_chain_by, has_any_chain, IsInterpretation}
+use Rattle.search_laws.specs.Elements.{elements}
+use Rattle.search_laws.specs.Built.{IsBuilt}
+use Rattle.search_laws.specs.Computed.{leads_to, has_chain, has_pair, built}
+use Rattle.search_laws.specs.CounterModelLaws.{context_of}
+use Rattle.search_laws.proofs.CounterModelNodes.{any_in_range, member}
+use Rattle.search_laws.proofs.InLimit.{theory_is_order, names_are_listed}
+use Rattle.search_laws.proofs.CounterModelLaws.{computed_interpretations_are_built}
+use Rattle.model_builder.specs.declared.structure_model.Member.{Member}
+use Rattle.model_builder.specs.declared.structure_model.Edge.{Edge}
+use Rattle.model_builder.specs.Structure.{leads, leads_listed, has_chain_of, has_chain_by, has_any_chain, IsInterpretation}
 use Rattle.model_builder.specs.Laws.{AreOfElements, StructuresAreBuilt}
 
 -- ---- one below a bound that passes

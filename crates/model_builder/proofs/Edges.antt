@@ -5,14 +5,14 @@ use Rattle.std.specs.List.{list_any, range_with_len}
 use Rattle.std.proofs.Math.Bool.{or-false, and-or_distrib_left, and-false}
 use Rattle.std.proofs.lemmas.Bool.{and_parts, and_from, eqb-true, ltb-true}
 use Rattle.std.proofs.lemmas.List.Folds.{list_any-append, list_any_at}
-use Rattle.shq_base.proofs.Bools.{and_turned}
-use Rattle.fact_specs.specs.declared.Fact.{Fact}
-use Rattle.fact_specs.specs.Joins.{rep}
-use Rattle.fact_specs.specs.State.{node_count, is_successor}
-use Rattle.fact_specs.specs.Listed.{AreEdges}
-use Rattle.counter_models.specs.Elements.{elements, node_at}
-use Rattle.structure_model.specs.declared.structure.Edge.{Edge}
-use Rattle.structure_model.proofs.Tests.{lt_none, lt_more}
+use Rattle.shq_terms.proofs.Bools.{and_turned}
+use Rattle.calculus_specs.specs.declared.facts.Fact.{Fact}
+use Rattle.calculus_specs.specs.Joins.{rep}
+use Rattle.calculus_specs.specs.State.{node_count, is_successor}
+use Rattle.calculus_specs.specs.Listed.{AreEdges}
+use Rattle.search_laws.specs.Elements.{elements, node_at}
+use Rattle.model_builder.specs.declared.structure_model.Edge.{Edge}
+use Rattle.model_builder.proofs.Tests.{lt_none, lt_more}
 use Rattle.model_builder.specs.Numbered.{number_of}
 use Rattle.model_builder.specs.Collected.{edge_to, edges_by, has_edge_by, leads_from, AreElementEdges}
 use Rattle.model_builder.proofs.Numbers.{is_at, number_is}

@@ -3,3 +3,9 @@ pub mod Numbers
 pub mod Members
 pub mod Edges
 pub mod Whole
+pub mod Tests
+pub mod Inserted
+pub mod Gained
+pub mod NoChains
+pub mod Walked
+pub mod Ends

@@ -5,18 +5,18 @@ use Rattle.std.specs.List.{list_any}
 use Rattle.std.proofs.Math.Bool.{or-false, and-or_distrib_left, and-false}
 use Rattle.std.proofs.lemmas.Bool.{and_parts, and_from, eqb-true, ltb-true}
 use Rattle.std.proofs.lemmas.List.Folds.{list_any-append, list_any_at}
-use Rattle.shq_base.proofs.Bools.{same_truth}
-use Rattle.shape_specs.specs.Shape.{Shape, shape_of}
-use Rattle.shape_specs.specs.Shape.Shape.{top, bottom, name, not_name, intersection, union, some_of, all_of, at_least, at_most}
-use Rattle.fact_specs.specs.declared.Fact.{Fact}
-use Rattle.fact_specs.specs.State.{label}
-use Rattle.fact_specs.specs.Listed.{IsLabel}
-use Rattle.fact_specs.proofs.State.{any-label}
+use Rattle.shq_terms.proofs.Bools.{same_truth}
+use Rattle.calculus_specs.specs.Shape.{Shape, shape_of}
+use Rattle.calculus_specs.specs.Shape.Shape.{top, bottom, name, not_name, intersection, union, some_of, all_of, at_least, at_most}
+use Rattle.calculus_specs.specs.declared.facts.Fact.{Fact}
+use Rattle.calculus_specs.specs.State.{label}
+use Rattle.calculus_specs.specs.Listed.{IsLabel}
+use Rattle.calculus_specs.proofs.State.{any-label}
 use Rattle.tableau_specs.specs.Steps.{is_named}
-use Rattle.counter_models.proofs.Nodes.{member, any_more}
-use Rattle.structure_model.specs.declared.structure.Member.{Member}
-use Rattle.structure_model.specs.Structure.{is_member_of}
-use Rattle.structure_model.proofs.Tests.{lt_none, lt_more}
+use Rattle.search_laws.proofs.CounterModelNodes.{member, any_more}
+use Rattle.model_builder.specs.declared.structure_model.Member.{Member}
+use Rattle.model_builder.specs.Structure.{is_member_of}
+use Rattle.model_builder.proofs.Tests.{lt_none, lt_more}
 use Rattle.model_builder.specs.Collected.{class_in, member_of, members_by, has_class, AreMembers}
 
 -- ---- truth tables

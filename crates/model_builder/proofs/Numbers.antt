@@ -7,11 +7,11 @@ use Rattle.std.proofs.lemmas.List.{map-append, length-map, length-append, get_or
 use Rattle.std.proofs.Math.Seq.{get_or-append_seam}
 use Rattle.std.proofs.lemmas.List.Elements.{filter-append}
 use Rattle.std.proofs.lemmas.List.FromFn.{get_or-map-range_with_len, length-map-range_with_len}
-use Rattle.shq_base.proofs.Bools.{same_truth}
-use Rattle.fact_specs.specs.declared.Fact.{Fact}
-use Rattle.fact_specs.specs.State.{node_count}
-use Rattle.trail_laws.proofs.Counting.{passing_at, passing_ascends, length-passing, count_most}
-use Rattle.counter_models.specs.Elements.{is_element, elements, node_at, original}
+use Rattle.shq_terms.proofs.Bools.{same_truth}
+use Rattle.calculus_specs.specs.declared.facts.Fact.{Fact}
+use Rattle.calculus_specs.specs.State.{node_count}
+use Rattle.search_laws.proofs.Counting.{passing_at, passing_ascends, length-passing, count_most}
+use Rattle.search_laws.specs.Elements.{is_element, elements, node_at, original}
 use Rattle.model_builder.specs.Numbered.{elements_below, number_of, like_node, number_in, original_list, AreNumbered}
 
 -- ---- the first numbers that pass

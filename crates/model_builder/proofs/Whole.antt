@@ -9,26 +9,26 @@ use Rattle.std.proofs.lemmas.List.Sums.{list_all-from_AllPass, AllPass-from_list
 use Rattle.shq_terms.specs.Listed.{Listed}
 use Rattle.shq_terms.specs.declared.axioms.Query.{Query}
 use Rattle.shq_meaning.specs.Truth.{Interpretation}
-use Rattle.shape_specs.specs.Shape.{Shape}
+use Rattle.calculus_specs.specs.Shape.{Shape}
 use Rattle.role_box.specs.declared.role_axiom.RoleAxiom.{RoleAxiom}
 use Rattle.role_box.specs.RoleAxioms.{role_axioms}
 use Rattle.role_box.specs.Paths.{is_below}
 use Rattle.ontology_limits.specs.Limits.{IsInLimit}
 use Rattle.finite_model.specs.ModelLists.{ModelLists, IsDomain, meaning, is_member, is_link}
 use Rattle.finite_model.specs.Written.{uses_listed_names}
-use Rattle.fact_specs.specs.declared.Fact.{Fact}
-use Rattle.fact_specs.specs.State.{node_count, is_successor}
+use Rattle.calculus_specs.specs.declared.facts.Fact.{Fact}
+use Rattle.calculus_specs.specs.State.{node_count, is_successor}
 use Rattle.tableau_specs.specs.Items.{facts_of}
 use Rattle.completion_tree.specs.declared.tree.Entry.{Entry}
 use Rattle.completion_tree.specs.declared.tree.Entry.TheVariants.{Fact as Grounded, Mark}
 use Rattle.completion_tree.specs.Trail.{facts_in, items_of}
-use Rattle.counter_models.specs.Elements.{elements, node_at, original}
-use Rattle.counter_models.specs.Built.{IsBuilt}
-use Rattle.counter_models.specs.Laws.{UsesListed, IsCounterModel}
-use Rattle.counter_models.proofs.Laws.{saturated_is_counter_model}
-use Rattle.structure_model.specs.declared.structure.Member.{Member}
-use Rattle.structure_model.specs.declared.structure.Edge.{Edge}
-use Rattle.structure_model.specs.Structure.{IsInterpretation}
+use Rattle.search_laws.specs.Elements.{elements, node_at, original}
+use Rattle.search_laws.specs.Built.{IsBuilt}
+use Rattle.search_laws.specs.CounterModelLaws.{UsesListed, IsCounterModel}
+use Rattle.search_laws.proofs.CounterModelLaws.{saturated_is_counter_model}
+use Rattle.model_builder.specs.declared.structure_model.Member.{Member}
+use Rattle.model_builder.specs.declared.structure_model.Edge.{Edge}
+use Rattle.model_builder.specs.Structure.{IsInterpretation}
 use Rattle.search_rules.specs.RuleLists.{RuleLists, numbers_in, context_in}
 use Rattle.model_builder.specs.Numbered.{AreNumbered}
 use Rattle.model_builder.specs.Collected.{has_class, AreMembers, leads_from, AreElementEdges, IsOfElements}

@@ -1,20 +1,20 @@
 -- What is collected of the elements of facts: their members of classes, and the edges between them.
 use Rattle.std.specs.Prelude.{◌≡◌, ℕ, ◌==◌, ◌&&◌, nat_lt, Bool, List, [], ◌∷◌, ◌++◌, length, slice_index_or, Option, Some, None}
 use Rattle.std.specs.List.{list_any}
-use Rattle.shq_base.specs.Concept.{name}
+use Rattle.shq_terms.specs.Concept.{name}
 use Rattle.shq_meaning.specs.Truth.{Interpretation}
-use Rattle.shape_specs.specs.Shape.{Shape, shape_of}
-use Rattle.shape_specs.specs.Shape.Shape.{name as name_shape}
+use Rattle.calculus_specs.specs.Shape.{Shape, shape_of}
+use Rattle.calculus_specs.specs.Shape.Shape.{name as name_shape}
 use Rattle.role_box.specs.declared.role_axiom.RoleAxiom.{RoleAxiom}
 use Rattle.role_box.specs.Steps.{is_transitive}
 use Rattle.role_box.specs.Paths.{is_below}
-use Rattle.fact_specs.specs.declared.Fact.{Fact}
-use Rattle.fact_specs.specs.State.{is_successor}
+use Rattle.calculus_specs.specs.declared.facts.Fact.{Fact}
+use Rattle.calculus_specs.specs.State.{is_successor}
 use Rattle.tableau_specs.specs.Steps.{SearchContext, has_name}
-use Rattle.counter_models.specs.Elements.{elements, node_at}
-use Rattle.structure_model.specs.declared.structure.Member.{Member}
-use Rattle.structure_model.specs.declared.structure.Edge.{Edge}
-use Rattle.structure_model.specs.Structure.{is_member_of, IsInterpretation}
+use Rattle.search_laws.specs.Elements.{elements, node_at}
+use Rattle.model_builder.specs.declared.structure_model.Member.{Member}
+use Rattle.model_builder.specs.declared.structure_model.Edge.{Edge}
+use Rattle.model_builder.specs.Structure.{is_member_of, IsInterpretation}
 use Rattle.model_builder.specs.Laws.{AreOfElements}
 
 -- what a search reads of roles and concepts alone

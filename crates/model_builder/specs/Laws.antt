@@ -1,27 +1,27 @@
 -- The structure of a trail, and the interpretation that it gives.
 use Rattle.std.specs.Prelude.{◌≡◌, ℕ, ◌<◌, List, length}
-use Rattle.shq_base.specs.Concept.{name}
+use Rattle.shq_terms.specs.Concept.{name}
 use Rattle.shq_terms.specs.Listed.{Listed}
 use Rattle.shq_terms.specs.declared.axioms.Query.{Query}
 use Rattle.shq_meaning.specs.Truth.{Interpretation}
-use Rattle.shape_specs.specs.Shape.{Shape}
-use Rattle.shape_specs.specs.Rows.{Row}
+use Rattle.calculus_specs.specs.Shape.{Shape}
+use Rattle.calculus_specs.specs.Rows.{Row}
 use Rattle.role_box.specs.declared.role_axiom.RoleAxiom.{RoleAxiom}
 use Rattle.role_box.specs.RoleAxioms.{role_axioms}
 use Rattle.ontology_limits.specs.Limits.{IsInLimit}
-use Rattle.fact_specs.specs.declared.Fact.{Fact}
-use Rattle.refutation_truth.specs.Theory.{theory_of}
+use Rattle.calculus_specs.specs.declared.facts.Fact.{Fact}
+use Rattle.search_laws.specs.Theory.{theory_of}
 use Rattle.tableau_specs.specs.declared.Item.{Item}
 use Rattle.tableau_specs.specs.Items.{facts_of}
 use Rattle.tableau_specs.specs.Steps.{SearchContext, has_name}
 use Rattle.tableau_specs.specs.Reached.{IsReached}
-use Rattle.counter_models.specs.Elements.{elements, node_at, original}
-use Rattle.counter_models.specs.Built.{IsBuilt}
-use Rattle.counter_models.specs.Computed.{leads_to}
-use Rattle.counter_models.specs.Laws.{context_of}
-use Rattle.structure_model.specs.declared.structure.Member.{Member}
-use Rattle.structure_model.specs.declared.structure.Edge.{Edge}
-use Rattle.structure_model.specs.Structure.{is_member_of, leads, IsInterpretation}
+use Rattle.search_laws.specs.Elements.{elements, node_at, original}
+use Rattle.search_laws.specs.Built.{IsBuilt}
+use Rattle.search_laws.specs.Computed.{leads_to}
+use Rattle.search_laws.specs.CounterModelLaws.{context_of}
+use Rattle.model_builder.specs.declared.structure_model.Member.{Member}
+use Rattle.model_builder.specs.declared.structure_model.Edge.{Edge}
+use Rattle.model_builder.specs.Structure.{is_member_of, leads, IsInterpretation}
 
 -- the members and edges are those of the elements of the trail: of the nodes that these are like
 pub record AreOfElements (w : SearchContext) (fs : List (Fact ℕ)) (roles : List RoleAxiom) (members : List Member) (edges : List Edge) : Type 0 where

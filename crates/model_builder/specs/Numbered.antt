@@ -1,10 +1,10 @@
 -- The elements of facts by their numbers, as they are found node by node.
 use Rattle.std.specs.Prelude.{◌≡◌, ℕ, List, [], ◌∷◌, map, length, filter, Option, Some, None, if◌then◌else◌}
 use Rattle.std.specs.List.{range_with_len}
-use Rattle.fact_specs.specs.declared.Fact.{Fact}
+use Rattle.calculus_specs.specs.declared.facts.Fact.{Fact}
 use Rattle.tableau_specs.specs.declared.Block.{Block}
 use Rattle.tableau_specs.specs.declared.Block.TheVariants.{Clear, By, Under}
-use Rattle.counter_models.specs.Elements.{is_element, original}
+use Rattle.search_laws.specs.Elements.{is_element, original}
 
 -- the elements among the first n nodes
 abbrev pub elements_below : List (Fact ℕ) → ℕ → List ℕ

@@ -1,12 +1,12 @@
 // The elements of a tree, by their numbers.
 ghost use Rattle.std.specs.Prelude.{◌≡◌, ◌≤◌, ◌<◌, ◌++◌, ◌∷◌, [], ◌^◌, length, OnOk, IfOk, map};
-ghost use Rattle.fact_specs.specs.State.{node_count};
+ghost use Rattle.calculus_specs.specs.State.{node_count};
 ghost use Rattle.completion_tree.specs.Trail.{facts_in};
 ghost use Rattle.blocking.specs.Followed.{IsCurrent};
 ghost use Rattle.model_builder.specs.Numbered.{like_node, original_in, number_in, original_list, AreNumbered};
 
 use crate::NoMemory;
-use blocking::{Prints, state};
+use blocking::{Blocks, state};
 use completion_tree::Tree;
 use std::alloc::{Allocator, Global};
 use tableau_specs::Block;
@@ -24,7 +24,7 @@ pub(crate) struct Elements {
 pub(crate) fn elements_of<A: Allocator + Copy>(
     alloc: Global,
     tree: &Tree<A>,
-    prints: &Prints,
+    prints: &Blocks,
 ) -> Result<Elements, NoMemory>
     requires { IsCurrent (facts_in tree.now) prints.now }
     ensures numbered { IfOk result (λ e. AreNumbered (facts_in tree.now) (node_count (facts_in tree.now)) e.numbers.items e.originals.items) }
@@ -42,7 +42,7 @@ pub(crate) fn elements_of<A: Allocator + Copy>(
 }
 
 /// The clear node that a node is like, if it is an element.
-fn original_of<A: Allocator + Copy>(tree: &Tree<A>, prints: &Prints, node: u32) -> Option<u32>
+fn original_of<A: Allocator + Copy>(tree: &Tree<A>, prints: &Blocks, node: u32) -> Option<u32>
     requires node { node < node_count (facts_in tree.now) }
     requires current { IsCurrent (facts_in tree.now) prints.now }
     ensures { result ≡ like_node (facts_in tree.now) node }

@@ -4,26 +4,25 @@ ghost use Rattle.ontology_limits.specs.Limits.{IsInLimit};
 ghost use Rattle.finite_model.specs.ModelLists.{meaning};
 ghost use Rattle.finite_model.specs.Written.{uses_listed_names};
 ghost use Rattle.completion_tree.specs.Trail.{facts_in, items_of};
-ghost use Rattle.counter_models.specs.Built.{IsBuilt};
-ghost use Rattle.counter_models.specs.Laws.{IsCounterModel};
+ghost use Rattle.search_laws.specs.Built.{IsBuilt};
+ghost use Rattle.search_laws.specs.CounterModelLaws.{IsCounterModel};
 ghost use Rattle.blocking.specs.Followed.{IsCurrent};
 ghost use Rattle.search_rules.specs.RuleLists.{numbers_in, context_in};
 ghost use Rattle.model_builder.specs.Collected.{IsOfElements};
 ghost use Rattle.model_builder.specs.Saturated.{IsSaturatedTrail};
 
-use crate::NoMemory;
 use crate::elements::elements_of;
 use crate::structure::{edges_of, members_of};
-use blocking::Prints;
+use crate::{NoMemory, interpretation};
+use blocking::Blocks;
 use completion_tree::Tree;
-use counter_models::elements_are_few;
 use finite_model::Interp;
 use role_box::RoleBox;
+use search_laws::elements_are_few;
 use search_rules::SearchRules;
 use shq_nnf::Concepts;
 use shq_terms::Query;
 use std::alloc::{Allocator, Global};
-use structure_model::interpretation;
 
 /// The finite interpretation of a saturated tree: it meets the axioms of the rules, and its first element is in the left
 /// side of the query and not in its right side.
@@ -38,7 +37,7 @@ use structure_model::interpretation;
 pub fn build<A: Allocator + Copy>(
     alloc: Global,
     tree: &Tree<A>,
-    prints: &Prints,
+    prints: &Blocks,
     rules: &SearchRules<'_>,
     query: &Query,
 ) -> Result<Interp, NoMemory>
@@ -67,7 +66,7 @@ pub fn build<A: Allocator + Copy>(
 pub fn interpretation_of_elements<A: Allocator + Copy>(
     alloc: Global,
     tree: &Tree<A>,
-    prints: &Prints,
+    prints: &Blocks,
     concepts: &Concepts,
     roles: &RoleBox,
     count: u32,

@@ -1,19 +1,18 @@
 // The members of classes and the edges of the elements of a tree.
 ghost use Rattle.std.specs.Prelude.{◌≡◌, ◌++◌, None, length, map, slice_index_or, OnOk, IfOk};
 ghost use Rattle.std.specs.List.{range_with_len};
-ghost use Rattle.shape_specs.specs.Shape.{shape_of};
+ghost use Rattle.calculus_specs.specs.Shape.{shape_of};
 ghost use Rattle.shq_nnf.specs.Shapes.{form_of};
-ghost use Rattle.fact_specs.specs.Joins.{rep};
-ghost use Rattle.fact_specs.specs.State.{node_count};
+ghost use Rattle.calculus_specs.specs.Joins.{rep};
+ghost use Rattle.calculus_specs.specs.State.{node_count};
 ghost use Rattle.completion_tree.specs.Trail.{facts_in};
 ghost use Rattle.model_builder.specs.Numbered.{number_of};
 ghost use Rattle.model_builder.specs.Collected.{class_in, member_of, members_by, edge_to, edges_by, AreMembers, AreElementEdges};
 
-use crate::NoMemory;
+use crate::{Edge, Member, NoMemory};
 use completion_tree::Tree;
 use shq_nnf::{Concepts, Shape};
 use std::alloc::{Allocator, Global};
-use structure_model::{Edge, Member};
 
 /// Each element in the classes of the node that it is like. There are `size` elements.
 pub(crate) fn members_of<A: Allocator + Copy>(

@@ -5,11 +5,11 @@ use Rattle.std.specs.List.{Contains}
 use Rattle.std.proofs.Math.Seq.{take-suc}
 use Rattle.std.proofs.lemmas.Bool.{cases_eq, ltb-true, or_cases}
 use Rattle.std.proofs.lemmas.List.Elements.{Contains-append_left, Contains-append_right, Contains-append_cases}
-use Rattle.module_specs.specs.declared.Name.{Name}
-use Rattle.module_specs.specs.declared.Name.TheVariants.{Class, Role}
+use Rattle.pinpointing_specs.specs.declared.module_laws.Name.{Name}
+use Rattle.pinpointing_specs.specs.declared.module_laws.Name.TheVariants.{Class, Role}
 use Rattle.shq_terms.specs.declared.axioms.Numbered.{Numbered}
-use Rattle.module_specs.specs.Signature.{same_name, is_among, axiom_names}
-use Rattle.module_specs.proofs.Names.{same_is_equal, among_cases}
+use Rattle.pinpointing_specs.specs.Signature.{same_name, is_among, axiom_names}
+use Rattle.pinpointing_specs.proofs.Names.{same_is_equal, among_cases}
 use Rattle.module_extract.specs.Users.{places_of, has_list, HasGained, IsIndex}
 use Rattle.module_extract.specs.declared.users.Users.{Users}
 

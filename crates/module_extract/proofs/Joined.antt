@@ -19,13 +19,13 @@ use Rattle.shq_terms.specs.Uses.{all_use_listed}
 use Rattle.shq_meaning.specs.Truth.{implies}
 use Rattle.shq_meaning.proofs.Members.{all_pass}
 use Rattle.shq_meaning.proofs.Implied.{implies_from}
-use Rattle.module_specs.specs.declared.Name.{Name}
-use Rattle.module_specs.specs.Signature.{same_name, is_among, axiom_names, query_names}
-use Rattle.module_specs.specs.Local.{is_local}
-use Rattle.module_specs.specs.LocalModule.{axioms_in_set, module_names, IsClosed, IsLocalModule}
-use Rattle.module_specs.proofs.InSet.{in_set}
-use Rattle.module_specs.proofs.Names.{listed_among, same_is_equal, among_left, among_cases, by_axiom, more_names, name_of_member}
-use Rattle.module_specs.proofs.Fewer.{is_kept, local_stays}
+use Rattle.pinpointing_specs.specs.declared.module_laws.Name.{Name}
+use Rattle.pinpointing_specs.specs.Signature.{same_name, is_among, axiom_names, query_names}
+use Rattle.pinpointing_specs.specs.Local.{is_local}
+use Rattle.pinpointing_specs.specs.LocalModule.{axioms_in_set, module_names, IsClosed, IsLocalModule}
+use Rattle.pinpointing_specs.proofs.InSet.{in_set}
+use Rattle.pinpointing_specs.proofs.Names.{listed_among, same_is_equal, among_left, among_cases, by_axiom, more_names, name_of_member}
+use Rattle.pinpointing_specs.proofs.Fewer.{is_kept, local_stays}
 use Rattle.module_extract.specs.declared.marks.Marks.{Marks}
 use Rattle.module_extract.specs.declared.growth.Growth.{Growth}
 use Rattle.module_extract.specs.Marks.{is_marked, has_place, IsUnmarked}

@@ -4,16 +4,16 @@ use Rattle.std.specs.Prelude.{slice_get}
 use Rattle.std.specs.List.{list_all}
 use Rattle.std.proofs.lemmas.Bool.{and_parts, and_from}
 use Rattle.std.proofs.lemmas.List.Folds.{list_all-append}
-use Rattle.shq_base.specs.Concept.{Concept, top, bottom, name, complement, intersection, union, some_of, all_of, at_least, at_most, exactly, Parts, no_parts, part, parts_of}
+use Rattle.shq_terms.specs.Concept.{Concept, top, bottom, name, complement, intersection, union, some_of, all_of, at_least, at_most, exactly, Parts, no_parts, part, parts_of}
 use Rattle.shq_terms.specs.declared.axioms.Axiom.{Axiom}
 use Rattle.shq_terms.specs.declared.axioms.Axiom.TheVariants.{SubClassOf, EquivalentClasses, DisjointClasses, DisjointUnion, SubRole, EquivalentRoles, Domain, Range, Functional, Transitive}
 use Rattle.shq_terms.specs.declared.axioms.Numbered.{Numbered}
 use Rattle.shq_terms.specs.Uses.{uses_listed, parts_use_listed, axiom_uses_listed, all_use_listed}
 use Rattle.shq_meaning.proofs.Members.{member_passes}
-use Rattle.module_specs.specs.declared.Name.{Name}
-use Rattle.module_specs.specs.declared.Name.TheVariants.{Role}
-use Rattle.module_specs.specs.Signature.{is_among, concept_names, parts_names, axiom_names}
-use Rattle.module_specs.proofs.Names.{same_is_equal}
+use Rattle.pinpointing_specs.specs.declared.module_laws.Name.{Name}
+use Rattle.pinpointing_specs.specs.declared.module_laws.Name.TheVariants.{Role}
+use Rattle.pinpointing_specs.specs.Signature.{is_among, concept_names, parts_names, axiom_names}
+use Rattle.pinpointing_specs.proofs.Names.{same_is_equal}
 use Rattle.module_extract.specs.Marks.{is_listed}
 use Rattle.std.proofs.lemmas.Map.Views.{Contains-from_any}
 

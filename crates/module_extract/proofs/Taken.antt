@@ -4,9 +4,9 @@ use Rattle.std.proofs.Math.Seq.{take-suc}
 use Rattle.std.proofs.lemmas.Bool.{cases_Bool}
 use Rattle.std.proofs.lemmas.List.Folds.{list_any-append}
 use Rattle.std.proofs.Math.Bool.{or-false}
-use Rattle.shq_base.proofs.Bools.{or_and_gathered}
-use Rattle.module_specs.specs.declared.Name.{Name}
-use Rattle.module_specs.specs.Signature.{same_name, is_among}
+use Rattle.shq_terms.proofs.Bools.{or_and_gathered}
+use Rattle.pinpointing_specs.specs.declared.module_laws.Name.{Name}
+use Rattle.pinpointing_specs.specs.Signature.{same_name, is_among}
 use Rattle.module_extract.specs.declared.marks.Marks.{Marks}
 use Rattle.module_extract.specs.Marks.{is_listed, has_place, is_marked, HasMarked}
 use Rattle.module_extract.specs.Growth.{HasTaken}

@@ -7,10 +7,10 @@ use Rattle.shq_terms.specs.declared.axioms.Axiom.{Axiom}
 use Rattle.shq_terms.specs.declared.axioms.Numbered.{Numbered}
 use Rattle.shq_terms.specs.declared.axioms.Query.{Query}
 use Rattle.shq_terms.specs.Uses.{all_use_listed}
-use Rattle.module_specs.specs.declared.Name.{Name}
-use Rattle.module_specs.specs.Signature.{is_among, axiom_names}
-use Rattle.module_specs.specs.Local.{is_local}
-use Rattle.module_specs.specs.LocalModule.{module_names, IsClosed}
+use Rattle.pinpointing_specs.specs.declared.module_laws.Name.{Name}
+use Rattle.pinpointing_specs.specs.Signature.{is_among, axiom_names}
+use Rattle.pinpointing_specs.specs.Local.{is_local}
+use Rattle.pinpointing_specs.specs.LocalModule.{module_names, IsClosed}
 use Rattle.module_extract.specs.declared.marks.Marks.{Marks}
 use Rattle.module_extract.specs.Marks.{is_marked, has_place, unmarked, HasMarked}
 use Rattle.module_extract.specs.declared.growth.Growth.{Growth}

@@ -1,8 +1,8 @@
 -- Marks of names.
 use Rattle.std.specs.Prelude.{◌≡◌, ℕ, ◌+◌, Bool, false, not, ◌&&◌, ◌||◌, ◌==◌, nat_lt, List, length, slice_index_or, count_by}
-use Rattle.module_specs.specs.declared.Name.{Name}
-use Rattle.module_specs.specs.declared.Name.TheVariants.{Class, Role}
-use Rattle.module_specs.specs.Signature.{is_among}
+use Rattle.pinpointing_specs.specs.declared.module_laws.Name.{Name}
+use Rattle.pinpointing_specs.specs.declared.module_laws.Name.TheVariants.{Class, Role}
+use Rattle.pinpointing_specs.specs.Signature.{is_among}
 use Rattle.module_extract.specs.declared.marks.Marks.{Marks}
 
 -- the name is listed, where so many classes and roles are

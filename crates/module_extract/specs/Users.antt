@@ -2,9 +2,9 @@
 use Rattle.std.specs.Prelude.{◌≡◌, ◌⊎◌, ℕ, ◌<◌, Bool, true, List, [], length, slice_get, slice_index_or, Some}
 use Rattle.std.specs.List.{Contains}
 use Rattle.shq_terms.specs.declared.axioms.Numbered.{Numbered}
-use Rattle.module_specs.specs.declared.Name.{Name}
-use Rattle.module_specs.specs.declared.Name.TheVariants.{Class, Role}
-use Rattle.module_specs.specs.Signature.{is_among, axiom_names}
+use Rattle.pinpointing_specs.specs.declared.module_laws.Name.{Name}
+use Rattle.pinpointing_specs.specs.declared.module_laws.Name.TheVariants.{Class, Role}
+use Rattle.pinpointing_specs.specs.Signature.{is_among, axiom_names}
 use Rattle.module_extract.specs.declared.users.Users.{Users}
 use Rattle.module_extract.specs.Marks.{is_listed}
 

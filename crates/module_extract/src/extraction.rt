@@ -1,17 +1,16 @@
 // The local module of a query.
 ghost use Rattle.std.specs.Prelude.{◌≡◌, IfOk, length};
-ghost use Rattle.module_specs.specs.LocalModule.{IsLocalModule};
+ghost use Rattle.pinpointing_specs.specs.LocalModule.{IsLocalModule};
 
 use crate::growth::Growth;
 use crate::users::Users;
 use axiom_sets::AxiomSet;
-use shq_base::NoMemory;
-use shq_terms::{Ontology, Query};
+use shq_terms::{NoMemory, Ontology, Query};
 use std::alloc::Global;
 
 /// The local module of the query: the least set of axioms of the ontology such that each axiom that is not local for the names
 /// of the query and of the set is in the set. Its limit is the count of axioms, and it holds each justification of the query
-/// (`module_specs::modules_hold_justifications`). The query may have any names.
+/// (`pinpointing_specs::modules_hold_justifications`). The query may have any names.
 ///
 /// # Errors
 ///

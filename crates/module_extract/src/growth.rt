@@ -9,9 +9,8 @@ use crate::marks::Marks;
 use crate::names::{axiom_names, query_names};
 use crate::users::Users;
 use axiom_sets::AxiomSet;
-use module_specs::Name;
-use shq_base::NoMemory;
-use shq_terms::{Axiom, MAX_AXIOMS, Numbered, Query};
+use pinpointing_specs::Name;
+use shq_terms::{Axiom, MAX_AXIOMS, NoMemory, Numbered, Query};
 use std::alloc::Global;
 
 /// The axioms that are known to be in the module, the names that came in with them and with the query, and those of the

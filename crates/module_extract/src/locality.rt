@@ -1,9 +1,9 @@
 // Whether axioms are local for the names that came in.
 ghost use Rattle.std.specs.Prelude.{◌≡◌, ◌||◌, not};
 ghost use Rattle.std.specs.List.{list_all};
-ghost use Rattle.shq_base.specs.Concept.{parts_of};
-ghost use Rattle.module_specs.specs.declared.Name.TheVariants as variants;
-ghost use Rattle.module_specs.specs.Local.{is_void, is_whole, some_void, all_void, some_whole, all_whole, count_not_void, is_local};
+ghost use Rattle.shq_terms.specs.Concept.{parts_of};
+ghost use Rattle.pinpointing_specs.specs.declared.module_laws.Name.TheVariants as variants;
+ghost use Rattle.pinpointing_specs.specs.Local.{is_void, is_whole, some_void, all_void, some_whole, all_whole, count_not_void, is_local};
 ghost use Rattle.module_extract.specs.Marks.{is_marked};
 
 use crate::marks::Marks;

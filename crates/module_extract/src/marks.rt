@@ -1,8 +1,8 @@
 // Which names came in.
 ghost use Rattle.std.specs.Prelude.{◌≡◌, ◌+◌, ◌&&◌, not, cond, nat_lt, false, true, count_by, length, IfOk, slice_index_or};
 
-use module_specs::Name;
-use shq_base::NoMemory;
+use pinpointing_specs::Name;
+use shq_terms::NoMemory;
 use std::alloc::Global;
 
 /// A mark for each class and each role that is listed, by number.
@@ -14,7 +14,7 @@ pub(crate) struct Marks {
 
 impl Marks {
     ghost use Rattle.std.specs.Prelude.{◌∷◌, []};
-    ghost use Rattle.module_specs.specs.declared.Name.TheVariants as variants;
+    ghost use Rattle.pinpointing_specs.specs.declared.module_laws.Name.TheVariants as variants;
     ghost use Rattle.module_extract.specs.Marks.{is_marked, has_place, unmarked, HasMarked, IsUnmarked};
 
     /// No marks, for so many classes and roles.

@@ -1,12 +1,11 @@
 // The names that class expressions, axioms and queries use, in lists.
 ghost use Rattle.std.specs.Prelude.{◌≡◌, [], ◌∷◌, ◌++◌, IfOk, OnOk, map};
-ghost use Rattle.shq_base.specs.Concept.{parts_of};
-ghost use Rattle.module_specs.specs.declared.Name.TheVariants as variants;
-ghost use Rattle.module_specs.specs.Signature.{concept_names, parts_names, axiom_names, query_names};
+ghost use Rattle.shq_terms.specs.Concept.{parts_of};
+ghost use Rattle.pinpointing_specs.specs.declared.module_laws.Name.TheVariants as variants;
+ghost use Rattle.pinpointing_specs.specs.Signature.{concept_names, parts_names, axiom_names, query_names};
 
-use module_specs::Name;
-use shq_base::NoMemory;
-use shq_terms::{Axiom, Concept, Node, Query};
+use pinpointing_specs::Name;
+use shq_terms::{Axiom, Concept, NoMemory, Node, Query};
 use std::alloc::Global;
 
 /// Puts the name last.

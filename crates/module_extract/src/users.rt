@@ -4,9 +4,8 @@ ghost use Rattle.std.specs.List.{list_all};
 ghost use Rattle.shq_terms.specs.Uses.{all_use_listed};
 
 use crate::names::axiom_names;
-use module_specs::Name;
-use shq_base::NoMemory;
-use shq_terms::{MAX_AXIOMS, NumberList, Numbered};
+use pinpointing_specs::Name;
+use shq_terms::{MAX_AXIOMS, NoMemory, NumberList, Numbered};
 use std::alloc::Global;
 
 /// For each class and each role that is listed, the places of the axioms that use it, from 0 on.

@@ -4,7 +4,7 @@ use Rattle.std.specs.Prelude.{nat_lt}
 use Rattle.std.specs.List.{list_all}
 use Rattle.std.proofs.lemmas.List.{drop_all}
 use Rattle.std.proofs.lemmas.Bool.{and_parts}
-use Rattle.shq_base.specs.Concept.{Concept, Parts, no_parts, part, parts_of}
+use Rattle.shq_terms.specs.Concept.{Concept, Parts, no_parts, part, parts_of}
 use Rattle.shq_terms.specs.Uses.{uses_listed, parts_use_listed}
 use Rattle.ofn_tree.specs.Items.{Item, items_of, nesting, nesting_all}
 use Rattle.ofn_expressions.specs.Counts.{Counts}

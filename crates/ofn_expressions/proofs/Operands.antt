@@ -2,7 +2,7 @@
 use Rattle.std.proofs.Common.{◌≡◌, ℕ, zero, suc, ◌≤◌, List, [], ◌∷◌, true, false, length, get_or, Result, Ok, Err, drop, ap, sym, ◌∙◌, arith}
 use Rattle.std.specs.Prelude.{nat_lt, IfOk}
 use Rattle.std.proofs.lemmas.Bool.{and_from}
-use Rattle.shq_base.specs.Concept.{Concept}
+use Rattle.shq_terms.specs.Concept.{Concept}
 use Rattle.shq_terms.specs.Uses.{uses_listed}
 use Rattle.ofn_tree.specs.Items.{Item, items_of, nesting_all}
 use Rattle.ofn_expressions.specs.Counts.{Counts}

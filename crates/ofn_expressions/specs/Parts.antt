@@ -1,6 +1,6 @@
 -- Parts after a list of expressions.
 use Rattle.std.specs.Prelude.{List, [], ◌∷◌}
-use Rattle.shq_base.specs.Concept.{Concept, Parts, part}
+use Rattle.shq_terms.specs.Concept.{Concept, Parts, part}
 
 -- these expressions, and then the parts
 abbrev pub put_parts : List Concept → Parts → Parts

@@ -1,6 +1,6 @@
 // Class expressions.
 ghost use Rattle.std.specs.Prelude.{◌≡◌, ◌≢◌, IfErr, ◌<◌, ◌≤◌, ◌∷◌, ◌++◌, [], IfOk, OnOk, length, true};
-ghost use Rattle.shq_base.specs.Concept.{parts_of};
+ghost use Rattle.shq_terms.specs.Concept.{parts_of};
 ghost use Rattle.ofn_tree.specs.Items.{items_of};
 ghost use Rattle.ofn_expressions.specs.Counts.{Grows};
 ghost use Rattle.ofn_expressions.specs.Walk.{Tested};
@@ -13,8 +13,7 @@ use crate::names::{item_line, read_iri};
 use crate::numbers::read_number;
 use crate::{Prefixes, Reading, Refusal, read_role};
 use ofn_tree::{Form, Tree};
-use shq_base::NoMemory;
-use shq_terms::{Concept, ConceptList, Node};
+use shq_terms::{Concept, ConceptList, NoMemory, Node};
 use std::alloc::Global;
 
 /// The class expression of an item.

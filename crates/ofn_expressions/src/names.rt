@@ -7,7 +7,7 @@ ghost use Rattle.ofn_expressions.specs.Names.{item_line, name_tests, iri_of, has
 
 use crate::{Prefixes, Refusal};
 use ofn_tree::{Form, Tree};
-use shq_base::NoMemory;
+use shq_terms::NoMemory;
 use std::alloc::Global;
 
 /// The line of an item.

@@ -3,7 +3,7 @@ ghost use Rattle.std.specs.Prelude.{◌≡◌, ◌∷◌, ◌++◌, [], IfOk, On
 ghost use Rattle.ofn_expressions.specs.Names.{predeclared, prefix_iri, entry, with_last};
 
 use indexmap::IndexMap;
-use shq_base::NoMemory;
+use shq_terms::NoMemory;
 use std::alloc::Global;
 use std::marker::Model;
 

@@ -22,7 +22,7 @@ impl Model for Reading {
     ghost use Rattle.std.specs.Prelude.{◌≤◌, ◌≡◌, length};
     ghost use Rattle.ofn_expressions.specs.Counts.{State};
     ghost use Rattle.std.specs.Coded.{codes};
-    ghost use Rattle.shq_base.specs.Code.{concept_code};
+    ghost use Rattle.shq_terms.specs.Code.{concept_code};
 
     ghost Value = { State };
 

@@ -2,7 +2,7 @@
 
 use crate::Construct;
 use ofn_tree::TextFault;
-use shq_base::NoMemory;
+use shq_terms::NoMemory;
 use std::alloc::{AllocError, AllocFailed};
 use thiserror::Error;
 

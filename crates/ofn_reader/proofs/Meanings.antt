@@ -4,7 +4,7 @@ use Rattle.std.specs.Prelude.{IfOk}
 use Rattle.std.specs.Result.{result_map_both}
 use Rattle.std.proofs.lemmas.Bool.{and_from}
 use Rattle.shq_terms.specs.Uses.{uses_listed}
-use Rattle.shq_base.specs.Concept.{Concept, Parts, parts_of, part_list}
+use Rattle.shq_terms.specs.Concept.{Concept, Parts, parts_of, part_list}
 use Rattle.shq_terms.specs.declared.axioms.Axiom.{Axiom}
 use Rattle.shq_terms.specs.declared.axioms.Axiom.TheVariants as A
 use Rattle.shq_terms.specs.declared.axioms.Query.{Query}

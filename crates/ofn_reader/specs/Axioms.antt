@@ -1,6 +1,6 @@
 -- The tests of the axioms of an ontology in the order of the walk, and what the axioms say.
 use Rattle.std.specs.Prelude.{◌≡◌, ℕ, ◌+◌, ◌-◌, ◌*◌, ◌/◌, Bool, false, List, [], ◌∷◌, ◌++◌, Some, None, nat_eq, nat_le}
-use Rattle.shq_base.specs.Concept.{part_list}
+use Rattle.shq_terms.specs.Concept.{part_list}
 use Rattle.shq_terms.specs.declared.axioms.Axiom.{Axiom}
 use Rattle.shq_terms.specs.declared.axioms.Axiom.TheVariants as A
 use Rattle.shq_terms.specs.declared.axioms.Numbered.{Numbered}

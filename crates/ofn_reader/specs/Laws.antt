@@ -1,6 +1,6 @@
 -- A text says one thing at most, and is refused only where it says nothing.
 use Rattle.std.specs.Prelude.{◌≡◌, ℕ, List}
-use Rattle.shq_base.specs.Concept.{Concept}
+use Rattle.shq_terms.specs.Concept.{Concept}
 use Rattle.shq_terms.specs.Listed.{Listed}
 use Rattle.shq_terms.specs.declared.axioms.Numbered.{Numbered}
 use Rattle.shq_terms.specs.declared.axioms.Query.{Query}

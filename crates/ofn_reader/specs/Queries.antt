@@ -1,6 +1,6 @@
 -- What a text says as a query on a document: an axiom, or a class expression.
 use Rattle.std.specs.Prelude.{◌≡◌, ◌≢◌, ℕ, ◌^◌, ◌≤◌, ◌<◌, Bool, true, false, List, [], ◌∷◌, ◌++◌, length, Some, None, Result, Ok, Err, IfOk, nat_eq}
-use Rattle.shq_base.specs.Concept.{Concept}
+use Rattle.shq_terms.specs.Concept.{Concept}
 use Rattle.shq_terms.specs.Listed.{Listed}
 use Rattle.shq_terms.specs.declared.axioms.Numbered.{Numbered}
 use Rattle.shq_terms.specs.declared.axioms.Query.{Query}

@@ -151,7 +151,7 @@ fn first_line(items: &[Tree<'_>], end_line: u32) -> u32
 // What was read, if the roles that it counts are simple.
 fn if_simple<T: Drop>(
     read: T,
-    simple: Result<bool, shq_base::NoMemory>,
+    simple: Result<bool, shq_terms::NoMemory>,
     line: u32,
 ) -> Result<T, Refusal>
     ensures { result ≡ read_simple line read simple }

@@ -1,7 +1,7 @@
 -- Expressions of a list whose names are listed.
 use Rattle.std.proofs.Common.{◌≡◌, ℕ, ◌+◌, ◌<◌, List, ◌∷◌, length, get_or, drop, true, ap, sym, ◌∙◌, drop-cons, add-one}
 use Rattle.std.proofs.lemmas.Bool.{and_parts}
-use Rattle.shq_base.specs.Concept.{Concept, parts_of}
+use Rattle.shq_terms.specs.Concept.{Concept, parts_of}
 use Rattle.shq_terms.specs.Uses.{uses_listed, parts_use_listed}
 
 -- from a place on, the one there and those after it

@@ -1,6 +1,6 @@
 -- What the functions that put texts last do, and which expressions they take.
 use Rattle.std.specs.Prelude.{◌≡◌, ℕ, List, ◌++◌, Vec, IsTrue, length}
-use Rattle.shq_base.specs.Concept.{Concept, parts_of}
+use Rattle.shq_terms.specs.Concept.{Concept, parts_of}
 use Rattle.shq_terms.specs.Listed.{Listed}
 use Rattle.shq_terms.specs.Uses.{uses_listed, parts_use_listed}
 use Rattle.ofn_writer.specs.Canonical.{group_text}

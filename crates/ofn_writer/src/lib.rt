@@ -16,4 +16,4 @@ pub use axioms::axiom_text;
 pub use concepts::concept_text;
 pub use laws::examples_hold;
 pub use ontologies::ontology_text;
-pub use shq_base::NoMemory;
+pub use shq_terms::NoMemory;

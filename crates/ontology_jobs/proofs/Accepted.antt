@@ -5,26 +5,27 @@ use Rattle.shq_terms.specs.Listed.{Listed}
 use Rattle.shq_terms.specs.declared.axioms.Axiom.{Axiom as SomeAxiom}
 use Rattle.shq_terms.specs.declared.axioms.Query.{Query as Asked}
 use Rattle.shq_meaning.specs.Truth.{Entails}
-use Rattle.certificate_check.proofs.Truth.{followed, not_followed}
+use Rattle.decision_jobs.proofs.Truth.{followed, not_followed}
 use Rattle.run_log.specs.declared.entry.Entry.{Entry}
 use Rattle.ontology_jobs.specs.Words.{check}
-use Rattle.certificate_check.specs.Certificates.{certificate}
-use Rattle.read_limits.specs.Laws.{with_names}
-use Rattle.certificate_check.specs.Checking.{IsVerdictOn, first_unmet, Reply, judged, refused_document, refused_query, malformed_line, Shows, IsReply, no_document, no_query, shown}
-use Rattle.job_texts.specs.Complaints.{Complaint, sort_status, complaint}
-use Rattle.job_texts.specs.Answer.{line, Answer, complaint_answer}
-use Rattle.certificate_check.specs.Replies.{reply_answer}
+use Rattle.decision_jobs.specs.Certificates.{certificate}
+use Rattle.classification_jobs.specs.LimitLaws.{with_names}
+use Rattle.classification_jobs.specs.Asked.{Reply, judged, refused_document, refused_query, malformed_line}
+use Rattle.decision_jobs.specs.Checking.{IsVerdictOn, first_unmet, Shows, IsReply, no_document, no_query, shown}
+use Rattle.classification_jobs.specs.Complaints.{Complaint, sort_status, complaint}
+use Rattle.classification_jobs.specs.Answer.{line, Answer, complaint_answer}
+use Rattle.classification_jobs.specs.Replies.{reply_answer}
 use Rattle.ontology_jobs.specs.Answers.{AnswersJob}
 use Rattle.ontology_jobs.specs.Laws.{HaveRead}
-use Rattle.certificate_check.specs.declared.certificate.Certificate.{Certificate}
-use Rattle.certificate_check.specs.declared.certificate.Certificate.TheVariants as C
-use Rattle.job_texts.specs.declared.complaint.Place.{Place}
-use Rattle.job_texts.specs.declared.complaint.Place.TheVariants as P
-use Rattle.job_texts.specs.declared.complaint.Sort.{Sort}
-use Rattle.job_texts.specs.declared.complaint.Sort.TheVariants as S
-use Rattle.certificate_check.specs.declared.judging.Verdict.{Verdict}
-use Rattle.certificate_check.specs.declared.judging.Verdict.TheVariants.{NotEntailed, Entailed, Axiom, Query, Line}
-use Rattle.job_texts.specs.declared.status.Status.TheVariants.{Done, NoMemory}
+use Rattle.decision_jobs.specs.Certificate.{Certificate}
+use Rattle.decision_jobs.specs.Certificate.TheVariants as C
+use Rattle.classification_jobs.specs.Place.{Place}
+use Rattle.classification_jobs.specs.Place.TheVariants as P
+use Rattle.classification_jobs.specs.Sort.{Sort}
+use Rattle.classification_jobs.specs.Sort.TheVariants as S
+use Rattle.classification_jobs.specs.Verdict.{Verdict}
+use Rattle.classification_jobs.specs.Verdict.TheVariants.{NotEntailed, Entailed, Axiom, Query, Line}
+use Rattle.classification_jobs.specs.Status.TheVariants.{Done, NoMemory}
 
 -- ---- which replies are accepting
 

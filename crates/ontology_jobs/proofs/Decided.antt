@@ -7,10 +7,10 @@ use Rattle.shq_meaning.specs.Truth.{refutes_at}
 use Rattle.shq_meaning.specs.Least.{IsFirstBelow}
 use Rattle.shq_meaning.proofs.Below.{all_below-false}
 use Rattle.finite_model.specs.ModelLists.{ModelLists as Model, meaning}
-use Rattle.refutation_specs.specs.Laws.{IsJudged}
-use Rattle.refutation_specs.proofs.Broken.{judged as judged_once}
+use Rattle.calculus_specs.specs.RefutationLaws.{IsJudged}
+use Rattle.calculus_specs.proofs.Broken.{judged as judged_once}
 use Rattle.refutation_tree.specs.RefutationLists.{RefutationLists as Refutation}
-use Rattle.refutation_check.specs.Verdicts.{named_theory}
+use Rattle.decision_jobs.specs.Verdicts.{named_theory}
 use Rattle.ofn_expressions.specs.Counts.{Counts}
 use Rattle.ofn_reader.specs.DocumentContext.{DocumentContext}
 use Rattle.ofn_reader.specs.Documents.{IsDocument}
@@ -19,19 +19,20 @@ use Rattle.ofn_reader.proofs.OneReason.{document_refusals, query_refusals}
 use Rattle.ofn_reader.proofs.Unique.{documents, documents_not_refused, queries, queries_not_refused}
 use Rattle.run_log.specs.declared.entry.Entry.{Entry}
 use Rattle.ontology_jobs.specs.Words.{Job, check, decide, classify, pinpoint, Request, on_input, generated, request_of}
-use Rattle.certificate_check.specs.Certificates.{certificate}
-use Rattle.read_limits.specs.Laws.{with_names}
-use Rattle.certificate_check.specs.Checking.{IsAsked, IsNotAsked, IsOfModel, IsOfRefutation, IsVerdictOn, line_of_place, Reply, judged, refused_document, refused_query, malformed_line, Shows, IsReply, no_document, no_query, shown}
-use Rattle.job_texts.specs.Answer.{line, Answer}
-use Rattle.certificate_check.specs.Replies.{verdict_answer, reply_answer}
+use Rattle.decision_jobs.specs.Certificates.{certificate}
+use Rattle.classification_jobs.specs.LimitLaws.{with_names}
+use Rattle.classification_jobs.specs.Asked.{IsAsked, IsNotAsked, Reply, judged, refused_document, refused_query, malformed_line}
+use Rattle.decision_jobs.specs.Checking.{IsOfModel, IsOfRefutation, IsVerdictOn, line_of_place, Shows, IsReply, no_document, no_query, shown}
+use Rattle.classification_jobs.specs.Answer.{line, Answer}
+use Rattle.classification_jobs.specs.Replies.{verdict_answer, reply_answer}
 use Rattle.ontology_jobs.specs.Answers.{IsTooLong, IsBadWords, AnswersJob, AnswersRequest}
-use Rattle.ontology_jobs.specs.Laws.{IsDecided, AsksForNoSearch, AnswersAreUnique}
-use Rattle.certificate_check.specs.declared.certificate.Certificate.{Certificate}
-use Rattle.certificate_check.specs.declared.certificate.Certificate.TheVariants as C
-use Rattle.certificate_check.specs.declared.judging.Verdict.{Verdict}
-use Rattle.certificate_check.specs.declared.judging.Verdict.TheVariants.{NotEntailed, Entailed, Axiom, Query, Line}
-use Rattle.job_texts.specs.declared.status.Status.{Status}
-use Rattle.job_texts.specs.declared.status.Status.TheVariants.{Done, Rejected, BadWords, BadText, Outside, Limit, ReadFault, WriteFault, Undecided, NoMemory}
+use Rattle.ontology_jobs.specs.Laws.{IsFinal, AsksForNoSearch, AnswersAreUnique}
+use Rattle.decision_jobs.specs.Certificate.{Certificate}
+use Rattle.decision_jobs.specs.Certificate.TheVariants as C
+use Rattle.classification_jobs.specs.Verdict.{Verdict}
+use Rattle.classification_jobs.specs.Verdict.TheVariants.{NotEntailed, Entailed, Axiom, Query, Line}
+use Rattle.classification_jobs.specs.Status.{Status}
+use Rattle.classification_jobs.specs.Status.TheVariants.{Done, Rejected, BadWords, BadText, Outside, Limit, ReadFault, WriteFault, Undecided, NoMemory}
 
 some_same : {A : Type 0} (a b : A) → Some a ≡ Some b → a ≡ b
 some_same a b same = cc same
@@ -150,7 +151,7 @@ by_length : (query bytes out : List ℕ) (s : Status) (log : List Entry) → (Is
 by_length query bytes out s log (inl long) = too_long long.long long.answer
 by_length query bytes out s log (inr (short, ((r, says, is), none))) = replied short r says is
 
-outcome : (query bytes out : List ℕ) (s : Status) (log : List Entry) → IsDecided s → AnswersJob (check query) bytes out s log → Outcome query bytes (s, out)
+outcome : (query bytes out : List ℕ) (s : Status) (log : List Entry) → IsFinal s → AnswersJob (check query) bytes out s log → Outcome query bytes (s, out)
 outcome query bytes out Done log known answer = by_length query bytes out Done log answer
 outcome query bytes out Rejected log known answer = by_length query bytes out Rejected log answer
 outcome query bytes out BadWords log known answer = by_length query bytes out BadWords log answer

@@ -7,9 +7,9 @@ use Rattle.shq_io.specs.Causes.{TakesOut}
 use Rattle.shq_io.specs.declared.whole.ReadEnd.{ReadEnd}
 use Rattle.shq_io.specs.declared.whole.ReadEnd.TheVariants as E
 use Rattle.run_log.specs.declared.entry.Entry.{Entry}
-use Rattle.job_texts.specs.Answer.{Answer, IsAnswer, is_fault}
-use Rattle.job_texts.specs.declared.status.Status.{Status}
-use Rattle.job_texts.specs.declared.status.Status.TheVariants.{Done, Rejected, BadWords, BadText, Outside, Limit, ReadFault, WriteFault, Undecided, NoMemory}
+use Rattle.classification_jobs.specs.Answer.{Answer, IsAnswer, is_fault}
+use Rattle.classification_jobs.specs.Status.{Status}
+use Rattle.classification_jobs.specs.Status.TheVariants.{Done, Rejected, BadWords, BadText, Outside, Limit, ReadFault, WriteFault, Undecided, NoMemory}
 use Rattle.ontology_jobs.specs.Words.{Job, check, decide, classify, pinpoint, on_input}
 use Rattle.ontology_jobs.specs.Answers.{end_answer, AnswersRead, AnswersJob, left_by, LeavesFor}
 

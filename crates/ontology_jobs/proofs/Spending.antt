@@ -9,26 +9,27 @@ use Rattle.run_log.specs.declared.entry.Entry.TheVariants.{Test}
 use Rattle.run_log.specs.declared.entry.TestEnd.{TestEnd}
 use Rattle.run_log.specs.declared.entry.TestEnd.TheVariants as E
 use Rattle.run_log.specs.Entries.{spent_of, is_spent, ended_spent}
-use Rattle.shq_oracle.specs.declared.answer.Answer.{Answer as Decision}
-use Rattle.shq_oracle.specs.declared.answer.Answer.TheVariants.{Refuted, Model, Spent}
-use Rattle.shq_oracle.specs.Decided.{Matches}
-use Rattle.certificate_check.specs.Checking.{Reply, judged, refused_document, refused_query, malformed_line}
-use Rattle.certificate_check.specs.Replies.{reply_answer}
-use Rattle.certificate_check.specs.declared.judging.Verdict.{Verdict}
-use Rattle.certificate_check.specs.declared.judging.Verdict.TheVariants.{NotEntailed, Entailed, Axiom, Query, Line}
-use Rattle.job_texts.specs.Answer.{Answer, complaint_answer}
-use Rattle.job_texts.specs.Complaints.{Complaint, sort_status, complaint}
-use Rattle.job_texts.specs.declared.complaint.Place.{Place}
-use Rattle.job_texts.specs.declared.complaint.Place.TheVariants as P
-use Rattle.job_texts.specs.declared.complaint.Sort.{Sort}
-use Rattle.job_texts.specs.declared.complaint.Sort.TheVariants as S
-use Rattle.job_texts.specs.declared.status.Status.{Status}
-use Rattle.job_texts.specs.declared.status.Status.TheVariants.{Done, Rejected, Limit, Undecided, NoMemory}
-use Rattle.job_inputs.specs.Questions.{Text, follows}
-use Rattle.decision_jobs.specs.Decisions.{decision_status, IsDecided, IsRefused}
-use Rattle.pinpointing_lists.specs.declared.wanted.Wanted.{Wanted}
-use Rattle.pinpointing_lists.specs.Listings.{end_status, IsListing, IsListed}
-use Rattle.pinpointing_lists.specs.Counts.{IsCount, IsCounted}
+use Rattle.decision_jobs.specs.Answer.{Answer as Decision}
+use Rattle.decision_jobs.specs.Answer.TheVariants as Answered
+use Rattle.decision_jobs.specs.Decided.{Matches}
+use Rattle.classification_jobs.specs.Asked.{Reply, judged, refused_document, refused_query, malformed_line}
+use Rattle.classification_jobs.specs.Replies.{reply_answer}
+use Rattle.classification_jobs.specs.Verdict.{Verdict}
+use Rattle.classification_jobs.specs.Verdict.TheVariants.{NotEntailed, Entailed, Axiom, Query, Line}
+use Rattle.classification_jobs.specs.Answer.{Answer, complaint_answer}
+use Rattle.classification_jobs.specs.Complaints.{Complaint, sort_status, complaint}
+use Rattle.classification_jobs.specs.Place.{Place}
+use Rattle.classification_jobs.specs.Place.TheVariants as P
+use Rattle.classification_jobs.specs.Sort.{Sort}
+use Rattle.classification_jobs.specs.Sort.TheVariants as S
+use Rattle.classification_jobs.specs.Status.{Status}
+use Rattle.classification_jobs.specs.Status.TheVariants.{Done, Rejected, Limit, Undecided, NoMemory}
+use Rattle.classification_jobs.specs.Questions.{Text, follows}
+use Rattle.classification_jobs.specs.Refusals.{IsRefused}
+use Rattle.decision_jobs.specs.Decisions.{decision_status, IsDecided}
+use Rattle.pinpointing_jobs.specs.declared.wanted.Wanted.{Wanted}
+use Rattle.pinpointing_jobs.specs.Listings.{end_status, IsListing, IsListAnswer}
+use Rattle.pinpointing_jobs.specs.Counts.{IsCount, IsCounted}
 use Rattle.ontology_jobs.specs.Words.{Job, check, decide, classify, pinpoint, Request, on_input, generated, request_of}
 use Rattle.ontology_jobs.specs.Answers.{IsTooLong, IsBadWords, AnswersJob, AnswersRequest, Answers, AnswersAll}
 use Rattle.ontology_jobs.specs.Laws.{SpendsAll, HasSpentAll, UndecidedSpendsAll}
@@ -65,7 +66,7 @@ too_long bytes out log long = let clash = ap (λ (a : Answer). a.0) long.answer 
 
 -- ---- what is undecided has spent all
 
-ended_so : (e : TestEnd) → Matches Spent e → ended_spent e ≡ true
+ended_so : (e : TestEnd) → Matches Answered.Undecided e → ended_spent e ≡ true
 ended_so (E.Spent t) m = refl
 ended_so (E.Yes u) m = absurd m
 ended_so E.No m = absurd m
@@ -77,11 +78,11 @@ decided_spent question budget bytes out log d = by d.decision d.status d.logged.
     some_spent spent = ap (list_any is_spent) d.logged.is_log ∙ rw spent
 
     by : (x : Decision) → Undecided ≡ decision_status x → Matches x d.logged.ended → spent_of log ≡ budget
-    by (Refuted r) is m = absurd (cc is)
-    by (Model k) is m = absurd (cc is)
-    by Spent is m = d.logged.honest.budget_kept.ends.is_whole (some_spent (ended_so d.logged.ended m))
+    by (Answered.Entailed r) is m = absurd (cc is)
+    by (Answered.NotEntailed k) is m = absurd (cc is)
+    by Answered.Undecided is m = d.logged.honest.budget_kept.ends.is_whole (some_spent (ended_so d.logged.ended m))
 
-listed_spent : (w : Wanted) (o : Listed) (q : Asked) (budget : ℕ) (log : List Entry) (out : List ℕ) → IsListed w o q budget log Undecided out → spent_of log ≡ budget
+listed_spent : (w : Wanted) (o : Listed) (q : Asked) (budget : ℕ) (log : List Entry) (out : List ℕ) → IsListAnswer w o q budget log Undecided out → spent_of log ≡ budget
 listed_spent w o q budget log out l = by l.finished l.status l.listing
   where
     by : (finished : Bool) → Undecided ≡ end_status finished → IsListing w o q budget log l.sets finished → spent_of log ≡ budget

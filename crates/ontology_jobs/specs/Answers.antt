@@ -4,11 +4,11 @@ use Rattle.std.specs.Io.KnownBytes.{Appends}
 use Rattle.shq_io.specs.Causes.{TakesPrefix}
 use Rattle.shq_io.specs.declared.whole.ReadEnd.{ReadEnd}
 use Rattle.shq_io.specs.declared.whole.ReadEnd.TheVariants as E
-use Rattle.job_texts.specs.Answer.{line, no_memory, Answer, IsAnswer}
-use Rattle.job_texts.specs.declared.status.Status.{Status}
-use Rattle.job_texts.specs.declared.status.Status.TheVariants.{BadWords, Limit, ReadFault, WriteFault, NoMemory}
+use Rattle.classification_jobs.specs.Answer.{line, no_memory, Answer, IsAnswer}
+use Rattle.classification_jobs.specs.Status.{Status}
+use Rattle.classification_jobs.specs.Status.TheVariants.{BadWords, Limit, ReadFault, WriteFault, NoMemory}
 use Rattle.run_log.specs.declared.entry.Entry.{Entry}
-use Rattle.certificate_check.specs.Replies.{Checked}
+use Rattle.decision_jobs.specs.Checked.{Checked}
 use Rattle.decision_jobs.specs.Decisions.{AnswersQuestion}
 use Rattle.classification_jobs.specs.Classifications.{AnswersClassification}
 use Rattle.pinpointing_jobs.specs.Answers.{AnswersPinpointing, AnswersWorkload}

@@ -11,24 +11,24 @@ use Rattle.ofn_reader.specs.Documents.{IsDocument}
 use Rattle.run_log.specs.declared.entry.Entry.{Entry}
 use Rattle.run_log.specs.Entries.{spent_of}
 use Rattle.ontology_jobs.specs.Words.{Job, check, decide, classify, pinpoint, Request, on_input, generated, request_of}
-use Rattle.certificate_check.specs.Checking.{IsAsked}
-use Rattle.job_texts.specs.Answer.{line}
+use Rattle.classification_jobs.specs.Asked.{IsAsked}
+use Rattle.classification_jobs.specs.Answer.{line}
 use Rattle.ontology_jobs.specs.Answers.{AnswersJob, AnswersRequest, Answers}
-use Rattle.job_texts.specs.declared.status.Status.{Status}
-use Rattle.job_texts.specs.declared.status.Status.TheVariants.{Done, Rejected, BadWords, BadText, Outside, Limit, ReadFault, WriteFault, Undecided, NoMemory}
+use Rattle.classification_jobs.specs.Status.{Status}
+use Rattle.classification_jobs.specs.Status.TheVariants.{Done, Rejected, BadWords, BadText, Outside, Limit, ReadFault, WriteFault, Undecided, NoMemory}
 
 -- a status that does not depend on the source, the sink or the memory
-abbrev pub IsDecided : Status → Type 0
-IsDecided Done = Unit {0}
-IsDecided Rejected = Unit {0}
-IsDecided BadWords = Unit {0}
-IsDecided BadText = Unit {0}
-IsDecided Outside = Unit {0}
-IsDecided Limit = Unit {0}
-IsDecided ReadFault = ⊥
-IsDecided WriteFault = ⊥
-IsDecided Undecided = ⊥
-IsDecided NoMemory = ⊥
+abbrev pub IsFinal : Status → Type 0
+IsFinal Done = Unit {0}
+IsFinal Rejected = Unit {0}
+IsFinal BadWords = Unit {0}
+IsFinal BadText = Unit {0}
+IsFinal Outside = Unit {0}
+IsFinal Limit = Unit {0}
+IsFinal ReadFault = ⊥
+IsFinal WriteFault = ⊥
+IsFinal Undecided = ⊥
+IsFinal NoMemory = ⊥
 
 -- words that ask for no search, which may find one of several certificates
 abbrev pub AsksForNoSearch : Option Request → Type 0
@@ -41,7 +41,7 @@ AsksForNoSearch (Some (generated number budget)) = ⊥
 
 abbrev pub AnswersAreUnique : Type 0
 AnswersAreUnique =
-    (words : List (List ℕ)) (bytes out text : List ℕ) (s t : Status) (log more : List Entry) → AsksForNoSearch (request_of words) → IsDecided s → IsDecided t → Answers words bytes out s log → Answers words bytes text t more
+    (words : List (List ℕ)) (bytes out text : List ℕ) (s t : Status) (log more : List Entry) → AsksForNoSearch (request_of words) → IsFinal s → IsFinal t → Answers words bytes out s log → Answers words bytes text t more
     → (s ≡ t) × (out ≡ text)
 
 -- the whole budget of what the words asked for was spent; a verification has none

@@ -2,15 +2,13 @@
 ghost use Rattle.std.specs.Prelude.{◌≡◌, ◌≢◌, ◌≤◌, false, [], Some, None, length};
 ghost use Rattle.shq_io.specs.Causes.{Rose};
 ghost use Rattle.ontology_jobs.specs.Words.{request_of, on_input, kept_job, command_request, texts_of};
-ghost use Rattle.job_texts.specs.Answer.{IsAnswer, is_fault, text_bytes};
+ghost use Rattle.classification_jobs.specs.Answer.{IsAnswer, is_fault, text_bytes};
 ghost use Rattle.ontology_jobs.specs.Laws.{HasSpentAll};
 ghost use Rattle.ontology_jobs.specs.Answers.{AnswersRead, AnswersJobOnAll, AnswersRequestOnAll, AnswersAll, AnsweredAll, SaysBadWords, IsBadWords, end_answer, ReadsNothing, LeavesFor, Leaves};
 
 use crate::words::{Command, Job, read_words};
-use certificate_check::verify;
-use classification_jobs::classify;
-use decision_jobs::answer;
-use job_texts::{Status, Text};
+use classification_jobs::{Status, Text, classify};
+use decision_jobs::{answer, verify};
 use pinpointing_jobs::{pinpoint, run_workload};
 use run_log::RunLog;
 use shq_io::{ReadEnd, Sink, Source, WriteFailed, read_all, write_whole};

@@ -1,7 +1,7 @@
 //! The jobs on an ontology, each from the words that ask for it to the answer that is written.
 //!
 //! A certifying program gives with each answer a certificate that can be checked without trust in the program (McConnell,
-//! Mehlhorn, Naeher and Schweitzer, "Certifying algorithms", Computer Science Review 5, 2011). The jobs `sat` and `entails`
+//! Mehlhorn, Näher and Schweitzer, "Certifying algorithms", Computer Science Review 5, 2011). The jobs `sat` and `entails`
 //! find such certificates, finite counter-models and refutations, and the job `check` verifies them; `classify`, `explain` and
 //! `repair` rest on many such tests, which the log shows. All of it is itself proved: the clause `answer` of `run` says for any
 //! words and input which text is written, with which status, and what the log then has.
@@ -12,7 +12,7 @@ mod laws;
 mod words;
 mod workload_number;
 
-pub use job_texts::Status;
+pub use classification_jobs::Status;
 pub use jobs::run;
 pub use laws::{
     accepted_queries_do_not_follow, accepted_queries_follow, answers_are_unique,

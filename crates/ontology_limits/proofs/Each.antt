@@ -4,7 +4,7 @@ use Rattle.std.specs.Prelude.{IsTrue}
 use Rattle.std.specs.List.{list_all, All}
 use Rattle.std.proofs.lemmas.Bool.{and_parts}
 use Rattle.std.proofs.lemmas.List.Elements.{All-nil, All-cons}
-use Rattle.shq_terms.specs.declared.axioms.Numbered.{Numbered}
+use Rattle.role_box.specs.Numbered.{Numbered}
 use Rattle.shq_nnf.specs.Parts.{axiom_parts, axiom_has_counts_within}
 use Rattle.ontology_limits.specs.Limits.{part_count}
 use Rattle.ontology_limits.specs.Laws.{EachAxiomIsInLimit}

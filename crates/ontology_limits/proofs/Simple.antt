@@ -4,8 +4,8 @@ use Rattle.std.specs.Prelude.{slice_get}
 use Rattle.std.specs.List.{list_any, list_all, range_with_len}
 use Rattle.std.proofs.lemmas.Bool.{cases_eq, cases_lt, or_cases, or_left, or_right, and_parts, and_from, eqb-true, false≢true}
 use Rattle.std.proofs.lemmas.List.Folds.{list_any-append}
-use Rattle.shq_terms.specs.declared.axioms.Numbered.{Numbered}
-use Rattle.shape_specs.specs.Roles.{IsBelow, itself, by_step}
+use Rattle.role_box.specs.Numbered.{Numbered}
+use Rattle.shq_nnf.specs.Roles.{IsBelow, itself, by_step}
 use Rattle.role_box.specs.declared.role_axiom.RoleAxiom.{RoleAxiom}
 use Rattle.role_box.specs.RoleAxioms.{role_part_at, role_axioms}
 use Rattle.role_box.specs.Steps.{is_among, leads_by, Leads, is_transitive_by}

@@ -1,9 +1,9 @@
 -- What follows from the limits.
 use Rattle.std.specs.Prelude.{◌≡◌, ℕ, ◌≤◌, true, List, length, IsTrue, All}
 use Rattle.std.specs.List.{list_all}
-use Rattle.shq_terms.specs.Listed.{Listed}
-use Rattle.shq_terms.specs.declared.axioms.Numbered.{Numbered}
-use Rattle.shq_terms.specs.declared.axioms.Query.{Query}
+use Rattle.role_box.specs.Listed.{Listed}
+use Rattle.role_box.specs.Numbered.{Numbered}
+use Rattle.role_box.specs.Query.{Query}
 use Rattle.shq_nnf.specs.Parts.{axiom_parts, axiom_has_counts_within}
 use Rattle.role_box.specs.RoleAxioms.{role_axioms}
 use Rattle.role_box.specs.Counted.{counted_by_query}

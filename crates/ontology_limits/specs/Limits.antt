@@ -1,13 +1,13 @@
 -- The limits of an ontology and of a query on it, together: what is read is within them, and each later call asks for them.
 use Rattle.std.specs.Prelude.{◌≡◌, ℕ, ◌+◌, ◌≤◌, Bool, true, ◌&&◌, List, [], ◌∷◌, length, nat_le}
 use Rattle.std.specs.List.{list_all}
-use Rattle.shq_base.specs.Concept.{Concept, top, bottom, name, complement, intersection, union, some_of, all_of, at_least, at_most, exactly, Parts, no_parts, part, parts_of, part_list}
-use Rattle.shq_terms.specs.Listed.{Listed}
-use Rattle.shq_terms.specs.Uses.{uses_listed, all_use_listed}
-use Rattle.shq_terms.specs.declared.axioms.Axiom.{Axiom}
-use Rattle.shq_terms.specs.declared.axioms.Axiom.TheVariants.{SubClassOf, EquivalentClasses, DisjointClasses, DisjointUnion, SubRole, EquivalentRoles, Domain, Range, Functional, Transitive}
-use Rattle.shq_terms.specs.declared.axioms.Numbered.{Numbered}
-use Rattle.shq_terms.specs.declared.axioms.Query.{Query}
+use Rattle.role_box.specs.Concept.{Concept, top, bottom, name, complement, intersection, union, some_of, all_of, at_least, at_most, exactly, Parts, no_parts, part, parts_of, part_list}
+use Rattle.role_box.specs.Listed.{Listed}
+use Rattle.role_box.specs.Uses.{uses_listed, all_use_listed}
+use Rattle.role_box.specs.Axiom.{Axiom}
+use Rattle.role_box.specs.Axiom.TheVariants.{SubClassOf, EquivalentClasses, DisjointClasses, DisjointUnion, SubRole, EquivalentRoles, Domain, Range, Functional, Transitive}
+use Rattle.role_box.specs.Numbered.{Numbered}
+use Rattle.role_box.specs.Query.{Query}
 use Rattle.role_box.specs.Counted.{counted_by_query}
 use Rattle.role_box.specs.Simple.{are_simple, counts_simple, all_role_axioms}
 use Rattle.shq_nnf.specs.Counts.{has_counts_within}

@@ -2,10 +2,10 @@
 use Rattle.std.proofs.Common.{ℕ, List}
 use Rattle.shq_terms.specs.Listed.{Listed}
 use Rattle.ofn_reader.specs.DocumentContext.{DocumentContext}
-use Rattle.certificate_check.specs.declared.unread.Unread.{Unread}
-use Rattle.certificate_check.specs.declared.unread.Unread.TheVariants as U
+use Rattle.job_inputs.specs.declared.unread.Unread.{Unread}
+use Rattle.job_inputs.specs.declared.unread.Unread.TheVariants as U
 use Rattle.job_inputs.specs.Questions.{follows, document, query, IsDocumentAlone, IsReadQuestion, IsUnreadDocument, IsUnreadQuestion}
-use Rattle.decision_jobs.proofs.Answered.{question_in_limit}
+use Rattle.job_inputs.proofs.ReadInLimit.{question_in_limit}
 use Rattle.pinpointing_jobs.specs.declared.asking.Input.{Input}
 use Rattle.pinpointing_jobs.specs.Asked.{IsInput, IsNoInput}
 

@@ -10,24 +10,24 @@ use Rattle.lane_sieve.specs.Sets.{NumberSet}
 use Rattle.axiom_sets.specs.Sets.{Limited}
 use Rattle.pinpointing_specs.proofs.Choices.{to_rest}
 use Rattle.pinpointing_specs.proofs.Explored.{removal_is_leaf}
-use Rattle.shq_base.specs.declared.memory.NoMemory.{NoMemory}
+use Rattle.shq_terms.specs.NoMemory.{NoMemory}
 use Rattle.hitting_set_tree.specs.declared.tree.Found.{Found}
-use Rattle.hitting_set_tree.specs.Found.{IsFound}
-use Rattle.hitting_set_tree.specs.Open.{AsksFew}
+use Rattle.repair_list.specs.Found.{IsFound}
+use Rattle.repair_list.specs.Open.{AsksFew}
 use Rattle.shq_terms.specs.Listed.{Listed}
 use Rattle.shq_terms.specs.declared.axioms.Query.{Query as Asked}
-use Rattle.module_specs.specs.LocalModule.{IsLocalModule, FollowsFrom, of_axioms, IsJustification, IsRepair}
-use Rattle.module_specs.proofs.Kept.{keeps, grows, intersection_part}
+use Rattle.pinpointing_specs.specs.LocalModule.{IsLocalModule, FollowsFrom, of_axioms, IsJustification, IsRepair}
+use Rattle.pinpointing_specs.proofs.Kept.{keeps, grows, intersection_part}
 use Rattle.run_log.specs.declared.entry.Entry.{Entry}
 use Rattle.run_log.specs.declared.entry.Entry.TheVariants.{Test, Node}
 use Rattle.run_log.specs.Entries.{cost_of, spent_of, nodes_of}
-use Rattle.run_log.specs.HonestLog.{IsJustificationSet, EndsWhenSpent, AsksFewPerNode, KeepsToBudget, IsPinpointingLog}
+use Rattle.run_log.specs.HonestLog.{IsJustificationSet, EndsWhenSpent, AsksFewPerNode, IsHonestWithin, IsPinpointingLog}
 use Rattle.run_log.specs.Shown.{IsShownYes, IsShownNo}
-use Rattle.shq_oracle.specs.OracleLists.{OracleLists}
+use Rattle.query_asker.specs.OracleLists.{OracleLists}
 use Rattle.query_asker.specs.AskerLists.{AskerLists, AskerOrigin, origin_of}
 use Rattle.query_asker.specs.Told.{KeepsAnswers, asker_meaning, IsAskerLog}
-use Rattle.pinpointing_lists.specs.Searched.{IsLeaf, IsSearched}
-use Rattle.pinpointing_lists.proofs.Repairs.{to_justification}
+use Rattle.pinpointing_jobs.specs.Searched.{IsLeaf, IsSearched}
+use Rattle.pinpointing_jobs.proofs.Repairs.{to_justification}
 
 -- ---- counts
 
@@ -62,10 +62,10 @@ module _ (a : AskerLists) (f : Found) (is_log : IsAskerLog a) (found : IsFound (
         | inr full ↦ absurd (omega (arith, full, few_asks (length a.ontology.axioms) (length (nodes_of a.gained)) a.asks small nodes_few asked))
       ]
 
-  just : (j : Limited) → Contains f.justs.items j → IsJustificationSet a.ontology a.query j
+  just : (j : Limited) → Contains f.justifications.items j → IsJustificationSet a.ontology a.query j
   just j listed = to_justification a.ontology a.query j (found.just_limits j listed) (found.smallest j listed)
 
-  budget_kept : KeepsToBudget a.ontology a.budget a.gained
+  budget_kept : IsHonestWithin a.ontology a.budget a.gained
   budget_kept = record { within = within; honest = is_log.honest; ends = subst (EndsWhenSpent a.budget) whole is_log.ends }
 
   honest : IsPinpointingLog a.ontology a.query a.budget a.gained
@@ -73,7 +73,7 @@ module _ (a : AskerLists) (f : Found) (is_log : IsAskerLog a) (found : IsFound (
     budget_kept = budget_kept;
     tests = is_log.tests;
     new = is_log.new;
-    nodes = record { labels = f.justs.items; justifications = λ k d lt. just (get_or f.justs.items k d) (Contains-get_or f.justs.items k d lt); nodes = found.nodes };
+    nodes = record { labels = f.justifications.items; justifications = λ k d lt. just (get_or f.justifications.items k d) (Contains-get_or f.justifications.items k d lt); nodes = found.nodes };
     few = few;
     in_module = record { local_part = a.local_part; is_module = is_module; within = is_log.in_module };
   }
@@ -91,7 +91,7 @@ module _ (a : AskerLists) (f : Found) (is_log : IsAskerLog a) (found : IsFound (
   no_shown : f.finished ≡ true → (m r : NumberSet) → IsLocalModule a.ontology.axioms a.query m → IsRepair a.ontology.axioms a.query r → IsShownNo a.gained a.query m r
   no_shown finished m r is x =
       let s = of_axioms a.ontology.axioms r in
-      let listed = removal_is_leaf (FollowsFrom a.ontology.axioms a.query) (length a.ontology.axioms) f.justs.items f.leaves.items (grows a.ontology.axioms a.query) (found.explored finished) s refl x in
+      let listed = removal_is_leaf (FollowsFrom a.ontology.axioms a.query) (length a.ontology.axioms) f.justifications.items f.leaves.items (grows a.ontology.axioms a.query) (found.explored finished) s refl x in
       let shown = found.shown_no s listed in
       record {
         tested = shown.tested;

@@ -10,13 +10,13 @@ use Rattle.shq_terms.specs.Listed.{Listed}
 use Rattle.shq_terms.specs.declared.axioms.Query.{Query as Asked}
 use Rattle.ofn_reader.specs.Queries.{query_start}
 use Rattle.ofn_reader.proofs.Unique.{documents, queries}
-use Rattle.read_limits.specs.Laws.{with_names}
+use Rattle.job_inputs.specs.LimitLaws.{with_names}
 use Rattle.run_log.specs.declared.entry.Entry.{Entry}
-use Rattle.job_texts.specs.declared.status.Status.TheVariants.{Done}
+use Rattle.job_inputs.specs.declared.status.Status.TheVariants.{Done}
 use Rattle.job_inputs.specs.Questions.{follows, IsAskedBy, IsQuestion}
-use Rattle.pinpointing_lists.specs.declared.wanted.Wanted.{Wanted}
-use Rattle.pinpointing_lists.specs.Wanted.{IsWanted, HasAll}
-use Rattle.pinpointing_lists.specs.Listings.{listing_text, end_status, IsListing}
+use Rattle.pinpointing_jobs.specs.declared.wanted.Wanted.{Wanted}
+use Rattle.pinpointing_jobs.specs.Wanted.{IsWanted, HasAll}
+use Rattle.pinpointing_jobs.specs.Listings.{listing_text, end_status, IsListing}
 use Rattle.pinpointing_jobs.specs.Laws.{ListsAreUnique}
 
 -- ---- ascending lists

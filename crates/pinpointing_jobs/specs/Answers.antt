@@ -4,12 +4,12 @@ use Rattle.shq_terms.specs.Listed.{Listed}
 use Rattle.shq_terms.specs.declared.axioms.Query.{Query as Asked}
 use Rattle.workload.specs.WorkloadText.{workload_text}
 use Rattle.run_log.specs.declared.entry.Entry.{Entry}
-use Rattle.job_texts.specs.declared.status.Status.{Status}
+use Rattle.job_inputs.specs.declared.status.Status.{Status}
 use Rattle.job_inputs.specs.Questions.{follows, IsQuestion}
-use Rattle.decision_jobs.specs.Decisions.{IsRefused}
-use Rattle.pinpointing_lists.specs.declared.wanted.Wanted.{Wanted}
-use Rattle.pinpointing_lists.specs.Listings.{IsListed}
-use Rattle.pinpointing_lists.specs.Counts.{IsCounted}
+use Rattle.job_inputs.specs.Refusals.{IsRefused}
+use Rattle.pinpointing_jobs.specs.declared.wanted.Wanted.{Wanted}
+use Rattle.pinpointing_jobs.specs.Listings.{IsListAnswer}
+use Rattle.pinpointing_jobs.specs.Counts.{IsCounted}
 use Rattle.pinpointing_jobs.specs.Memory.{UnlessNoMemory}
 
 -- ---- lists of sets
@@ -19,7 +19,7 @@ pub record IsPinpointed (w : Wanted) (inclusion : List ℕ) (budget : ℕ) (byte
   pub ontology : Listed
   pub query : Asked
   pub is_question : IsQuestion (follows inclusion) bytes ontology query
-  pub listed : IsListed w ontology query budget log s out
+  pub listed : IsListAnswer w ontology query budget log s out
 
 -- the document or the inclusion is refused, or its sets were listed
 abbrev pub AnswersPinpointing : Wanted → List ℕ → ℕ → List ℕ → List ℕ → Status → List Entry → Type 0

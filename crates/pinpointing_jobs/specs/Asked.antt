@@ -1,9 +1,9 @@
 -- The question of a run, once it is read.
 use Rattle.std.specs.Prelude.{ℕ, List}
 use Rattle.ontology_limits.specs.Limits.{IsInLimit}
-use Rattle.certificate_check.specs.Checking.{refused_document, refused_query}
-use Rattle.certificate_check.specs.declared.unread.Unread.{Unread}
-use Rattle.certificate_check.specs.declared.unread.Unread.TheVariants as U
+use Rattle.job_inputs.specs.Asked.{refused_document, refused_query}
+use Rattle.job_inputs.specs.declared.unread.Unread.{Unread}
+use Rattle.job_inputs.specs.declared.unread.Unread.TheVariants as U
 use Rattle.job_inputs.specs.Questions.{follows, IsQuestion, IsRefusedQuestion}
 use Rattle.pinpointing_jobs.specs.declared.asking.Input.{Input}
 

@@ -1,8 +1,8 @@
 -- What is listed is so.
 use Rattle.std.specs.Prelude.{◌≡◌, ℕ, List}
 use Rattle.run_log.specs.declared.entry.Entry.{Entry}
-use Rattle.job_texts.specs.declared.status.Status.TheVariants.{Done}
-use Rattle.pinpointing_lists.specs.declared.wanted.Wanted.{Wanted}
+use Rattle.job_inputs.specs.declared.status.Status.TheVariants.{Done}
+use Rattle.pinpointing_jobs.specs.declared.wanted.Wanted.{Wanted}
 use Rattle.pinpointing_jobs.specs.Answers.{IsPinpointed}
 
 -- two finished answers to one question are the same text, whatever the budgets

@@ -2,3 +2,10 @@ pub mod Memory
 pub mod Asked
 pub mod Answers
 pub mod Laws
+pub mod Wanted
+pub mod Listings
+pub mod Counts
+pub mod Searched
+pub mod Written
+pub mod ListLaws
+pub mod SetLists

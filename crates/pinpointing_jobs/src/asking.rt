@@ -3,8 +3,7 @@ ghost use Rattle.std.specs.Prelude.{◌≡◌, ◌≤◌, IfOk, IfErr, length};
 ghost use Rattle.job_inputs.specs.Questions.{follows, IsDocumentAlone, IsReadQuestion, IsUnreadQuestion};
 ghost use Rattle.pinpointing_jobs.specs.Asked.{IsInput, IsNoInput};
 
-use certificate_check::Unread;
-use job_inputs::{Question, read_document, read_question};
+use job_inputs::{Question, Unread, read_document, read_question};
 use ofn_reader::Context;
 use shq_terms::{Ontology, Query};
 use std::alloc::Global;

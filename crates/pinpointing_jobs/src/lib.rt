@@ -5,15 +5,30 @@
 //! Principles", Artificial Intelligence 32, 1987) that asks the reasoner about sets of axioms inside the local module of the query.
 //! Each test and each node is logged, and the log shows that a finished list is whole. Where the budget does not suffice, the lists
 //! have what was found until then.
+//!
+//! What is printed of the sets that were found is made in `listing`, the text of sets and their axioms in `whole_text`.
 #![tactic(auto)]
 
 mod asking;
+mod axiom_lines;
+mod counting;
 mod laws;
+mod list_laws;
+mod listing;
+mod pieces;
 mod pinpointing;
 mod searching;
+mod set_lines;
+mod wanted;
+mod whole_text;
 mod workloads;
 
+pub use counting::count_answer;
 pub use laws::lists_are_unique;
+pub use list_laws::{counts_are_right, lists_are_right};
+pub use listing::list_answer;
 pub use pinpointing::pinpoint;
-pub use pinpointing_lists::Wanted;
+pub use shq_terms::NoMemory;
+pub use wanted::Wanted;
+pub use whole_text::sets_text;
 pub use workloads::run_workload;

@@ -1,20 +1,18 @@
 // From the question and the bytes of a document to the list of its sets.
 ghost use Rattle.std.specs.Prelude.{◌≡◌, ◌≤◌, false, [], IfOk, IfErr, length};
 ghost use Rattle.ontology_limits.specs.Limits.{IsInLimit};
-ghost use Rattle.job_texts.specs.Answer.{text_bytes, is_fault};
+ghost use Rattle.job_inputs.specs.Answer.{text_bytes, is_fault};
 ghost use Rattle.job_inputs.specs.Questions.{follows};
-ghost use Rattle.decision_jobs.specs.Answering.{IsUnanswered};
-ghost use Rattle.pinpointing_lists.specs.Listings.{IsListed};
+ghost use Rattle.job_inputs.specs.Refusals.{IsUnanswered};
+ghost use Rattle.pinpointing_jobs.specs.Listings.{IsListAnswer};
 ghost use Rattle.pinpointing_jobs.specs.Answers.{IsPinpointed, AnswersPinpointing};
 
 use crate::asking::{Input, read_input};
 use crate::searching::search;
-use certificate_check::{Unread, unread_reply};
-use job_texts::{Status, Text};
-use pinpointing_lists::{Wanted, list_answer};
+use crate::{Wanted, list_answer};
+use job_inputs::{Status, Text, Unread, unread_reply};
 use run_log::RunLog;
-use shq_base::NoMemory;
-use shq_terms::{Ontology, Query};
+use shq_terms::{NoMemory, Ontology, Query};
 use std::alloc::Global;
 
 /// All justifications or all repairs of an inclusion on the document that the bytes are: how the run ends, and the list as text. The
@@ -70,7 +68,7 @@ fn listed(
 ) -> Result<(Status, Text), NoMemory>
     requires in_limit { IsInLimit input.ontology input.query }
     requires unlogged { log.old ≡ [] }
-    ensures { IfOk result (λ a. IsListed wanted input.ontology input.query budget log.new a.0 (text_bytes a.1)) }
+    ensures { IfOk result (λ a. IsListAnswer wanted input.ontology input.query budget log.new a.0 (text_bytes a.1)) }
 {
     let outcome = list(alloc, wanted, &input.ontology, &input.query, budget, log);
     drop(input);
@@ -88,7 +86,7 @@ fn list(
 ) -> Result<(Status, Text), NoMemory>
     requires in_limit { IsInLimit ontology.now query.now }
     requires unlogged { log.old ≡ [] }
-    ensures { IfOk result (λ a. IsListed wanted ontology.now query.now budget log.new a.0 (text_bytes a.1)) }
+    ensures { IfOk result (λ a. IsListAnswer wanted ontology.now query.now budget log.new a.0 (text_bytes a.1)) }
 {
     let found = search(alloc, ontology, query, budget, log)?;
     let outcome = list_answer(alloc, wanted, ontology, &found);

@@ -1,15 +1,13 @@
 // The search for justifications and repairs.
 ghost use Rattle.std.specs.Prelude.{◌≡◌, [], IfOk};
 ghost use Rattle.ontology_limits.specs.Limits.{IsInLimit};
-ghost use Rattle.pinpointing_lists.specs.Searched.{IsSearched};
+ghost use Rattle.pinpointing_jobs.specs.Searched.{IsSearched};
 
 use hitting_set_tree::{Found, enumerate};
 use module_extract::module;
-use query_asker::Asker;
+use query_asker::{Asker, Oracle};
 use run_log::RunLog;
-use shq_base::NoMemory;
-use shq_oracle::Oracle;
-use shq_terms::{Ontology, Query};
+use shq_terms::{NoMemory, Ontology, Query};
 use std::alloc::Global;
 use std::mem;
 

@@ -2,21 +2,19 @@
 ghost use Rattle.std.specs.Prelude.{◌≡◌, ◌≤◌, false, [], IfOk, IfErr};
 ghost use Rattle.ontology_limits.specs.Limits.{IsInLimit};
 ghost use Rattle.workload.specs.WorkloadText.{workload_text};
-ghost use Rattle.job_texts.specs.Answer.{text_bytes, is_fault};
+ghost use Rattle.job_inputs.specs.Answer.{text_bytes, is_fault};
 ghost use Rattle.job_inputs.specs.Questions.{follows};
-ghost use Rattle.decision_jobs.specs.Answering.{IsUnanswered};
-ghost use Rattle.pinpointing_lists.specs.Counts.{IsCounted};
+ghost use Rattle.job_inputs.specs.Refusals.{IsUnanswered};
+ghost use Rattle.pinpointing_jobs.specs.Counts.{IsCounted};
 ghost use Rattle.pinpointing_jobs.specs.Asked.{IsInput, IsNoInput};
 ghost use Rattle.pinpointing_jobs.specs.Answers.{workload_query, IsMeasured, AnswersWorkload};
 
 use crate::asking::{Input, read_input};
+use crate::count_answer;
 use crate::searching::search;
-use certificate_check::{Unread, unread_reply};
-use job_texts::{Status, Text};
-use pinpointing_lists::count_answer;
+use job_inputs::{Status, Text, Unread, unread_reply};
 use run_log::RunLog;
-use shq_base::NoMemory;
-use shq_terms::{Ontology, Query};
+use shq_terms::{NoMemory, Ontology, Query};
 use std::alloc::Global;
 use workload::{QUERY, generate};
 

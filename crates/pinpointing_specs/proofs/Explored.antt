@@ -13,13 +13,13 @@ use Rattle.pinpointing_specs.proofs.Choices.{part_or_more, one_or_each, in_rest,
 apart_or_meet : (s t : NumberSet) → ((k : ℕ) → set.contains s k ≡ true → set.contains t k ≡ false) ⊎ DoMeet s t
 apart_or_meet s t = elim (meet_or_apart s t) [ inl m ↦ inr m | inr a ↦ inl a ]
 
-module _ (holds : NumberSet → Type 0) (limit : ℕ) (justs leaves : List Limited) (grows : Grows holds) (explored : IsExplored holds limit justs leaves) where
+module _ (holds : NumberSet → Type 0) (limit : ℕ) (justifications leaves : List Limited) (grows : Grows holds) (explored : IsExplored holds limit justifications leaves) where
   -- a smallest yes-set that is part of another one is that one
-  same_as : (s j : Limited) → s.limit ≡ limit → IsMinimalYes holds s → Contains justs j → IsPart j.members s.members → Contains justs s
+  same_as : (s j : Limited) → s.limit ≡ limit → IsMinimalYes holds s → Contains justifications j → IsPart j.members s.members → Contains justifications s
   same_as s j e smallest listed part =
       elim (part_or_more s.members j.members) [
         | inl back ↦
-            subst (λ (l : Limited). Contains justs l) (same_limited j s (explored.limits j listed ∙ sym e) (set_of_parts j.members s.members part back)) listed
+            subst (λ (l : Limited). Contains justifications l) (same_limited j s (explored.limits j listed ∙ sym e) (set_of_parts j.members s.members part back)) listed
         | inr more ↦
             absurd (smallest.needed more.0 more.1
             (grows j.members (set.remove s.members more.0)
@@ -27,9 +27,9 @@ module _ (holds : NumberSet → Type 0) (limit : ℕ) (justs leaves : List Limit
             (explored.smallest j listed).yes_set))
       ]
 
-  pub listed_minimal : (s : Limited) → s.limit ≡ limit → IsMinimalYes holds s → Contains justs s
+  pub listed_minimal : (s : Limited) → s.limit ≡ limit → IsMinimalYes holds s → Contains justifications s
   listed_minimal s e smallest =
-      elim (one_or_each (λ (j : Limited). IsPart j.members s.members) (λ (j : Limited). (k : ℕ) × (set.contains j.members k ≡ true) × (set.contains s.members k ≡ false)) (λ j. part_or_more j.members s.members) justs) [
+      elim (one_or_each (λ (j : Limited). IsPart j.members s.members) (λ (j : Limited). (k : ℕ) × (set.contains j.members k ≡ true) × (set.contains s.members k ≡ false)) (λ j. part_or_more j.members s.members) justifications) [
         | inl part ↦ same_as s part.0 e smallest part.1 part.2
         | inr others ↦
             let leaf = explored.covered (rest s) (λ j listed.
@@ -54,7 +54,7 @@ module _ (holds : NumberSet → Type 0) (limit : ℕ) (justs leaves : List Limit
   no_leaf r e yes' leaf = (explored.ends leaf.0 leaf.1).1 (grows (rest r) (rest leaf.0) (rest_of_part leaf.0 r (explored.leaf_limits leaf.0 leaf.1 ∙ sym e) leaf.2) yes')
 
   -- a removal meets each listed set
-  removal_meets : (r : Limited) → r.limit ≡ limit → ¬ holds (rest r) → MeetsEach justs r.members
+  removal_meets : (r : Limited) → r.limit ≡ limit → ¬ holds (rest r) → MeetsEach justifications r.members
   removal_meets r e ends j listed =
       elim (part_or_more j.members (rest r)) [
         | inl part ↦ absurd (ends (grows j.members (rest r) part (explored.smallest j listed).yes_set))
@@ -81,9 +81,9 @@ module _ (holds : NumberSet → Type 0) (limit : ℕ) (justs leaves : List Limit
       ]
 
   -- without k it meets each listed set but those that it hits in k alone
-  pub removal_is_hit_alone : (r : Limited) → r.limit ≡ limit → IsMinimalRemoval holds r → IsHitAlone justs r
+  pub removal_is_hit_alone : (r : Limited) → r.limit ≡ limit → IsMinimalRemoval holds r → IsHitAlone justifications r
   removal_is_hit_alone r e smallest k member =
-      elim (one_or_each (λ (j : Limited). (m : ℕ) → set.contains j.members m ≡ true → set.contains (set.remove r.members k) m ≡ false) (λ (j : Limited). DoMeet j.members (set.remove r.members k)) (λ j. apart_or_meet j.members (set.remove r.members k)) justs) [
+      elim (one_or_each (λ (j : Limited). (m : ℕ) → set.contains j.members m ≡ true → set.contains (set.remove r.members k) m ≡ false) (λ (j : Limited). DoMeet j.members (set.remove r.members k)) (λ j. apart_or_meet j.members (set.remove r.members k)) justifications) [
         | inl found ↦
             let j = found.0 in
             let hit = removal_meets r e smallest.ends j found.1 in
@@ -95,7 +95,7 @@ module _ (holds : NumberSet → Type 0) (limit : ℕ) (justs leaves : List Limit
         | inr each ↦ absurd (no_leaf (without r k) e (smallest.needed k member) (explored.covered (set.remove r.members k) each))
       ]
 
-  pub hit_alone_is_removal : (r : Limited) → r.limit ≡ limit → Contains leaves r → IsHitAlone justs r → IsMinimalRemoval holds r
+  pub hit_alone_is_removal : (r : Limited) → r.limit ≡ limit → Contains leaves r → IsHitAlone justifications r → IsMinimalRemoval holds r
   hit_alone_is_removal r e leaf alone =
       record {
         within = (explored.ends r leaf).0;
@@ -115,10 +115,10 @@ module _ (holds : NumberSet → Type 0) (limit : ℕ) (justs leaves : List Limit
       }
 
 pub laws_of_lists : (holds : NumberSet → Type 0) → ListedAreMinimalYes holds
-laws_of_lists holds limit justs leaves grows explored s e = (λ listed. explored.smallest s listed, listed_minimal holds limit justs leaves grows explored s e)
+laws_of_lists holds limit justifications leaves grows explored s e = (λ listed. explored.smallest s listed, listed_minimal holds limit justifications leaves grows explored s e)
 
 pub laws_of_leaves : (holds : NumberSet → Type 0) → HitAloneAreMinimalRemovals holds
-laws_of_leaves holds limit justs leaves grows explored r e = (
-  λ both. hit_alone_is_removal holds limit justs leaves grows explored r e both.0 both.1,
-  λ smallest. (removal_is_leaf holds limit justs leaves grows explored r e smallest, removal_is_hit_alone holds limit justs leaves grows explored r e smallest),
+laws_of_leaves holds limit justifications leaves grows explored r e = (
+  λ both. hit_alone_is_removal holds limit justifications leaves grows explored r e both.0 both.1,
+  λ smallest. (removal_is_leaf holds limit justifications leaves grows explored r e smallest, removal_is_hit_alone holds limit justifications leaves grows explored r e smallest),
 )

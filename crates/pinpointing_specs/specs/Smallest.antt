@@ -51,9 +51,9 @@ abbrev pub MeetsEach : List Limited → NumberSet → Type 0
 MeetsEach listed t = (j : Limited) → Contains listed j → DoMeet j.members t
 
 -- what a list of sets and a list of leaves are once each set that meets all of the one has a part among the other
-pub record IsExplored (holds : NumberSet → Type 0) (limit : ℕ) (justs leaves : List Limited) : Type 0 where
-  pub limits : (j : Limited) → Contains justs j → j.limit ≡ limit
-  pub smallest : (j : Limited) → Contains justs j → IsMinimalYes holds j
+pub record IsExplored (holds : NumberSet → Type 0) (limit : ℕ) (justifications leaves : List Limited) : Type 0 where
+  pub limits : (j : Limited) → Contains justifications j → j.limit ≡ limit
+  pub smallest : (j : Limited) → Contains justifications j → IsMinimalYes holds j
   pub leaf_limits : (l : Limited) → Contains leaves l → l.limit ≡ limit
   pub ends : (l : Limited) → Contains leaves l → IsWithin l.limit l.members × ¬ holds (rest l)
-  pub covered : (t : NumberSet) → MeetsEach justs t → HasPart leaves t
+  pub covered : (t : NumberSet) → MeetsEach justifications t → HasPart leaves t

@@ -9,9 +9,17 @@
 //! The laws here say what two lists are that come from a hitting-set tree, whatever order it was built in: where each
 //! set that meets all listed yes-sets contains a leaf, the listed sets are all of the smallest ones, and the leaves in
 //! which each member is hit alone are all of the smallest removals.
+//!
+//! `module_laws` speak of the part of an ontology in which it is enough to look: its local module has every justification.
 #![tactic(auto)]
 
+mod module_laws;
+
 ghost use Rattle.pinpointing_specs.specs.Laws.{ListedAreMinimalYes, HitAloneAreMinimalRemovals};
+
+pub use module_laws::{
+    Name, following_grows, modules_are_unique, modules_hold_justifications, modules_keep_entailment,
+};
 
 /// A claim about sets of numbers.
 pub trait Claim {

@@ -13,9 +13,9 @@ use Rattle.shq_terms.specs.Listed.{Listed}
 use Rattle.shq_terms.specs.declared.axioms.Query.{Query}
 use Rattle.set_questions.specs.Meaning.{Keeps}
 use Rattle.set_questions.specs.Asked.{Answers}
-use Rattle.set_questions.specs.declared.entail.Ask.{Ask}
-use Rattle.set_questions.specs.declared.entail.Ask.TheVariants.{Yes, No, Spent}
-use Rattle.module_specs.proofs.Kept.{grows, intersection_part}
+use Rattle.set_questions.specs.declared.entail.Reply.{Reply}
+use Rattle.set_questions.specs.declared.entail.Reply.TheVariants.{Yes, No, Spent}
+use Rattle.pinpointing_specs.proofs.Kept.{grows, intersection_part}
 use Rattle.run_log.specs.declared.entry.Entry.{Entry}
 use Rattle.run_log.specs.declared.entry.Entry.TheVariants.{Test, Node}
 use Rattle.run_log.specs.declared.entry.TestEnd.TheVariants as E
@@ -57,7 +57,7 @@ keeps_later old new later = subst (λ (a : AskerLists). Keeps (asker_meaning old
 
 -- ---- an answer about the local part of a set is one about the set
 
-pub lifted : (a : AskerLists) (s p : Limited) (answer : Ask) → IsLocalPart a s p → Answers (asker_meaning a) p answer → Answers (asker_meaning a) s answer
+pub lifted : (a : AskerLists) (s p : Limited) (answer : Reply) → IsLocalPart a s p → Answers (asker_meaning a) p answer → Answers (asker_meaning a) s answer
 lifted a s p (Yes u) local_part h = (h.0 ∙ local_part.limit, λ k x. intersection_part s.members a.local_part k (subst (λ (m : NumberSet). set.contains m k ≡ true) local_part.members (h.1 k x)), h.2, h.3)
 lifted a s p No local_part h = (
   λ f. h.0 (local_part.keeps f),
@@ -104,7 +104,7 @@ module _ (a : AskerLists) (is_log : IsAskerLog a) (s : Limited) where
   not_answered h (Test t q steps (E.Spent x)) at answers = answers.1
   not_answered h (Node t) at answers = answers
 
-  pub recalled : s.limit ≡ length a.ontology.axioms → (answer : Option Ask) → Recalls a.gained s answer → IsRecalled a s answer
+  pub recalled : s.limit ≡ length a.ontology.axioms → (answer : Option Reply) → Recalls a.gained s answer → IsRecalled a s answer
   recalled limit None h = λ found. not_answered h found.0 found.1 found.2
   recalled limit (Some (Yes u)) h = let f = found_yes a.gained u h.0 in yes_by_log f.asked f.query f.steps u f.is_test limit h.1
   recalled limit (Some No) h = let f = found_no a.gained h.0 h.1 in no_by_log h.0 f.query f.steps f.is_test h.2
@@ -113,20 +113,20 @@ module _ (a : AskerLists) (is_log : IsAskerLog a) (s : Limited) where
 -- ---- one ask
 
 -- an answer does not depend on the count of asks
-pub answers_counted : (a b : AskerLists) (asks : ℕ) (s : Limited) (answer : Ask) → b ≡ record { ontology = a.ontology; query = a.query; budget = a.budget; local_part = a.local_part; before = a.before; gained = a.gained; asks = asks }
+pub answers_counted : (a b : AskerLists) (asks : ℕ) (s : Limited) (answer : Reply) → b ≡ record { ontology = a.ontology; query = a.query; budget = a.budget; local_part = a.local_part; before = a.before; gained = a.gained; asks = asks }
     → Answers (asker_meaning a) s answer → Answers (asker_meaning b) s answer
 answers_counted a b asks s answer e h =
     subst (λ (d : AskerLists). Answers (asker_meaning d) s answer) (sym e) (by_answer answer h)
   where
-    by_answer : (x : Ask) → Answers (asker_meaning a) s x → Answers (asker_meaning (record { ontology = a.ontology; query = a.query; budget = a.budget; local_part = a.local_part; before = a.before; gained = a.gained; asks = asks })) s x
+    by_answer : (x : Reply) → Answers (asker_meaning a) s x → Answers (asker_meaning (record { ontology = a.ontology; query = a.query; budget = a.budget; local_part = a.local_part; before = a.before; gained = a.gained; asks = asks })) s x
     by_answer (Yes u) k = k
     by_answer No k = k
     by_answer Spent k = k
 
-pub known_is : (a : AskerLists) (p : Limited) (o : Option Ask) (known : Ask) → o ≡ Some known → IsRecalled a p o → Answers (asker_meaning a) p known
+pub known_is : (a : AskerLists) (p : Limited) (o : Option Reply) (known : Reply) → o ≡ Some known → IsRecalled a p o → Answers (asker_meaning a) p known
 known_is a p o known e h = subst (IsRecalled a p) e h
 
-pub new_if_none : (a : AskerLists) (p : Limited) (o : Option Ask) → ((known : Ask) → ¬ (o ≡ Some known)) → IsRecalled a p o → ¬ IsAnswered a.gained p a.query
+pub new_if_none : (a : AskerLists) (p : Limited) (o : Option Reply) → ((known : Reply) → ¬ (o ≡ Some known)) → IsRecalled a p o → ¬ IsAnswered a.gained p a.query
 new_if_none a p None not_some h = h
 new_if_none a p (Some known) not_some h = absurd (not_some known refl)
 

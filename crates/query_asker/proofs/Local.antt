@@ -5,7 +5,7 @@ use Rattle.std.specs.Cmp.{nat_cmp_total}
 use Rattle.std.specs.Ordering.{nat_cmp}
 use Rattle.std.specs.FinSet as set
 use Rattle.std.proofs.lemmas.Bool.{and_from}
-use Rattle.shq_base.proofs.Bools.{same_truth}
+use Rattle.shq_terms.proofs.Bools.{same_truth}
 use Rattle.lane_sieve.specs.Sets.{NumberSet}
 use Rattle.axiom_sets.specs.Sets.{Limited, IsWithin}
 use Rattle.pinpointing_specs.specs.Smallest.{numbers_to}
@@ -15,8 +15,8 @@ use Rattle.shq_terms.specs.declared.axioms.Axiom.{Axiom}
 use Rattle.shq_terms.specs.declared.axioms.Numbered.{Numbered}
 use Rattle.shq_terms.specs.declared.axioms.Query.{Query}
 use Rattle.shq_meaning.specs.Truth.{Entails}
-use Rattle.module_specs.specs.LocalModule.{axioms_from, axioms_in_set, FollowsFrom}
-use Rattle.module_specs.proofs.Kept.{keeps, grows, intersection_part}
+use Rattle.pinpointing_specs.specs.LocalModule.{axioms_from, axioms_in_set, FollowsFrom}
+use Rattle.pinpointing_specs.proofs.Kept.{keeps, grows, intersection_part}
 use Rattle.query_asker.specs.AskerLists.{AskerLists}
 use Rattle.query_asker.specs.Told.{KeepsAnswers, ModulesKeepAnswers}
 use Rattle.query_asker.specs.Asking.{part_of, IsPartIn, IsLocalPart}

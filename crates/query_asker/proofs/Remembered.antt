@@ -8,9 +8,9 @@ use Rattle.std.proofs.lemmas.List.{append-nil, length-drop, take_more, take-appe
 use Rattle.std.proofs.lemmas.List.Elements.{All-contains, All-contains_itself, All-weaker, Contains-get_or, Contains-append_left, Contains-append_right, Contains-append_cases, Contains-push, Contains-push_cases}
 use Rattle.lane_sieve.specs.Sets.{IsPart}
 use Rattle.axiom_sets.specs.Sets.{Limited}
-use Rattle.antichains.specs.Kept.{AreKept}
-use Rattle.antichains.specs.declared.chain.Kind.{Kind}
-use Rattle.antichains.specs.declared.chain.Kind.TheVariants.{Minimal, Maximal}
+use Rattle.set_questions.specs.Kept.{AreKept}
+use Rattle.set_questions.specs.declared.antichain.Kind.{Kind}
+use Rattle.set_questions.specs.declared.antichain.Kind.TheVariants.{Minimal, Maximal}
 use Rattle.set_questions.specs.InOrder.{HaveOneLimit}
 use Rattle.shq_terms.specs.declared.axioms.Query.{Query}
 use Rattle.run_log.specs.declared.entry.Entry.{Entry}

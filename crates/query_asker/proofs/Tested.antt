@@ -10,8 +10,8 @@ use Rattle.axiom_sets.specs.Sets.{Limited}
 use Rattle.shq_terms.specs.declared.axioms.Query.{Query}
 use Rattle.set_questions.specs.Meaning.{one_more}
 use Rattle.set_questions.specs.Asked.{Answers, Takes}
-use Rattle.set_questions.specs.declared.entail.Ask.{Ask}
-use Rattle.set_questions.specs.declared.entail.Ask.TheVariants.{Yes, No, Spent}
+use Rattle.set_questions.specs.declared.entail.Reply.{Reply}
+use Rattle.set_questions.specs.declared.entail.Reply.TheVariants.{Yes, No, Spent}
 use Rattle.run_log.specs.declared.entry.Entry.{Entry}
 use Rattle.run_log.specs.declared.entry.Entry.TheVariants.{Test, Node}
 use Rattle.run_log.specs.declared.entry.TestEnd.{TestEnd}
@@ -21,7 +21,7 @@ use Rattle.run_log.specs.HonestLog.{IsAxiomSet, IsHonestEnd, EndsWhenSpent}
 use Rattle.shq_oracle.specs.OracleLists.{OracleLists}
 use Rattle.shq_oracle.specs.Decided.{Matches, AppendsTest, LeavesNothing}
 use Rattle.shq_oracle.specs.declared.answer.Answer.{Answer}
-use Rattle.shq_oracle.specs.declared.answer.Answer.TheVariants.{Refuted, Model, Spent as OutOfBudget}
+use Rattle.shq_oracle.specs.declared.answer.Answer.TheVariants as Answered
 use Rattle.query_asker.specs.declared.memo.Memo.{Memo}
 use Rattle.query_asker.specs.AskerLists.{AskerLists}
 use Rattle.query_asker.specs.Told.{IsTestOfOther, AreTestsOfOthers, asker_meaning, IsAskerLog}
@@ -30,8 +30,8 @@ use Rattle.query_asker.specs.Asking.{lists_of, CanAsk, IsAsker, IsLater, Hands}
 use Rattle.query_asker.proofs.Remembered.{kept_still}
 use Rattle.query_asker.proofs.Logged.{goes_on, with_entry, MayBeLast, log_with, log_counted}
 use Rattle.query_asker.proofs.Answering.{yes_by_log, no_by_log}
-use Rattle.antichains.specs.declared.chain.Kind.TheVariants.{Minimal, Maximal}
-use Rattle.antichains.specs.Kept.{kept_sets}
+use Rattle.set_questions.specs.declared.antichain.Kind.TheVariants.{Minimal, Maximal}
+use Rattle.set_questions.specs.Kept.{kept_sets}
 
 -- ---- nodes
 
@@ -122,15 +122,15 @@ module _ (o : OracleLists) (q : Query) (among : Option Limited) (first asks : �
     entry = Test s q appends.steps appends.ended
 
     spent_is : (b : Answer) (d : TestEnd) → Matches b d → ended_spent d ≡ true → LeavesNothing o' b → spent_of o'.log ≡ o'.budget
-    spent_is (Refuted r) (E.Yes u) m e l = cc
-    spent_is (Refuted r) E.No m e l = absurd m
-    spent_is (Refuted r) (E.Spent t) m e l = absurd m
-    spent_is (Model i) (E.Yes u) m e l = absurd m
-    spent_is (Model i) E.No m e l = cc
-    spent_is (Model i) (E.Spent t) m e l = absurd m
-    spent_is OutOfBudget (E.Yes u) m e l = absurd m
-    spent_is OutOfBudget E.No m e l = absurd m
-    spent_is OutOfBudget (E.Spent t) m e l = l
+    spent_is (Answered.Entailed r) (E.Yes u) m e l = cc
+    spent_is (Answered.Entailed r) E.No m e l = absurd m
+    spent_is (Answered.Entailed r) (E.Spent t) m e l = absurd m
+    spent_is (Answered.NotEntailed i) (E.Yes u) m e l = absurd m
+    spent_is (Answered.NotEntailed i) E.No m e l = cc
+    spent_is (Answered.NotEntailed i) (E.Spent t) m e l = absurd m
+    spent_is Answered.Undecided (E.Yes u) m e l = absurd m
+    spent_is Answered.Undecided E.No m e l = absurd m
+    spent_is Answered.Undecided (E.Spent t) m e l = l
 
     longer : (a.before ++ a.gained) ++ entry ∷ [] ≡ o'.log
     longer = ap (λ (log : List Entry). log ++ entry ∷ []) whole ∙ sym appends.is_log
@@ -160,29 +160,29 @@ module _ (o : OracleLists) (q : Query) (among : Option Limited) (first asks : �
         let spent : spent_of (a.before ++ (a.gained ++ entry ∷ [])) ≡ o.budget = ap spent_of same ∙ e ∙ budget in
         omega (arith, spent)
 
-    by_end : (b : Answer) (d : TestEnd) (t : Ask) → IsAskerLog after → s.limit ≡ length o.ontology.axioms → Contains after.gained (Test s q appends.steps d) → IsHonestEnd o.ontology s q appends.steps d
+    by_end : (b : Answer) (d : TestEnd) (t : Reply) → IsAskerLog after → s.limit ≡ length o.ontology.axioms → Contains after.gained (Test s q appends.steps d) → IsHonestEnd o.ontology s q appends.steps d
         → Matches b d → LeavesNothing o' b → Hands b t → Answers (asker_meaning after) s t
-    by_end (Refuted r) (E.Yes u) (Yes v) log' limit at honest m l e =
+    by_end (Answered.Entailed r) (E.Yes u) (Yes v) log' limit at honest m l e =
         subst (λ (w : Limited). Answers (asker_meaning after) s (Yes w)) (m ∙ sym e) (yes_by_log after log' s s q appends.steps u at limit honest.part)
-    by_end (Model i) E.No No log' limit at honest m l e = no_by_log after log' s s q appends.steps at (λ k h. h)
-    by_end OutOfBudget (E.Spent x) Spent log' limit at honest m l e = nothing_left l
-    by_end (Refuted r) (E.Yes u) No log' limit at honest m l e = absurd e
-    by_end (Refuted r) (E.Yes u) Spent log' limit at honest m l e = absurd e
-    by_end (Refuted r) E.No t log' limit at honest m l e = absurd m
-    by_end (Refuted r) (E.Spent x) t log' limit at honest m l e = absurd m
-    by_end (Model i) (E.Yes u) t log' limit at honest m l e = absurd m
-    by_end (Model i) E.No (Yes v) log' limit at honest m l e = absurd e
-    by_end (Model i) E.No Spent log' limit at honest m l e = absurd e
-    by_end (Model i) (E.Spent x) t log' limit at honest m l e = absurd m
-    by_end OutOfBudget (E.Yes u) t log' limit at honest m l e = absurd m
-    by_end OutOfBudget E.No t log' limit at honest m l e = absurd m
-    by_end OutOfBudget (E.Spent x) (Yes v) log' limit at honest m l e = absurd e
-    by_end OutOfBudget (E.Spent x) No log' limit at honest m l e = absurd e
+    by_end (Answered.NotEntailed i) E.No No log' limit at honest m l e = no_by_log after log' s s q appends.steps at (λ k h. h)
+    by_end Answered.Undecided (E.Spent x) Spent log' limit at honest m l e = nothing_left l
+    by_end (Answered.Entailed r) (E.Yes u) No log' limit at honest m l e = absurd e
+    by_end (Answered.Entailed r) (E.Yes u) Spent log' limit at honest m l e = absurd e
+    by_end (Answered.Entailed r) E.No t log' limit at honest m l e = absurd m
+    by_end (Answered.Entailed r) (E.Spent x) t log' limit at honest m l e = absurd m
+    by_end (Answered.NotEntailed i) (E.Yes u) t log' limit at honest m l e = absurd m
+    by_end (Answered.NotEntailed i) E.No (Yes v) log' limit at honest m l e = absurd e
+    by_end (Answered.NotEntailed i) E.No Spent log' limit at honest m l e = absurd e
+    by_end (Answered.NotEntailed i) (E.Spent x) t log' limit at honest m l e = absurd m
+    by_end Answered.Undecided (E.Yes u) t log' limit at honest m l e = absurd m
+    by_end Answered.Undecided E.No t log' limit at honest m l e = absurd m
+    by_end Answered.Undecided (E.Spent x) (Yes v) log' limit at honest m l e = absurd e
+    by_end Answered.Undecided (E.Spent x) No log' limit at honest m l e = absurd e
 
     is_after : first ≤ length o.log → lists_of o' q among first (one_more asks) ≡ after
     is_after le = ap (λ (l : OracleLists). lists_of l q among first (one_more asks)) (is_logged o o' entry ontology budget appends.is_log) ∙ lists_logged o q among first asks (one_more asks) entry le
 
-    pub answered : (memo : Memo) → IsAsker o q among first memo asks → s.limit ≡ length o.ontology.axioms → (t : Ask) → Hands answer t → Answers (asker_meaning (lists_of o' q among first (one_more asks))) s t
+    pub answered : (memo : Memo) → IsAsker o q among first memo asks → s.limit ≡ length o.ontology.axioms → (t : Reply) → Hands answer t → Answers (asker_meaning (lists_of o' q among first (one_more asks))) s t
     answered memo h limit t e =
         let log' : IsAskerLog after = log_with a entry (one_more asks) h.is_log may_test in
         subst (λ (l : AskerLists). Answers (asker_meaning l) s t) (sym (is_after h.first_within))

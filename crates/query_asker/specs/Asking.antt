@@ -7,15 +7,15 @@ use Rattle.pinpointing_specs.specs.Smallest.{numbers_to}
 use Rattle.shq_terms.specs.Listed.{Listed}
 use Rattle.shq_terms.specs.declared.axioms.Query.{Query}
 use Rattle.ontology_limits.specs.Limits.{IsInLimit}
-use Rattle.module_specs.specs.LocalModule.{FollowsFrom}
+use Rattle.pinpointing_specs.specs.LocalModule.{FollowsFrom}
 use Rattle.set_questions.specs.Asked.{Answers}
-use Rattle.set_questions.specs.declared.entail.Ask.{Ask}
-use Rattle.set_questions.specs.declared.entail.Ask.TheVariants.{Yes, No, Spent}
+use Rattle.set_questions.specs.declared.entail.Reply.{Reply}
+use Rattle.set_questions.specs.declared.entail.Reply.TheVariants.{Yes, No, Spent}
 use Rattle.run_log.specs.declared.entry.Entry.{Entry}
 use Rattle.run_log.specs.Entries.{IsAnswered}
 use Rattle.shq_oracle.specs.OracleLists.{OracleLists}
 use Rattle.shq_oracle.specs.declared.answer.Answer.{Answer}
-use Rattle.shq_oracle.specs.declared.answer.Answer.TheVariants.{Refuted, Model, Spent as OutOfBudget}
+use Rattle.shq_oracle.specs.declared.answer.Answer.TheVariants as Answered
 use Rattle.query_asker.specs.declared.memo.Memo.{Memo}
 use Rattle.query_asker.specs.AskerLists.{AskerLists}
 use Rattle.query_asker.specs.Told.{KeepsAnswers, AreTestsOfOthers, asker_meaning, IsAskerLog}
@@ -59,7 +59,7 @@ pub record IsLocalPart (a : AskerLists) (s p : Limited) : Type 0 where
   pub keeps : FollowsFrom a.ontology.axioms a.query s.members → FollowsFrom a.ontology.axioms a.query p.members
 
 -- the answer of the log, where it has one
-abbrev pub IsRecalled : AskerLists → Limited → Option Ask → Type 0
+abbrev pub IsRecalled : AskerLists → Limited → Option Reply → Type 0
 IsRecalled a s None = ¬ IsAnswered a.gained s a.query
 IsRecalled a s (Some answer) = Answers (asker_meaning a) s answer
 
@@ -70,12 +70,12 @@ pub record IsLater (old new : AskerLists) : Type 0 where
 
 -- what a refutation names are numbers up to the limit
 abbrev pub HasLimit : ℕ → Answer → Type 0
-HasLimit n (Refuted r) = r.axioms.limit ≡ n
+HasLimit n (Answered.Entailed r) = r.axioms.limit ≡ n
 HasLimit n a = Unit {0}
 
 -- the answer about a set of axioms that an oracle's answer is
-abbrev pub Hands : Answer → Ask → Type 0
-Hands (Refuted r) (Yes u) = u ≡ r.axioms
-Hands (Model m) No = Unit {0}
-Hands OutOfBudget Spent = Unit {0}
+abbrev pub Hands : Answer → Reply → Type 0
+Hands (Answered.Entailed r) (Yes u) = u ≡ r.axioms
+Hands (Answered.NotEntailed m) No = Unit {0}
+Hands Answered.Undecided Spent = Unit {0}
 Hands a b = ⊥

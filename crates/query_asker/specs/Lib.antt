@@ -2,3 +2,4 @@ pub mod AskerLists
 pub mod Told
 pub mod Memory
 pub mod Asking
+pub use Rattle.shq_oracle.specs.OracleLists

@@ -3,11 +3,11 @@ use Rattle.std.specs.Prelude.{◌≡◌, ◌≤◌, Option, None, Some, List, []
 use Rattle.std.specs.List.{Contains, flat_map}
 use Rattle.lane_sieve.specs.Sets.{IsPart}
 use Rattle.axiom_sets.specs.Sets.{Limited}
-use Rattle.antichains.specs.Kept.{kind_of, kept_sets, AreKept}
-use Rattle.antichains.specs.declared.chain.Kind.{Kind}
-use Rattle.antichains.specs.declared.chain.Kind.TheVariants.{Minimal, Maximal}
-use Rattle.set_questions.specs.declared.entail.Ask.{Ask}
-use Rattle.set_questions.specs.declared.entail.Ask.TheVariants.{Yes, No, Spent}
+use Rattle.set_questions.specs.Kept.{kind_of, kept_sets, AreKept}
+use Rattle.set_questions.specs.declared.antichain.Kind.{Kind}
+use Rattle.set_questions.specs.declared.antichain.Kind.TheVariants.{Minimal, Maximal}
+use Rattle.set_questions.specs.declared.entail.Reply.{Reply}
+use Rattle.set_questions.specs.declared.entail.Reply.TheVariants.{Yes, No, Spent}
 use Rattle.run_log.specs.declared.entry.Entry.{Entry}
 use Rattle.run_log.specs.declared.entry.Entry.TheVariants.{Test, Node}
 use Rattle.run_log.specs.declared.entry.TestEnd.{TestEnd}
@@ -61,7 +61,7 @@ abbrev pub IsInSome : Limited → List Limited → Type 0
 IsInSome s sets = (t : Limited) × Contains sets t × IsPart s.members t.members
 
 -- what the log says of a set of axioms: the query follows from a part of it, or does not follow from more than it, or neither is said
-abbrev pub Recalls : List Entry → Limited → Option Ask → Type 0
+abbrev pub Recalls : List Entry → Limited → Option Reply → Type 0
 Recalls log s None = ((u : Limited) → Contains (yes_sets log) u → ¬ IsPart u.members s.members) × (¬ IsInSome s (no_sets log))
 Recalls log s (Some (Yes u)) = Contains (yes_sets log) u × IsPart u.members s.members
 Recalls log s (Some No) = IsInSome s (no_sets log)

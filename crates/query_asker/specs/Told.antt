@@ -7,8 +7,8 @@ use Rattle.pinpointing_specs.specs.Smallest.{Grows}
 use Rattle.shq_terms.specs.declared.axioms.Numbered.{Numbered}
 use Rattle.shq_terms.specs.declared.axioms.Query.{Query}
 use Rattle.set_questions.specs.Meaning.{Meaning}
-use Rattle.module_specs.specs.LocalModule.{FollowsFrom, IsLocalModule}
-use Rattle.module_specs.proofs.Kept.{grows}
+use Rattle.pinpointing_specs.specs.LocalModule.{FollowsFrom, IsLocalModule}
+use Rattle.pinpointing_specs.proofs.Kept.{grows}
 use Rattle.run_log.specs.declared.entry.Entry.{Entry}
 use Rattle.run_log.specs.declared.entry.Entry.TheVariants.{Test, Node}
 use Rattle.run_log.specs.declared.entry.TestEnd.TheVariants.{No}

@@ -14,7 +14,7 @@ ghost use Rattle.query_asker.specs.Asking.{part_of, IsPartIn, IsLocalPart, IsRec
 use crate::NoMemory;
 use crate::memo::Memo;
 use axiom_sets::AxiomSet;
-use set_questions::{Ask, Entail};
+use set_questions::{Entail, Reply};
 use shq_oracle::{Answer, Oracle};
 use shq_terms::Query;
 use std::alloc::Global;
@@ -43,7 +43,7 @@ pub struct Asker<'a> {
 
 impl<'a> Model for Asker<'a> {
     ghost use Rattle.std.specs.Coded.{codes};
-    ghost use Rattle.shq_base.specs.Code.{concept_code};
+    ghost use Rattle.shq_terms.specs.Code.{concept_code};
     ghost use Rattle.axiom_sets.specs.Sets.{limited_code};
     ghost use Rattle.query_asker.specs.AskerLists.{AskerLists, number_set_code};
     ghost use Rattle.query_asker.specs.Asking.{lists_of, IsAsker};
@@ -158,7 +158,7 @@ impl<'a> Asker<'a> {
     }
 
     // What the log says of a set.
-    fn recall(&mut self, part: &AxiomSet) -> Result<Option<Ask>, NoMemory>
+    fn recall(&mut self, part: &AxiomSet) -> Result<Option<Reply>, NoMemory>
         requires { part.now.limit ≡ length self.old.ontology.axioms }
         ensures same { self.new ≡ self.old }
         ensures recalled { IfOk result (IsRecalled self.old part.now) }
@@ -175,7 +175,7 @@ impl<'a> Asker<'a> {
     }
 
     // Lets the oracle decide about a set of which the log says nothing. Once it has decided, no memory is taken.
-    fn test(&mut self, part: &AxiomSet) -> Result<Ask, NoMemory>
+    fn test(&mut self, part: &AxiomSet) -> Result<Reply, NoMemory>
         requires limit { part.now.limit ≡ length self.old.ontology.axioms }
         requires local_part { IsPart part.now.members self.old.local_part }
         requires is_new { ¬ IsAnswered self.old.gained part.now self.old.query }
@@ -189,7 +189,7 @@ impl<'a> Asker<'a> {
         let counted = self.asks.saturating_add(1);
         if self.oracle.left() == 0 {
             self.asks = counted;
-            return Ok(Ask::Spent);
+            return Ok(Reply::Spent);
         }
         let answer = self.oracle.decide(part, self.query)?;
         self.asks = counted;
@@ -198,18 +198,18 @@ impl<'a> Asker<'a> {
 }
 
 // What an answer tells of the set, where the axioms that a refutation names are put into an empty set.
-fn told(answer: Answer, mut room: AxiomSet) -> Ask
+fn told(answer: Answer, mut room: AxiomSet) -> Reply
     requires limit { HasLimit room.limit answer }
     requires room { room.members ≡ set.empty }
     ensures { Hands answer result }
 {
     match answer {
-        Answer::Refuted(refutation) => {
+        Answer::Entailed(refutation) => {
             room.put_all(refutation.axioms_used());
-            Ask::Yes(room)
+            Reply::Yes(room)
         }
-        Answer::Model(_) => Ask::No,
-        Answer::Spent => Ask::Spent,
+        Answer::NotEntailed(_) => Reply::No,
+        Answer::Undecided => Reply::Spent,
     }
 }
 
@@ -258,7 +258,7 @@ impl<'a> Entail for Asker<'a> {
     ///
     /// # Errors
     /// Memory may be refused. The log is as before then.
-    fn ask(&mut self, set: &AxiomSet) -> Result<Ask, NoMemory> {
+    fn ask(&mut self, set: &AxiomSet) -> Result<Reply, NoMemory> {
         let part = self.local_part(set)?;
         if let Some(known) = self.recall(&part)? {
             self.count_ask();

@@ -13,4 +13,5 @@ mod memo;
 
 pub use asker::Asker;
 pub use law::modules_keep_answers;
-pub use shq_base::NoMemory;
+pub use shq_oracle::Oracle;
+pub use shq_terms::NoMemory;

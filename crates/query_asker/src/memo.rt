@@ -2,16 +2,15 @@
 ghost use Rattle.std.specs.Prelude.{◌≡◌, ◌+◌, ◌<◌, ◌↔◌, List, OnOk, OnErr, IfOk, IsTrue, length};
 ghost use Rattle.std.specs.List.{All, Contains};
 ghost use Rattle.axiom_sets.specs.Sets.{Limited};
-ghost use Rattle.antichains.specs.Kept.{kind_of, kept_sets};
+ghost use Rattle.set_questions.specs.Kept.{kind_of, kept_sets};
 ghost use Rattle.set_questions.specs.InOrder.{HaveOneLimit};
 ghost use Rattle.run_log.specs.declared.entry.Entry.{Entry as PlainEntry};
 ghost use Rattle.query_asker.specs.Memory.{yes_by, no_by, yes_of, no_of, yes_sets, no_sets, IsMemo, KeepsWithAll, IsInSome, Recalls};
 
 use crate::NoMemory;
-use antichains::Antichain;
 use axiom_sets::AxiomSet;
 use run_log::{Entry, TestEnd};
-use set_questions::{Ask, place_of_part};
+use set_questions::{Antichain, Reply, place_of_part};
 use std::alloc::Global;
 
 /// What the entries of a log found, as far as they were seen: the smallest sets of axioms from which the query follows, and the
@@ -39,7 +38,7 @@ impl Memo {
     ///
     /// # Errors
     /// Where memory is refused, nothing that was seen is lost.
-    pub fn recall(&mut self, log: &[Entry], set: &AxiomSet) -> Result<Option<Ask>, NoMemory>
+    pub fn recall(&mut self, log: &[Entry], set: &AxiomSet) -> Result<Option<Reply>, NoMemory>
         requires yes_limits { All (λ s. s.limit ≡ set.now.limit) (yes_sets log.now) }
         requires no_limits { All (λ s. s.limit ≡ set.now.limit) (no_sets log.now) }
         requires memo { IsMemo self.old log.now }
@@ -67,7 +66,7 @@ impl Memo {
     }
 
     // What the entries that were seen say of the set.
-    fn find(&self, log: &[Entry], set: &AxiomSet) -> Result<Option<Ask>, NoMemory>
+    fn find(&self, log: &[Entry], set: &AxiomSet) -> Result<Option<Reply>, NoMemory>
         requires yes_limits { All (λ s. s.limit ≡ set.now.limit) (yes_sets log.now) }
         requires no_limits { All (λ s. s.limit ≡ set.now.limit) (no_sets log.now) }
         requires memo { IsMemo self.now log.now }
@@ -75,10 +74,10 @@ impl Memo {
         ensures { IfOk result (Recalls log.now set.now) }
     {
         if let Some(place) = place_of_part(self.yes.sets(), set) {
-            return Ok(Some(Ask::Yes(self.yes.sets()[place].try_clone()?)));
+            return Ok(Some(Reply::Yes(self.yes.sets()[place].try_clone()?)));
         }
         if is_part_of_some(set, self.no.sets()) {
-            return Ok(Some(Ask::No));
+            return Ok(Some(Reply::No));
         }
         Ok(None)
     }

@@ -2,15 +2,15 @@
 use Rattle.std.proofs.Common.{◌≡◌, ℕ, ◌&&◌, Bool, true, false, List, [], ◌∷◌, map, Option, Some, None, refl, ap, ◌∙◌, sym}
 use Rattle.std.specs.List.{All}
 use Rattle.std.proofs.lemmas.List.Elements.{All-nil, All-cons}
-use Rattle.shq_base.specs.Concept.{Concept}
-use Rattle.shape_specs.specs.Shape.{Shape}
-use Rattle.shape_specs.specs.Rows.{Part, Theory, part_at, are_name_positions}
-use Rattle.shape_specs.specs.Rows.Part.{inclusion, range}
-use Rattle.fact_specs.specs.declared.Fact.{Fact}
+use Rattle.shq_terms.specs.Concept.{Concept}
+use Rattle.calculus_specs.specs.Shape.{Shape}
+use Rattle.calculus_specs.specs.Rows.{Part, Theory, part_at, are_name_positions}
+use Rattle.calculus_specs.specs.Rows.Part.{inclusion, range}
+use Rattle.calculus_specs.specs.declared.facts.Fact.{Fact}
 use Rattle.branch_facts.specs.NumberedBranch.{NumberedBranch as Branch}
-use Rattle.refutation_specs.specs.Line.{Line}
-use Rattle.refutation_specs.specs.Line.Line.{start_line, and_line, or_line, all_line, carry_line, row_line, range_line, some_line, least_line, choose_line, pair_line, bottom_line, clash_line, most_line}
-use Rattle.refutation_specs.specs.Rules.{Known, when, at_concept, and_children, or_children, all_children, carry_children, row_children, range_children, some_children, least_children, choose_children, clash_children, most_children, started, children_of}
+use Rattle.calculus_specs.specs.Line.{Line}
+use Rattle.calculus_specs.specs.Line.Line.{start_line, and_line, or_line, all_line, carry_line, row_line, range_line, some_line, least_line, choose_line, pair_line, bottom_line, clash_line, most_line}
+use Rattle.calculus_specs.specs.Rules.{Known, when, at_concept, and_children, or_children, all_children, carry_children, row_children, range_children, some_children, least_children, choose_children, clash_children, most_children, started, children_of}
 use Rattle.refutation_rules.specs.declared.outcome.Outcome.{Outcome}
 use Rattle.refutation_rules.specs.declared.outcome.Outcome.TheVariants.{Closed, Started, More, Nodes, Branches}
 use Rattle.refutation_rules.specs.Outcomes.{known_of, branch_with_facts, branches_after}

@@ -4,10 +4,10 @@ use Rattle.std.specs.List.{All}
 use Rattle.std.proofs.lemmas.Bool.{lt-ltb, and_from, and_parts}
 use Rattle.std.proofs.lemmas.List.Folds.{list_all-append}
 use Rattle.std.proofs.lemmas.List.Elements.{All-nil, All-cons}
-use Rattle.fact_specs.specs.declared.Fact.{Fact}
-use Rattle.fact_specs.specs.declared.Fact.TheVariants.{Has}
-use Rattle.fact_specs.specs.State.{new_nodes, apart_from, pairwise_apart}
-use Rattle.fact_specs.specs.Reading.{is_fact_listed, are_listed}
+use Rattle.calculus_specs.specs.declared.facts.Fact.{Fact}
+use Rattle.calculus_specs.specs.declared.facts.Fact.TheVariants.{Has}
+use Rattle.calculus_specs.specs.State.{new_nodes, apart_from, pairwise_apart}
+use Rattle.calculus_specs.specs.Reading.{is_fact_listed, are_listed}
 use Rattle.branch_facts.specs.NumberedBranch.{NumberedBranch as Branch}
 use Rattle.refutation_rules.specs.declared.outcome.Outcome.{Outcome}
 use Rattle.refutation_rules.specs.declared.outcome.Outcome.TheVariants.{Closed, Started, More, Nodes, Branches}

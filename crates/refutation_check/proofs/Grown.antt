@@ -1,6 +1,6 @@
 -- A branch that grows by some facts, or some nodes, and then by more.
 use Rattle.std.proofs.Common.{◌≡◌, ℕ, suc, ◌+◌, ◌-◌, ◌<◌, List, [], ◌∷◌, ◌++◌, drop, length, get_or, ap, ◌∙◌, sym, append_assoc, arith, drop-cons}
-use Rattle.fact_specs.specs.declared.Fact.{Fact}
+use Rattle.calculus_specs.specs.declared.facts.Fact.{Fact}
 use Rattle.refutation_rules.specs.Outcomes.{branch_with_facts}
 use Rattle.refutation_check.specs.Open.{Open, branches_for, knowing, knowing_nodes}
 

@@ -3,12 +3,12 @@ use Rattle.std.proofs.Common.{◌≡◌, ℕ, zero, suc, List, Result, Ok, Err, 
 use Rattle.std.specs.Prelude.{IfOk}
 use Rattle.lane_sieve.specs.Sets.{IsPart}
 use Rattle.axiom_sets.specs.Sets.{Limited, member_list}
-use Rattle.shq_base.specs.declared.memory.NoMemory.{NoMemory}
+use Rattle.shq_terms.specs.NoMemory.{NoMemory}
 use Rattle.shq_terms.specs.declared.axioms.Numbered.{Numbered}
 use Rattle.shq_terms.specs.declared.axioms.Query.{Query}
-use Rattle.refutation_specs.specs.Line.{Line}
-use Rattle.refutation_specs.specs.Valid.{concept_at, IsBrokenAt}
-use Rattle.refutation_specs.proofs.Stack.{run_refutes}
+use Rattle.calculus_specs.specs.Line.{Line}
+use Rattle.calculus_specs.specs.Valid.{concept_at, IsBrokenAt}
+use Rattle.calculus_specs.proofs.Stack.{run_refutes}
 use Rattle.refutation_tree.specs.RefutationLists.{RefutationLists}
 use Rattle.refutation_rules.specs.RefutationContext.{RefutationContext}
 use Rattle.refutation_check.specs.declared.checking.Verdict.{Verdict}

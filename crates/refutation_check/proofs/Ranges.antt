@@ -3,8 +3,8 @@ use Rattle.std.proofs.Common.{◌≡◌, ℕ, zero, suc, ◌+◌, ◌-◌, ◌<�
 use Rattle.std.specs.List.{list_any, range_with_len}
 use Rattle.std.proofs.lemmas.Bool.{ne_eqb, or_parts}
 use Rattle.std.proofs.lemmas.List.Folds.{list_any-append}
-use Rattle.fact_specs.specs.declared.Fact.TheVariants.{Has, Edge, Apart}
-use Rattle.fact_specs.specs.State.{new_nodes, apart_from, pairwise_apart}
+use Rattle.calculus_specs.specs.declared.facts.Fact.TheVariants.{Has, Edge, Apart}
+use Rattle.calculus_specs.specs.State.{new_nodes, apart_from, pairwise_apart}
 
 one_more : (count place : ℕ) → place < count → count - place ≡ suc (count - (place + 1))
 one_more count place h = omega arith

@@ -2,13 +2,13 @@
 use Rattle.std.proofs.Common.{◌≡◌, ℕ, suc, ◌+◌, ◌<◌, Bool, true, false, List, [], ◌∷◌, ◌++◌, map, take, drop, length, get_or, Option, Some, None, refl, ap, ◌∙◌, sym, subst, arith, drop-cons}
 use Rattle.std.specs.Option.{option_and_then}
 use Rattle.std.proofs.lemmas.List.{take_more, get_or-map, length-map}
-use Rattle.shq_base.specs.Concept.{Concept}
-use Rattle.shape_specs.specs.Rows.{Theory}
+use Rattle.shq_terms.specs.Concept.{Concept}
+use Rattle.calculus_specs.specs.Rows.{Theory}
 use Rattle.refutation_tree.specs.RuleLine.{line_of}
 use Rattle.refutation_tree.specs.declared.line.Line.{Line as Kept}
-use Rattle.refutation_specs.specs.Line.{Line}
-use Rattle.refutation_specs.specs.Rules.{Known, nothing_known}
-use Rattle.refutation_specs.specs.Valid.{concept_at, open_after, open_after_all, Breaks}
+use Rattle.calculus_specs.specs.Line.{Line}
+use Rattle.calculus_specs.specs.Rules.{Known, nothing_known}
+use Rattle.calculus_specs.specs.Valid.{concept_at, open_after, open_after_all, Breaks}
 use Rattle.refutation_truth.specs.Theory.{theory_of}
 use Rattle.refutation_rules.specs.RefutationContext.{RefutationContext, theory, IsSameButTable}
 use Rattle.refutation_check.specs.declared.checking.Verdict.TheVariants.{Rejected}

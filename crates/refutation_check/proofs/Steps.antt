@@ -4,13 +4,13 @@ use Rattle.std.specs.Prelude.{IfOk}
 use Rattle.std.specs.Option.{option_map}
 use Rattle.std.proofs.lemmas.List.{map-append}
 use Rattle.std.proofs.lemmas.List.Elements.{All-head, All-tail, All-append}
-use Rattle.shq_base.specs.declared.memory.NoMemory.{NoMemory}
-use Rattle.shape_specs.specs.Shape.{Shape}
+use Rattle.shq_terms.specs.NoMemory.{NoMemory}
+use Rattle.calculus_specs.specs.Shape.{Shape}
 use Rattle.shq_nnf.specs.Numbers.{Extends}
 use Rattle.branch_facts.specs.NumberedBranch.{NumberedBranch as Branch}
-use Rattle.refutation_specs.specs.Line.{Line}
-use Rattle.refutation_specs.specs.Rules.{Known}
-use Rattle.refutation_specs.specs.Valid.{concept_at, open_after}
+use Rattle.calculus_specs.specs.Line.{Line}
+use Rattle.calculus_specs.specs.Rules.{Known}
+use Rattle.calculus_specs.specs.Valid.{concept_at, open_after}
 use Rattle.refutation_rules.specs.declared.outcome.Outcome.{Outcome}
 use Rattle.refutation_rules.specs.Outcomes.{known_of, branches_after, children_after, IsFitIfSome, IsBranch}
 use Rattle.refutation_rules.specs.RefutationContext.{RefutationContext, theory, line_children, IsSameButTable}

@@ -1,11 +1,11 @@
 -- The branches that are open: one that is read, and those that wait.
 use Rattle.std.specs.Prelude.{◌≡◌, ℕ, ◌+◌, ◌^◌, ◌≤◌, Bool, true, false, List, [], ◌∷◌, ◌++◌, map, take, reverse, All}
 use Rattle.std.specs.List.{list_any, range_with_len}
-use Rattle.shape_specs.specs.Shape.{Shape}
+use Rattle.calculus_specs.specs.Shape.{Shape}
 use Rattle.branch_facts.specs.NumberedBranch.{NumberedBranch as Branch, has_node}
-use Rattle.refutation_specs.specs.Rules.{Known}
-use Rattle.fact_specs.specs.declared.Fact.{Fact}
-use Rattle.fact_specs.specs.State.{new_nodes}
+use Rattle.calculus_specs.specs.Rules.{Known}
+use Rattle.calculus_specs.specs.declared.facts.Fact.{Fact}
+use Rattle.calculus_specs.specs.State.{new_nodes}
 use Rattle.refutation_rules.specs.declared.outcome.NewNodes.{NewNodes}
 use Rattle.refutation_rules.specs.declared.outcome.Outcome.{Outcome}
 use Rattle.refutation_rules.specs.declared.outcome.Outcome.TheVariants.{Closed, Started, More, Nodes, Branches}

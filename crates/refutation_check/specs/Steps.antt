@@ -1,8 +1,8 @@
 -- What lines do to the branches that are open.
 use Rattle.std.specs.Prelude.{◌≡◌, ℕ, ◌+◌, Bool, true, false, length, List, [], ◌∷◌, ◌++◌, Option, Some, None}
-use Rattle.refutation_specs.specs.Line.{Line}
-use Rattle.refutation_specs.specs.Rules.{Known, nothing_known}
-use Rattle.refutation_specs.specs.Valid.{concept_at, open_after, open_after_all, IsBrokenAt}
+use Rattle.calculus_specs.specs.Line.{Line}
+use Rattle.calculus_specs.specs.Rules.{Known, nothing_known}
+use Rattle.calculus_specs.specs.Valid.{concept_at, open_after, open_after_all, IsBrokenAt}
 use Rattle.refutation_rules.specs.declared.outcome.Outcome.{Outcome}
 use Rattle.refutation_rules.specs.Outcomes.{branches_after}
 use Rattle.refutation_rules.specs.RefutationContext.{RefutationContext, theory}

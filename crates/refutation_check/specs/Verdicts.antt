@@ -4,8 +4,8 @@ use Rattle.lane_sieve.specs.Sets.{IsPart}
 use Rattle.axiom_sets.specs.Sets.{Limited, member_list}
 use Rattle.shq_terms.specs.declared.axioms.Numbered.{Numbered}
 use Rattle.shq_terms.specs.declared.axioms.Query.{Query}
-use Rattle.shape_specs.specs.Rows.{Theory}
-use Rattle.refutation_specs.specs.Valid.{concept_at, IsBrokenAt, IsRefutation}
+use Rattle.calculus_specs.specs.Rows.{Theory}
+use Rattle.calculus_specs.specs.Valid.{concept_at, IsBrokenAt, IsRefutation}
 use Rattle.refutation_truth.specs.Theory.{theory_of}
 use Rattle.refutation_tree.specs.RefutationLists.{RefutationLists}
 use Rattle.refutation_check.specs.declared.checking.Verdict.{Verdict}

@@ -12,4 +12,4 @@ mod lines;
 mod open_branches;
 
 pub use checking::{Verdict, check};
-pub use shq_base::NoMemory;
+pub use shq_terms::NoMemory;

@@ -1,7 +1,7 @@
 // The branches that are open.
 ghost use Rattle.std.specs.Prelude.{◌≡◌, ◌+◌, ◌^◌, ◌≤◌, false, [], ◌∷◌, ◌++◌, OnOk, length, map};
 ghost use Rattle.std.specs.List.{list_any, range_with_len};
-ghost use Rattle.fact_specs.specs.State.{apart_from, pairwise_apart};
+ghost use Rattle.calculus_specs.specs.State.{apart_from, pairwise_apart};
 ghost use Rattle.branch_facts.specs.NumberedBranch.{has_node};
 ghost use Rattle.refutation_rules.specs.Outcomes.{branches_after, started_branch};
 ghost use Rattle.refutation_check.specs.Open.{branches, branches_for, waiting_with, with_new_nodes, facts_of_new, knowing, knowing_nodes, IsReady};

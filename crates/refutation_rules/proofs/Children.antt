@@ -2,26 +2,26 @@
 use Rattle.std.proofs.Common.{◌≡◌, ℕ, ◌&&◌, ltb, Bool, true, false, List, [], ◌∷◌, ◌++◌, map, length, Option, Some, None, refl, ap, subst, sym, ◌∙◌, Bor, arith}
 use Rattle.std.specs.List.{list_all}
 use Rattle.std.proofs.lemmas.Bool.{and_parts, and_from, ltb-true, lt-ltb}
-use Rattle.shq_base.specs.Concept.{Concept, name, complement, all_of}
-use Rattle.shape_specs.specs.Normal.{negated_form}
-use Rattle.shape_specs.specs.Shape.{Shape}
-use Rattle.shape_specs.specs.Shape.Shape.{intersection, union, name as name_shape, all_of as all_shape}
-use Rattle.shape_specs.specs.Tree.{tree_of}
+use Rattle.shq_terms.specs.Concept.{Concept, name, complement, all_of}
+use Rattle.calculus_specs.specs.Normal.{negated_form}
+use Rattle.calculus_specs.specs.Shape.{Shape}
+use Rattle.calculus_specs.specs.Shape.Shape.{intersection, union, name as name_shape, all_of as all_shape}
+use Rattle.calculus_specs.specs.Tree.{tree_of}
 use Rattle.shq_nnf.specs.Numbers.{Extends, IsNumber}
 use Rattle.shq_nnf.specs.Shapes.{form_of}
 use Rattle.shq_nnf.specs.declared.shapes.Shape.{Shape as Shown}
 use Rattle.shq_nnf.specs.declared.shapes.Shape.TheVariants as S
 use Rattle.shq_nnf.proofs.Numbers.{tree_stays, length_extends}
-use Rattle.shape_specs.proofs.Unique.{part_list-parts_of}
-use Rattle.fact_specs.specs.declared.Fact.{Fact}
-use Rattle.fact_specs.specs.declared.Fact.TheVariants.{Has}
-use Rattle.fact_specs.specs.State.{has_tree, has_edge}
-use Rattle.fact_specs.specs.Reading.{read_facts, is_fact_listed, are_listed}
+use Rattle.calculus_specs.proofs.Unique.{part_list-parts_of}
+use Rattle.calculus_specs.specs.declared.facts.Fact.{Fact}
+use Rattle.calculus_specs.specs.declared.facts.Fact.TheVariants.{Has}
+use Rattle.calculus_specs.specs.State.{has_tree, has_edge}
+use Rattle.calculus_specs.specs.Reading.{read_facts, is_fact_listed, are_listed}
 use Rattle.branch_facts.specs.NumberedBranch.{NumberedBranch as Branch}
-use Rattle.refutation_specs.specs.Line.{Line}
-use Rattle.refutation_specs.specs.Line.Line.{and_line, or_line, all_line, carry_line, choose_line, clash_line}
-use Rattle.refutation_specs.specs.Rules.{Known, knows, when, and_children, or_children, all_children, carry_children, clash_children}
-use Rattle.refutation_specs.specs.Rules.{with_facts as known_with}
+use Rattle.calculus_specs.specs.Line.{Line}
+use Rattle.calculus_specs.specs.Line.Line.{and_line, or_line, all_line, carry_line, choose_line, clash_line}
+use Rattle.calculus_specs.specs.Rules.{Known, knows, when, and_children, or_children, all_children, carry_children, clash_children}
+use Rattle.calculus_specs.specs.Rules.{with_facts as known_with}
 use Rattle.refutation_rules.specs.declared.outcome.Outcome.{Outcome}
 use Rattle.refutation_rules.specs.declared.outcome.Outcome.TheVariants.{Closed, More, Branches}
 use Rattle.refutation_rules.specs.Outcomes.{known_of, branch_with_facts, children_after, IsFitIfSome, AddsIfSome, BranchesInto}

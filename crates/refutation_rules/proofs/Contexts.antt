@@ -1,19 +1,19 @@
 -- A longer table serves the same context, and lines read the same by it.
 use Rattle.std.proofs.Common.{◌≡◌, ℕ, ◌+◌, true, List, length, sym, ◌∙◌}
-use Rattle.shq_base.specs.Concept.{bottom}
+use Rattle.shq_terms.specs.Concept.{bottom}
 use Rattle.shq_terms.specs.declared.axioms.Query.{Query}
-use Rattle.shape_specs.specs.Normal.{normal_form, negated_form}
-use Rattle.shape_specs.specs.Shape.{Shape}
+use Rattle.calculus_specs.specs.Normal.{normal_form, negated_form}
+use Rattle.calculus_specs.specs.Shape.{Shape}
 use Rattle.shq_nnf.specs.Numbers.{Extends}
 use Rattle.shq_nnf.proofs.Numbers.{number_stays}
 use Rattle.role_box.specs.declared.role_axiom.RoleAxiom.{RoleAxiom}
 use Rattle.role_box.specs.RoleAxioms.{role_axioms}
 use Rattle.row_cache.specs.Cache.{CacheState, HasSameAxioms}
-use Rattle.fact_specs.specs.Reading.{are_listed}
+use Rattle.calculus_specs.specs.Reading.{are_listed}
 use Rattle.branch_facts.specs.NumberedBranch.{NumberedBranch as Branch}
-use Rattle.refutation_specs.specs.Line.{Line}
-use Rattle.refutation_specs.specs.Rules.{children_of}
-use Rattle.refutation_specs.specs.Valid.{concept_at}
+use Rattle.calculus_specs.specs.Line.{Line}
+use Rattle.calculus_specs.specs.Rules.{children_of}
+use Rattle.calculus_specs.specs.Valid.{concept_at}
 use Rattle.refutation_truth.specs.Theory.{theory_of}
 use Rattle.refutation_rules.specs.RefutationContext.{RefutationContext, IsRefutationContext, IsSameButTable, line_children}
 use Rattle.refutation_rules.proofs.Reading.{known_stays}

@@ -4,23 +4,23 @@ use Rattle.std.specs.List.{list_any, range_with_len}
 use Rattle.std.proofs.lemmas.Bool.{and_parts, and_from, or_cases, or_left, or_right, eqb-true, eq-eqb, leb-true, le-leb, ltb-true, lt-ltb, not-true, false≢true}
 use Rattle.std.proofs.lemmas.List.{map-append}
 use Rattle.std.proofs.Math.Bool.{or-false, or_assoc}
-use Rattle.shq_base.specs.Concept.{Concept}
-use Rattle.shq_base.proofs.Bools.{same_truth}
-use Rattle.shape_specs.specs.Shape.{Shape}
-use Rattle.shape_specs.specs.Shape.Shape.{some_of as some_shape, at_least as least_shape}
-use Rattle.shape_specs.specs.Tree.{tree_of}
+use Rattle.shq_terms.specs.Concept.{Concept}
+use Rattle.shq_terms.proofs.Bools.{same_truth}
+use Rattle.calculus_specs.specs.Shape.{Shape}
+use Rattle.calculus_specs.specs.Shape.Shape.{some_of as some_shape, at_least as least_shape}
+use Rattle.calculus_specs.specs.Tree.{tree_of}
 use Rattle.shq_nnf.specs.Shapes.{form_of}
 use Rattle.shq_nnf.specs.declared.shapes.Shape.{Shape as Shown}
 use Rattle.shq_nnf.specs.declared.shapes.Shape.TheVariants as S
-use Rattle.fact_specs.specs.declared.Fact.{Fact}
-use Rattle.fact_specs.specs.declared.Fact.TheVariants.{Has, Edge, Apart}
-use Rattle.fact_specs.specs.State.{new_nodes, apart_from, pairwise_apart, fresh_facts}
-use Rattle.fact_specs.specs.Reading.{read_fact, read_facts}
+use Rattle.calculus_specs.specs.declared.facts.Fact.{Fact}
+use Rattle.calculus_specs.specs.declared.facts.Fact.TheVariants.{Has, Edge, Apart}
+use Rattle.calculus_specs.specs.State.{new_nodes, apart_from, pairwise_apart, fresh_facts}
+use Rattle.calculus_specs.specs.Reading.{read_fact, read_facts}
 use Rattle.branch_facts.specs.NumberedBranch.{NumberedBranch as Branch, has_node}
-use Rattle.refutation_specs.specs.Line.{Line}
-use Rattle.refutation_specs.specs.Line.Line.{some_line, least_line}
-use Rattle.refutation_specs.specs.Rules.{Known, when, some_children, least_children}
-use Rattle.refutation_specs.specs.Rules.{with_nodes as known_nodes}
+use Rattle.calculus_specs.specs.Line.{Line}
+use Rattle.calculus_specs.specs.Line.Line.{some_line, least_line}
+use Rattle.calculus_specs.specs.Rules.{Known, when, some_children, least_children}
+use Rattle.calculus_specs.specs.Rules.{with_nodes as known_nodes}
 use Rattle.refutation_rules.specs.declared.outcome.Outcome.{Outcome}
 use Rattle.refutation_rules.specs.declared.outcome.Outcome.TheVariants.{Nodes}
 use Rattle.refutation_rules.specs.declared.outcome.NewNodes.{NewNodes}

@@ -3,16 +3,16 @@ use Rattle.std.proofs.Common.{◌≡◌, ℕ, ◌≤◌, ◌&&◌, ltb, Bool, tr
 use Rattle.std.specs.List.{list_all}
 use Rattle.std.proofs.lemmas.Bool.{ltb-true, lt-ltb, and_parts, and_from}
 use Rattle.std.proofs.lemmas.List.{map-append}
-use Rattle.shq_base.specs.Concept.{Concept}
-use Rattle.shape_specs.specs.Shape.{Shape, IsTable}
-use Rattle.shape_specs.specs.Tree.{tree_of}
+use Rattle.shq_terms.specs.Concept.{Concept}
+use Rattle.calculus_specs.specs.Shape.{Shape, IsTable}
+use Rattle.calculus_specs.specs.Tree.{tree_of}
 use Rattle.shq_nnf.specs.Numbers.{Extends, IsNumber}
 use Rattle.shq_nnf.proofs.Numbers.{tree_stays, length_extends}
-use Rattle.fact_specs.specs.declared.Fact.{Fact}
-use Rattle.fact_specs.specs.declared.Fact.TheVariants.{Has, Edge, Apart, Same}
-use Rattle.fact_specs.specs.State.{has, has_tree, has_edge, are_apart, all_apart}
-use Rattle.fact_specs.specs.Reading.{read_fact, read_facts, is_fact_listed, are_listed}
-use Rattle.fact_specs.proofs.Reading.{keeps_state, has-read}
+use Rattle.calculus_specs.specs.declared.facts.Fact.{Fact}
+use Rattle.calculus_specs.specs.declared.facts.Fact.TheVariants.{Has, Edge, Apart, Same}
+use Rattle.calculus_specs.specs.State.{has, has_tree, has_edge, are_apart, all_apart}
+use Rattle.calculus_specs.specs.Reading.{read_fact, read_facts, is_fact_listed, are_listed}
+use Rattle.calculus_specs.proofs.Reading.{keeps_state, has-read}
 use Rattle.branch_facts.specs.NumberedBranch.{NumberedBranch as Branch}
 use Rattle.refutation_rules.specs.Outcomes.{known_of, IsBranch}
 

@@ -5,11 +5,11 @@ use Rattle.std.specs.List.{list_all, All}
 use Rattle.std.proofs.lemmas.List.Elements.{All-from_get_or}
 use Rattle.std.proofs.lemmas.Bool.{ltb-true, lt-ltb, and_parts, and_from, cases_lt}
 use Rattle.std.proofs.lemmas.List.{get_or_append_left, get_or_push, get_or-take, length-take-le, length-map}
-use Rattle.shq_base.specs.Concept.{Concept, top, bottom, intersection, union, some_of, all_of, at_least, at_most, parts_of}
-use Rattle.shape_specs.specs.Shape.{Shape, shape_of, has_parts_below, is_conjunct, is_disjunct, is_normal, IsTable}
-use Rattle.shape_specs.specs.Shape.Shape.{top as top_shape, bottom as bottom_shape, name as name_shape, not_name, intersection as intersection_shape, union as union_shape, some_of as some_shape, all_of as all_shape, at_least as least_shape, at_most as most_shape}
-use Rattle.shape_specs.specs.Tree.{tree_over, trees_of, tree_of}
-use Rattle.shape_specs.proofs.Unique.{tree_of_shape}
+use Rattle.shq_terms.specs.Concept.{Concept, top, bottom, intersection, union, some_of, all_of, at_least, at_most, parts_of}
+use Rattle.calculus_specs.specs.Shape.{Shape, shape_of, has_parts_below, is_conjunct, is_disjunct, is_normal, IsTable}
+use Rattle.calculus_specs.specs.Shape.Shape.{top as top_shape, bottom as bottom_shape, name as name_shape, not_name, intersection as intersection_shape, union as union_shape, some_of as some_shape, all_of as all_shape, at_least as least_shape, at_most as most_shape}
+use Rattle.calculus_specs.specs.Tree.{tree_over, trees_of, tree_of}
+use Rattle.calculus_specs.proofs.Unique.{tree_of_shape}
 use Rattle.shq_nnf.specs.Numbers.{Extends, IsNumber}
 use Rattle.shq_nnf.proofs.Grown.{normal_agree}
 use Rattle.shq_nnf.proofs.Numbers.{shape_tree, top_number, number_stays}

@@ -3,21 +3,21 @@ use Rattle.std.proofs.Common.{◌≡◌, ℕ, ◌&&◌, cond, ltb, Bool, true, f
 use Rattle.std.specs.List.{list_all}
 use Rattle.std.proofs.lemmas.Bool.{and_parts, ltb-true}
 use Rattle.std.proofs.lemmas.List.Folds.{list_all-map}
-use Rattle.shq_base.specs.Concept.{Concept}
-use Rattle.shape_specs.specs.Shape.{Shape, IsTable}
-use Rattle.shape_specs.specs.Tree.{tree_of}
-use Rattle.shape_specs.specs.Rows.{Part, inclusion, range, conjunct_at, are_name_positions, row_concept}
+use Rattle.shq_terms.specs.Concept.{Concept}
+use Rattle.calculus_specs.specs.Shape.{Shape, IsTable}
+use Rattle.calculus_specs.specs.Tree.{tree_of}
+use Rattle.calculus_specs.specs.Rows.{Part, inclusion, range, conjunct_at, are_name_positions, row_concept}
 use Rattle.shq_nnf.specs.Numbers.{IsNumber, AreNumbers}
-use Rattle.fact_specs.specs.declared.Fact.TheVariants.{Has}
-use Rattle.fact_specs.specs.State.{has, has_tree, has_edge}
-use Rattle.fact_specs.specs.Reading.{are_listed}
-use Rattle.fact_specs.proofs.Reading.{has-read}
+use Rattle.calculus_specs.specs.declared.facts.Fact.TheVariants.{Has}
+use Rattle.calculus_specs.specs.State.{has, has_tree, has_edge}
+use Rattle.calculus_specs.specs.Reading.{are_listed}
+use Rattle.calculus_specs.proofs.Reading.{has-read}
 use Rattle.row_cache.specs.Rows.{row_for, IsRow, range_for, IsRange}
 use Rattle.row_cache.specs.declared.cached_row.CachedRow.{CachedRow}
 use Rattle.row_cache.specs.declared.cached_row.CachedRange.{CachedRange}
 use Rattle.branch_facts.specs.NumberedBranch.{NumberedBranch as Branch, has_node}
-use Rattle.refutation_specs.specs.Rules.{Known, knows, when, row_children, range_children}
-use Rattle.refutation_specs.specs.Rules.{with_facts as known_with}
+use Rattle.calculus_specs.specs.Rules.{Known, knows, when, row_children, range_children}
+use Rattle.calculus_specs.specs.Rules.{with_facts as known_with}
 use Rattle.refutation_rules.specs.Outcomes.{known_of}
 use Rattle.refutation_rules.specs.RefutationContext.{RefutationContext, theory, AddsConcept, row_used, range_used}
 use Rattle.refutation_rules.proofs.Children.{one_fact}

@@ -1,14 +1,14 @@
 -- The line of more successors than are allowed.
 use Rattle.std.proofs.Common.{◌≡◌, ℕ, ◌+◌, ◌&&◌, eqb, Bool, List, [], length, Some, None, refl, ap, ◌∙◌}
-use Rattle.shape_specs.specs.Shape.Shape.{at_most as most_shape}
-use Rattle.shape_specs.specs.Tree.{tree_of}
+use Rattle.calculus_specs.specs.Shape.Shape.{at_most as most_shape}
+use Rattle.calculus_specs.specs.Tree.{tree_of}
 use Rattle.shq_nnf.specs.Shapes.{form_of}
 use Rattle.shq_nnf.specs.declared.shapes.Shape.{Shape as Shown}
 use Rattle.shq_nnf.specs.declared.shapes.Shape.TheVariants as S
-use Rattle.fact_specs.specs.State.{all_apart}
+use Rattle.calculus_specs.specs.State.{all_apart}
 use Rattle.branch_facts.specs.NumberedBranch.{NumberedBranch as Branch}
-use Rattle.refutation_specs.specs.Line.Line.{most_line}
-use Rattle.refutation_specs.specs.Rules.{when, are_fillers, most_children}
+use Rattle.calculus_specs.specs.Line.Line.{most_line}
+use Rattle.calculus_specs.specs.Rules.{when, are_fillers, most_children}
 use Rattle.refutation_rules.specs.Outcomes.{known_of}
 use Rattle.refutation_rules.specs.RefutationContext.{RefutationContext, theory, line_children, IsHeldShape}
 use Rattle.refutation_rules.proofs.Reading.{all_apart-read}

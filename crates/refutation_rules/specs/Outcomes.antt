@@ -1,14 +1,14 @@
 -- What a rule line does to the branch to which it belongs, over concepts by number.
 use Rattle.std.specs.Prelude.{◌≡◌, ℕ, ◌+◌, ◌^◌, ◌<◌, ◌≤◌, nat_eq, true, false, List, [], ◌∷◌, ◌++◌, map, Option, Some, None}
 use Rattle.std.specs.List.{list_any, range_with_len}
-use Rattle.shape_specs.specs.Shape.{Shape}
-use Rattle.shape_specs.specs.Tree.{tree_of}
-use Rattle.fact_specs.specs.declared.Fact.{Fact}
-use Rattle.fact_specs.specs.declared.Fact.TheVariants.{Has}
-use Rattle.fact_specs.specs.State.{fresh_facts}
-use Rattle.fact_specs.specs.Reading.{read_facts, are_listed}
+use Rattle.calculus_specs.specs.Shape.{Shape}
+use Rattle.calculus_specs.specs.Tree.{tree_of}
+use Rattle.calculus_specs.specs.declared.facts.Fact.{Fact}
+use Rattle.calculus_specs.specs.declared.facts.Fact.TheVariants.{Has}
+use Rattle.calculus_specs.specs.State.{fresh_facts}
+use Rattle.calculus_specs.specs.Reading.{read_facts, are_listed}
 use Rattle.branch_facts.specs.NumberedBranch.{NumberedBranch as Numbered}
-use Rattle.refutation_specs.specs.Rules.{Known}
+use Rattle.calculus_specs.specs.Rules.{Known}
 use Rattle.refutation_rules.specs.declared.outcome.Outcome.{Outcome}
 use Rattle.refutation_rules.specs.declared.outcome.Outcome.TheVariants.{Closed, Started, More, Nodes, Branches}
 

@@ -1,12 +1,12 @@
 -- What the rule lines of one refutation are read by.
 use Rattle.std.specs.Prelude.{◌≡◌, ℕ, ◌+◌, ◌<◌, ◌&&◌, true, List, [], ◌∷◌, length, Option, Some, None}
 use Rattle.std.specs.List.{list_all}
-use Rattle.shq_base.specs.Concept.{Concept, bottom, name, complement, all_of}
+use Rattle.shq_terms.specs.Concept.{Concept, bottom, name, complement, all_of}
 use Rattle.shq_terms.specs.declared.axioms.Numbered.{Numbered as Axiom}
-use Rattle.shape_specs.specs.Normal.{normal_form, negated_form}
-use Rattle.shape_specs.specs.Shape.{Shape, has_parts_below, is_normal}
-use Rattle.shape_specs.specs.Tree.{tree_over, trees_of, tree_of}
-use Rattle.shape_specs.specs.Rows.{Theory, part_at}
+use Rattle.calculus_specs.specs.Normal.{normal_form, negated_form}
+use Rattle.calculus_specs.specs.Shape.{Shape, has_parts_below, is_normal}
+use Rattle.calculus_specs.specs.Tree.{tree_over, trees_of, tree_of}
+use Rattle.calculus_specs.specs.Rows.{Theory, part_at}
 use Rattle.shq_terms.specs.declared.axioms.Query.{Query}
 use Rattle.shq_nnf.specs.Numbers.{IsNumber}
 use Rattle.shq_nnf.specs.Shapes.{form_of}
@@ -18,13 +18,13 @@ use Rattle.row_cache.specs.Rows.{row_for, IsRow, range_for, IsRange}
 use Rattle.row_cache.specs.declared.cached_row.CachedRow.{CachedRow}
 use Rattle.row_cache.specs.declared.cached_row.CachedRange.{CachedRange}
 use Rattle.branch_facts.specs.NumberedBranch.{NumberedBranch as Branch, has_node}
-use Rattle.fact_specs.specs.State.{has, has_tree, has_edge}
-use Rattle.fact_specs.specs.declared.Fact.TheVariants.{Has}
-use Rattle.refutation_specs.specs.Line.{Line}
-use Rattle.refutation_specs.specs.Line.Line.{carry_line, choose_line, clash_line}
-use Rattle.refutation_specs.specs.Rules.{Known, knows, when, children_of, at_concept}
-use Rattle.refutation_specs.specs.Rules.{with_facts as known_with}
-use Rattle.refutation_specs.specs.Valid.{concept_at}
+use Rattle.calculus_specs.specs.State.{has, has_tree, has_edge}
+use Rattle.calculus_specs.specs.declared.facts.Fact.TheVariants.{Has}
+use Rattle.calculus_specs.specs.Line.{Line}
+use Rattle.calculus_specs.specs.Line.Line.{carry_line, choose_line, clash_line}
+use Rattle.calculus_specs.specs.Rules.{Known, knows, when, children_of, at_concept}
+use Rattle.calculus_specs.specs.Rules.{with_facts as known_with}
+use Rattle.calculus_specs.specs.Valid.{concept_at}
 use Rattle.refutation_truth.specs.Theory.{theory_of}
 use Rattle.refutation_rules.specs.declared.outcome.Outcome.{Outcome}
 use Rattle.refutation_rules.specs.Numbers.{AreAllNumbered}

@@ -1,10 +1,10 @@
 -- What rule lines ask of a branch, over concepts by number.
 use Rattle.std.specs.Prelude.{◌≡◌, ℕ, ◌+◌, ◌^◌, ◌==◌, ◌&&◌, nat_le, not, Bool, List, length, Option, Some}
 use Rattle.std.specs.List.{list_any, range_with_len}
-use Rattle.shape_specs.specs.Tree.{tree_of}
+use Rattle.calculus_specs.specs.Tree.{tree_of}
 use Rattle.branch_facts.specs.NumberedBranch.{NumberedBranch as Branch, has_node}
-use Rattle.fact_specs.specs.State.{has_tree, has_edge, all_apart}
-use Rattle.refutation_specs.specs.Rules.{knows, when, are_fillers}
+use Rattle.calculus_specs.specs.State.{has_tree, has_edge, all_apart}
+use Rattle.calculus_specs.specs.Rules.{knows, when, are_fillers}
 use Rattle.refutation_rules.specs.declared.outcome.NewNodes.{NewNodes}
 use Rattle.refutation_rules.specs.declared.outcome.Outcome.{Outcome}
 use Rattle.refutation_rules.specs.declared.outcome.Outcome.TheVariants.{Nodes}

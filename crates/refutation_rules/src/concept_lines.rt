@@ -1,15 +1,15 @@
 // Lines by what a node's concept says of that node alone.
 ghost use Rattle.std.specs.Prelude.{◌≡◌, [], ◌∷◌, IfOk, length, map};
-ghost use Rattle.fact_specs.specs.declared.Fact.TheVariants.{Has};
+ghost use Rattle.calculus_specs.specs.declared.facts.Fact.TheVariants.{Has};
 ghost use Rattle.shq_nnf.specs.Numbers.{Extends};
-ghost use Rattle.refutation_specs.specs.Line.Line.{start_line, and_line, or_line, choose_line, pair_line, bottom_line, clash_line};
+ghost use Rattle.calculus_specs.specs.Line.Line.{start_line, and_line, or_line, choose_line, pair_line, bottom_line, clash_line};
 ghost use Rattle.refutation_rules.specs.Outcomes.{IsBranch};
 ghost use Rattle.refutation_rules.specs.RefutationContext.{IsOutcome, IsSameButTable, LineChooses, LineCloses};
 
 use crate::outcome::either;
 use crate::{NoMemory, Outcome, Rules};
 use branch_facts::BranchFacts;
-use fact_specs::Fact;
+use calculus_specs::Fact;
 use shq_nnf::Shape;
 use std::alloc::Global;
 

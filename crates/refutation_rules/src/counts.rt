@@ -1,8 +1,8 @@
 // The line of more successors than an "at most" restriction allows.
 ghost use Rattle.std.specs.Prelude.{◌≡◌, ◌<◌, length};
 ghost use Rattle.std.specs.List.{list_all};
-ghost use Rattle.fact_specs.specs.State.{are_apart, all_apart};
-ghost use Rattle.refutation_specs.specs.Line.Line.{most_line};
+ghost use Rattle.calculus_specs.specs.State.{are_apart, all_apart};
+ghost use Rattle.calculus_specs.specs.Line.Line.{most_line};
 ghost use Rattle.refutation_rules.specs.Outcomes.{IsBranch};
 ghost use Rattle.refutation_rules.specs.RefutationContext.{IsOutcome};
 ghost use Rattle.refutation_rules.specs.Tests.{is_filler, fill, exceed};

@@ -1,7 +1,7 @@
 // Lines that lead along an edge.
 ghost use Rattle.std.specs.Prelude.{◌≡◌, IfOk, length};
 ghost use Rattle.shq_nnf.specs.Numbers.{Extends};
-ghost use Rattle.refutation_specs.specs.Line.Line.{all_line, carry_line};
+ghost use Rattle.calculus_specs.specs.Line.Line.{all_line, carry_line};
 ghost use Rattle.refutation_rules.specs.Outcomes.{IsBranch};
 ghost use Rattle.refutation_rules.specs.RefutationContext.{IsOutcome, IsSameButTable, LineAdds, LinePassesOn};
 ghost use Rattle.refutation_rules.specs.Tests.{leads, leads_to, leads_within, carries};

@@ -20,4 +20,4 @@ mod rules;
 
 pub use outcome::{NewNodes, Outcome};
 pub use rules::Rules;
-pub use shq_base::NoMemory;
+pub use shq_terms::NoMemory;

@@ -2,7 +2,7 @@
 ghost use Rattle.std.specs.Prelude.{◌≡◌, ◌+◌, ◌^◌, ◌≤◌, length};
 ghost use Rattle.std.specs.List.{list_any, range_with_len};
 ghost use Rattle.branch_facts.specs.NumberedBranch.{has_node};
-ghost use Rattle.refutation_specs.specs.Line.Line.{some_line, least_line};
+ghost use Rattle.calculus_specs.specs.Line.Line.{some_line, least_line};
 ghost use Rattle.refutation_rules.specs.Outcomes.{IsBranch};
 ghost use Rattle.refutation_rules.specs.RefutationContext.{IsOutcome};
 ghost use Rattle.refutation_rules.specs.Tests.{made_if_new};

@@ -1,8 +1,8 @@
 // The numbers of a refutation's concepts in a table.
 ghost use Rattle.std.specs.Prelude.{◌≡◌, ◌≤◌, ◌∷◌, IsTrue, IfOk, length, map, slice_index};
-ghost use Rattle.shape_specs.specs.Shape.{has_parts_below, is_normal};
-ghost use Rattle.shape_specs.specs.Shape.Shape.{top as plain_top};
-ghost use Rattle.shape_specs.specs.Tree.{tree_of};
+ghost use Rattle.calculus_specs.specs.Shape.{has_parts_below, is_normal};
+ghost use Rattle.calculus_specs.specs.Shape.Shape.{top as plain_top};
+ghost use Rattle.calculus_specs.specs.Tree.{tree_of};
 ghost use Rattle.shq_nnf.specs.Shapes.{form_of};
 ghost use Rattle.shq_nnf.specs.Numbers.{Extends, IsNumber};
 ghost use Rattle.role_box.specs.RoleAxioms.{role_axioms};

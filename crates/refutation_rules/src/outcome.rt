@@ -1,11 +1,11 @@
 // What a line leaves of its branch.
 ghost use Rattle.std.specs.Prelude.{◌≡◌, [], ◌∷◌, Some, IfOk};
-ghost use Rattle.refutation_specs.specs.Rules.{when};
+ghost use Rattle.calculus_specs.specs.Rules.{when};
 ghost use Rattle.refutation_rules.specs.declared.outcome.Outcome.TheVariants.{Closed};
 ghost use Rattle.refutation_rules.specs.Outcomes.{AddsIfSome, BranchesInto};
 
 use crate::NoMemory;
-use fact_specs::Fact;
+use calculus_specs::Fact;
 use std::alloc::Global;
 
 /// New nodes below a node, each the end of an edge and in a concept, and pairwise apart.

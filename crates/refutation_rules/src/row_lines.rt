@@ -2,8 +2,8 @@
 ghost use Rattle.std.specs.Prelude.{◌≡◌, IfOk, length};
 ghost use Rattle.std.specs.List.{list_all};
 ghost use Rattle.shq_nnf.specs.Numbers.{Extends};
-ghost use Rattle.fact_specs.specs.State.{has};
-ghost use Rattle.refutation_specs.specs.Line.Line.{row_line, range_line};
+ghost use Rattle.calculus_specs.specs.State.{has};
+ghost use Rattle.calculus_specs.specs.Line.Line.{row_line, range_line};
 ghost use Rattle.refutation_rules.specs.Outcomes.{IsBranch};
 ghost use Rattle.refutation_rules.specs.RefutationContext.{IsOutcome, IsSameButTable, row_used, range_used};
 

@@ -1,15 +1,15 @@
 // The rules, over one refutation of one query.
 ghost use Rattle.std.specs.Prelude.{◌≡◌, ℕ, ◌≤◌, ◌<◌, ◌==◌, true, IsTrue, IfOk, length};
-ghost use Rattle.shq_base.specs.Concept.{bottom};
-ghost use Rattle.shape_specs.specs.Normal.{normal_form, negated_form};
-ghost use Rattle.shape_specs.specs.Shape.{IsTable, has_parts_below, is_normal};
-ghost use Rattle.shape_specs.specs.Tree.{tree_of};
+ghost use Rattle.shq_terms.specs.Concept.{bottom};
+ghost use Rattle.calculus_specs.specs.Normal.{normal_form, negated_form};
+ghost use Rattle.calculus_specs.specs.Shape.{IsTable, has_parts_below, is_normal};
+ghost use Rattle.calculus_specs.specs.Tree.{tree_of};
 ghost use Rattle.shq_nnf.specs.Counts.{has_counts_within};
 ghost use Rattle.shq_nnf.specs.Shapes.{form_of, concept_of};
 ghost use Rattle.shq_nnf.specs.Numbers.{Extends, IsNumber};
 ghost use Rattle.axiom_sets.specs.Sets.{IsWithin, member_list};
 ghost use Rattle.row_cache.specs.Rows.{AreInLimit};
-ghost use Rattle.refutation_specs.specs.Valid.{concept_at};
+ghost use Rattle.calculus_specs.specs.Valid.{concept_at};
 ghost use Rattle.refutation_tree.specs.RuleLine.{line_of};
 ghost use Rattle.refutation_rules.specs.Outcomes.{IsBranch};
 ghost use Rattle.refutation_rules.specs.RefutationContext.{theory, IsOutcome, IsSameButTable, StandsFor, IsHeld, IsUsableRow, IsUsableRange};
@@ -44,7 +44,7 @@ pub struct Rules<'a> {
 
 impl<'a> Model for Rules<'a> {
     ghost use Rattle.std.specs.Coded.{codes};
-    ghost use Rattle.shq_base.specs.Code.{concept_code};
+    ghost use Rattle.shq_terms.specs.Code.{concept_code};
     ghost use Rattle.refutation_rules.specs.RefutationContext.{RefutationContext, IsRefutationContext};
 
     ghost Value = { RefutationContext };

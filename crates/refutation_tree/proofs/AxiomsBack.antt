@@ -9,7 +9,7 @@ use Rattle.lane_sieve.specs.Sets.{NumberSet, passing}
 use Rattle.lane_sieve.proofs.Ranges.{any-passing}
 use Rattle.lane_sieve.proofs.Bits.{contains_insert}
 use Rattle.axiom_sets.specs.Sets.{Limited, IsWithin, member_list}
-use Rattle.shape_specs.specs.Rows.{is_ascending}
+use Rattle.calculus_specs.specs.Rows.{is_ascending}
 use Rattle.refutation_tree.specs.RefutationText.{are_axiom_numbers, with_numbers, axiom_set, axioms_numbered, axioms_line}
 use Rattle.refutation_tree.proofs.FieldsBack.{are_small, numbers_back}
 

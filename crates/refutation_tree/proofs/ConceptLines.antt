@@ -5,8 +5,8 @@ use Rattle.std.proofs.Math.Seq.{drop-cons}
 use Rattle.std.proofs.lemmas.Bool.{and_parts}
 use Rattle.certificate_lines.specs.Written.{text_of}
 use Rattle.shq_terms.specs.Listed.{Listed}
-use Rattle.shape_specs.specs.Shape.{Shape}
-use Rattle.shape_specs.specs.Shape.Shape.{top}
+use Rattle.calculus_specs.specs.Shape.{Shape}
+use Rattle.calculus_specs.specs.Shape.Shape.{top}
 use Rattle.refutation_tree.specs.Shapes.{shape_at}
 use Rattle.refutation_tree.specs.Written.{concept_line, concept_lines, shape_is_listed}
 

@@ -8,8 +8,8 @@ use Rattle.certificate_lines.specs.Lines.{words, number_in}
 use Rattle.certificate_lines.specs.Written.{is_line}
 use Rattle.shq_terms.specs.Listed.{Listed}
 use Rattle.axiom_sets.specs.Sets.{Limited}
-use Rattle.shape_specs.specs.Shape.{Shape, is_normal}
-use Rattle.shape_specs.specs.Shape.Shape.{top, bottom, name, not_name, intersection, union, some_of, all_of, at_least, at_most}
+use Rattle.calculus_specs.specs.Shape.{Shape, is_normal}
+use Rattle.calculus_specs.specs.Shape.Shape.{top, bottom, name, not_name, intersection, union, some_of, all_of, at_least, at_most}
 use Rattle.certificate_lines.specs.Names.{is_word_byte, AreNames}
 use Rattle.certificate_lines.proofs.Plain.{plain_words, plain_line, listed_name_back, listed_name_plain}
 use Rattle.refutation_tree.specs.Shapes.{is_concept, part_numbers, fits, is_among_shapes, admits}

@@ -10,9 +10,9 @@ use Rattle.certificate_lines.specs.Written.{is_line}
 use Rattle.certificate_lines.proofs.ReadBack.{lines_read}
 use Rattle.shq_terms.specs.Listed.{Listed}
 use Rattle.axiom_sets.specs.Sets.{Limited, member_list}
-use Rattle.shape_specs.specs.Shape.{Shape}
-use Rattle.shape_specs.specs.Shape.Shape.{top}
-use Rattle.refutation_specs.specs.Line.{Line}
+use Rattle.calculus_specs.specs.Shape.{Shape}
+use Rattle.calculus_specs.specs.Shape.Shape.{top}
+use Rattle.calculus_specs.specs.Line.{Line}
 use Rattle.certificate_lines.specs.Names.{is_word_byte, AreNames}
 use Rattle.certificate_lines.proofs.Plain.{plain_words, plain_line, lines_both}
 use Rattle.certificate_lines.proofs.Body.{body_line}

@@ -5,8 +5,8 @@ use Rattle.axiom_sets.specs.Sets.{IsWithin}
 use Rattle.certificate_lines.specs.Lines.{lines}
 use Rattle.certificate_lines.specs.Names.{AreNames}
 use Rattle.shq_terms.specs.Listed.{Listed}
-use Rattle.refutation_specs.specs.Line.{Line}
-use Rattle.refutation_specs.specs.Line.Line.{most_line}
+use Rattle.calculus_specs.specs.Line.{Line}
+use Rattle.calculus_specs.specs.Line.Line.{most_line}
 use Rattle.refutation_tree.specs.RefutationLists.{RefutationLists, IsKept}
 use Rattle.refutation_tree.specs.RefutationText.{refutation_of}
 use Rattle.refutation_tree.specs.Written.{line_numbers, names_are_listed, refutation_text}

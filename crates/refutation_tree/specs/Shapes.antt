@@ -2,8 +2,8 @@
 use Rattle.std.specs.Prelude.{◌==◌, not, false, ◌≡◌, ℕ, ◌+◌, ◌<◌, ◌≤◌, nat_lt, ◌&&◌, Bool, true, List, [], ◌∷◌, length, take, slice_index_or}
 use Rattle.std.specs.List.{list_all, list_any}
 use Rattle.std.specs.Str.{bytes_eq}
-use Rattle.shape_specs.specs.Shape.{Shape, shape_of, has_parts_below, is_normal}
-use Rattle.shape_specs.specs.Shape.Shape.{top, bottom, name, not_name, intersection, union, some_of, all_of, at_least, at_most}
+use Rattle.calculus_specs.specs.Shape.{Shape, shape_of, has_parts_below, is_normal}
+use Rattle.calculus_specs.specs.Shape.Shape.{top, bottom, name, not_name, intersection, union, some_of, all_of, at_least, at_most}
 
 -- the shape of a number from 1
 abbrev pub shape_at : List Shape → ℕ → Shape

@@ -5,10 +5,10 @@ use Rattle.axiom_sets.specs.Sets.{Limited, member_list}
 use Rattle.certificate_lines.specs.Names.{name_word}
 use Rattle.certificate_lines.specs.Written.{spaced, line_of, fed, text_of}
 use Rattle.shq_terms.specs.Listed.{Listed}
-use Rattle.shape_specs.specs.Shape.{Shape}
-use Rattle.shape_specs.specs.Shape.Shape.{top, bottom, name, not_name, intersection, union, some_of, all_of, at_least, at_most}
-use Rattle.refutation_specs.specs.Line.{Line}
-use Rattle.refutation_specs.specs.Line.Line.{start_line, and_line, or_line, all_line, carry_line, row_line, range_line, some_line, least_line, choose_line, pair_line, bottom_line, clash_line, most_line}
+use Rattle.calculus_specs.specs.Shape.{Shape}
+use Rattle.calculus_specs.specs.Shape.Shape.{top, bottom, name, not_name, intersection, union, some_of, all_of, at_least, at_most}
+use Rattle.calculus_specs.specs.Line.{Line}
+use Rattle.calculus_specs.specs.Line.Line.{start_line, and_line, or_line, all_line, carry_line, row_line, range_line, some_line, least_line, choose_line, pair_line, bottom_line, clash_line, most_line}
 use Rattle.refutation_tree.specs.RefutationLists.{RefutationLists}
 
 -- the name of a number between brackets

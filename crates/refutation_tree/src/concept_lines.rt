@@ -1,6 +1,6 @@
 // Concept lines are read.
 ghost use Rattle.std.specs.Prelude.{◌≡◌, IsTrue, ◌+◌, ◌<◌, ◌^◌, map, Some, IfOk, IfErr, length, option_map};
-ghost use Rattle.shape_specs.specs.Shape.Shape.{top, bottom};
+ghost use Rattle.calculus_specs.specs.Shape.Shape.{top, bottom};
 ghost use Rattle.shq_nnf.specs.Shapes.{form_of_owned};
 ghost use Rattle.certificate_lines.specs.Lines.{bytes_of, number_in};
 ghost use Rattle.refutation_tree.specs.RefutationText.{is_number, when_none, short_shape, shape_in, next_concept_in};

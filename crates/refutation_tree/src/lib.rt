@@ -26,4 +26,4 @@ pub use laws::{
 pub use line::Line;
 pub use reading::read_text;
 pub use refutation::Refutation;
-pub use shq_base::NoMemory;
+pub use shq_terms::NoMemory;

@@ -3,7 +3,7 @@ ghost use Rattle.std.specs.Prelude.{◌≡◌, ◌<◌, ◌≤◌, ◌+◌, ◌^
 ghost use Rattle.std.specs.List.{list_all};
 ghost use Rattle.certificate_lines.specs.Lines.{bytes_of, words};
 ghost use Rattle.certificate_lines.specs.Malformed.{IsFaultOf, IsFaultAt, IsFaultOfLine};
-ghost use Rattle.shape_specs.specs.Rows.{is_ascending};
+ghost use Rattle.calculus_specs.specs.Rows.{is_ascending};
 ghost use Rattle.shq_nnf.specs.Shapes.{form_of_owned};
 ghost use Rattle.refutation_tree.specs.RuleLine.{line_of};
 ghost use Rattle.refutation_tree.specs.RefutationText.{are_axiom_numbers, axiom_set, axioms_numbered, axioms_line, with_shape, with_line, concept_added, rule_added, is_concept_line, refutation_line_read, refutation_body, refutation_of};

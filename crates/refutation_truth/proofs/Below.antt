@@ -2,7 +2,7 @@
 use Rattle.std.proofs.Common.{◌≡◌, ℕ, zero, suc, ◌+◌, ◌<◌, ◌≤◌, ◌&&◌, Bool, true, false, not, cond, eqb, refl, ap, ◌∙◌, sym, subst, arith, inl, inr}
 use Rattle.std.proofs.lemmas.Bool.{cases_eq, and_parts, and_from, and_right, eq-eqb, ne_eqb}
 use Rattle.std.proofs.Math.Bool.{and-true}
-use Rattle.shq_meaning.specs.Below.{all_below, count_below}
+use Rattle.shq_nnf.specs.Below.{all_below, count_below}
 
 -- ---- tests
 

@@ -1,14 +1,14 @@
 -- What a refutation refutes has no model, so that its axioms entail its query.
 use Rattle.std.proofs.Common.{◌≡◌, ℕ, ◌<◌, true, false, not, List, [], ◌∷◌, Option, Some, None, refl, inl, inr}
 use Rattle.std.proofs.lemmas.Bool.{cases_Bool, and_parts, not-true}
-use Rattle.shq_base.specs.Concept.{Concept}
-use Rattle.shq_terms.specs.declared.axioms.Numbered.{Numbered}
-use Rattle.shq_meaning.specs.Truth.{Interpretation, holds, meets_all, refutes_at}
-use Rattle.shape_specs.specs.Shape.{Shape}
-use Rattle.shape_specs.specs.Rows.{Theory}
-use Rattle.refutation_specs.specs.Line.{Line, Tree, node, Trees, no_trees, tree}
-use Rattle.refutation_specs.specs.Rules.{Known, children_of, nothing_known}
-use Rattle.refutation_specs.specs.Valid.{concept_at, IsShut, AreShut, IsRefutation}
+use Rattle.shq_nnf.specs.Concept.{Concept}
+use Rattle.shq_nnf.specs.Numbered.{Numbered}
+use Rattle.shq_nnf.specs.Truth.{Interpretation, holds, meets_all, refutes_at}
+use Rattle.calculus_specs.specs.Shape.{Shape}
+use Rattle.calculus_specs.specs.Rows.{Theory}
+use Rattle.calculus_specs.specs.Line.{Line, Tree, node, Trees, no_trees, tree}
+use Rattle.calculus_specs.specs.Rules.{Known, children_of, nothing_known}
+use Rattle.calculus_specs.specs.Valid.{concept_at, IsShut, AreShut, IsRefutation}
 use Rattle.refutation_truth.specs.Theory.{named_axioms, theory_of}
 use Rattle.refutation_truth.specs.Laws.{RefutationsEntail, RefutationsEntailByAll}
 use Rattle.refutation_truth.proofs.Models.{Model}

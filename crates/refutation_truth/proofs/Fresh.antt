@@ -3,12 +3,12 @@ use Rattle.std.proofs.Common.{◌≡◌, ℕ, zero, suc, ◌+◌, ◌-◌, ◌<�
 use Rattle.std.specs.List.{list_any, list_all, range_with_len}
 use Rattle.std.proofs.lemmas.Bool.{and_parts, and_from, and_left, and_right, or_left, or_right, eq-eqb, ne_eqb, le-leb, lt-leb, lt-ltb, le-ltb, cases_eq, cases_lt}
 use Rattle.std.proofs.lemmas.List.Folds.{list_any-append}
-use Rattle.shq_base.specs.Concept.{Concept}
-use Rattle.shq_meaning.specs.Truth.{Interpretation, holds}
-use Rattle.fact_specs.specs.declared.Fact.{Fact}
-use Rattle.fact_specs.specs.declared.Fact.TheVariants.{Has, Edge, Apart, Same}
-use Rattle.fact_specs.specs.State.{new_nodes, apart_from, pairwise_apart, fresh_facts}
-use Rattle.refutation_specs.specs.Rules.{Known, knows, with_nodes}
+use Rattle.shq_nnf.specs.Concept.{Concept}
+use Rattle.shq_nnf.specs.Truth.{Interpretation, holds}
+use Rattle.calculus_specs.specs.declared.facts.Fact.{Fact}
+use Rattle.calculus_specs.specs.declared.facts.Fact.TheVariants.{Has, Edge, Apart, Same}
+use Rattle.calculus_specs.specs.State.{new_nodes, apart_from, pairwise_apart, fresh_facts}
+use Rattle.calculus_specs.specs.Rules.{Known, knows, with_nodes}
 use Rattle.refutation_truth.proofs.Below.{Picks}
 use Rattle.refutation_truth.proofs.Models.{all_with, all_of_both, is_true, is_on, Model, all_agree}
 

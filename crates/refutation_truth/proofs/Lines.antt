@@ -2,19 +2,19 @@
 use Rattle.std.proofs.Common.{◌≡◌, ℕ, suc, ◌+◌, ◌<◌, ◌≤◌, ◌^◌, ◌⊎◌, ◌&&◌, ◌||◌, Bool, true, false, not, eqb, leb, ltb, List, [], ◌∷◌, map, length, get_or, Option, Some, None, refl, ap, ◌∙◌, subst, arith, inl, inr}
 use Rattle.std.specs.List.{list_any, list_all}
 use Rattle.std.proofs.lemmas.Bool.{cases_Bool, and_parts, and_from, or_cases, eqb-true, leb-true, le-leb, lt-ltb, not-true}
-use Rattle.shq_base.specs.Concept.{Concept, top, bottom, name, complement, intersection, union, some_of, all_of, at_least, at_most, Parts, no_parts, part, part_list}
-use Rattle.shape_specs.specs.Normal.{normal_form, negated_form}
-use Rattle.shape_specs.specs.Rows.{Part, inclusion, range, Theory, part_at, is_among, conjunct_at, are_name_positions, row_concept}
-use Rattle.shq_meaning.specs.Below.{all_below, count_below}
-use Rattle.shq_meaning.specs.Truth.{Interpretation, implies, each_successor, holds, hold_all, hold_any}
-use Rattle.shq_meaning.proofs.Implied.{implied, implies_from}
+use Rattle.shq_nnf.specs.Concept.{Concept, top, bottom, name, complement, intersection, union, some_of, all_of, at_least, at_most, Parts, no_parts, part, part_list}
+use Rattle.calculus_specs.specs.Normal.{normal_form, negated_form}
+use Rattle.calculus_specs.specs.Rows.{Part, inclusion, range, Theory, part_at, is_among, conjunct_at, are_name_positions, row_concept}
+use Rattle.shq_nnf.specs.Below.{all_below, count_below}
+use Rattle.shq_nnf.specs.Truth.{Interpretation, implies, each_successor, holds, hold_all, hold_any}
+use Rattle.shq_nnf.proofs.Implied.{implied, implies_from}
 use Rattle.shq_nnf.specs.Meeting.{meets_part}
 use Rattle.shq_nnf.proofs.Truth.{normal_truth, negated_truth}
-use Rattle.fact_specs.specs.declared.Fact.TheVariants.{Has, Apart, Same}
-use Rattle.fact_specs.specs.State.{has_tree, has_edge, all_apart}
-use Rattle.refutation_specs.specs.Line.{Line}
-use Rattle.refutation_specs.specs.Line.Line.{start_line, and_line, or_line, all_line, carry_line, row_line, range_line, some_line, least_line, choose_line, pair_line, bottom_line, clash_line, most_line}
-use Rattle.refutation_specs.specs.Rules.{Known, knows, knows_some_from, with_facts, with_nodes, when, at_concept, and_children, or_children, all_children, carry_children, row_children, range_children, some_children, least_children, choose_children, clash_children, are_fillers, most_children, started, start_children, children_of}
+use Rattle.calculus_specs.specs.declared.facts.Fact.TheVariants.{Has, Apart, Same}
+use Rattle.calculus_specs.specs.State.{has_tree, has_edge, all_apart}
+use Rattle.calculus_specs.specs.Line.{Line}
+use Rattle.calculus_specs.specs.Line.Line.{start_line, and_line, or_line, all_line, carry_line, row_line, range_line, some_line, least_line, choose_line, pair_line, bottom_line, clash_line, most_line}
+use Rattle.calculus_specs.specs.Rules.{Known, knows, knows_some_from, with_facts, with_nodes, when, at_concept, and_children, or_children, all_children, carry_children, row_children, range_children, some_children, least_children, choose_children, clash_children, are_fillers, most_children, started, start_children, children_of}
 use Rattle.refutation_truth.proofs.Below.{all_at, all_from, picks}
 use Rattle.refutation_truth.proofs.Models.{found, all_with, is_true, is_on, has_place, led, apart_are_counted, Model, more_facts}
 use Rattle.refutation_truth.proofs.Fresh.{with_new}

@@ -3,19 +3,19 @@ use Rattle.std.proofs.Common.{◌≡◌, ℕ, ◌<◌, ◌≤◌, ◌&&◌, Bool
 use Rattle.std.specs.List.{list_any, list_all}
 use Rattle.std.proofs.lemmas.Bool.{and_parts, and_from, or_cases, eqb-true, eqb-false, ltb-true, ne_eqb, not-true}
 use Rattle.std.proofs.lemmas.List.Folds.{list_all-append}
-use Rattle.shq_base.specs.Concept.{Concept, top}
-use Rattle.shape_specs.specs.Normal.{is_top}
-use Rattle.shape_specs.specs.Same.{is_same}
-use Rattle.shape_specs.proofs.Same.{same_to_eq}
-use Rattle.shq_meaning.specs.Below.{count_below}
-use Rattle.shq_meaning.specs.Truth.{Interpretation, holds}
-use Rattle.fact_specs.specs.declared.Fact.{Fact}
-use Rattle.fact_specs.specs.declared.Fact.TheVariants.{Has, Edge, Apart, Same}
-use Rattle.fact_specs.specs.Joins.{rep, joins, IsJoined}
-use Rattle.fact_specs.specs.Joins.IsJoined.{itself, by_fact}
-use Rattle.fact_specs.specs.State.{gives_concept, is_given, has_tree, gives_edge, has_edge, gives_apart, are_apart, all_apart}
-use Rattle.fact_specs.proofs.Joined.{joined-rep}
-use Rattle.refutation_specs.specs.Rules.{Known, with_facts}
+use Rattle.shq_nnf.specs.Concept.{Concept, top}
+use Rattle.calculus_specs.specs.Normal.{is_top}
+use Rattle.calculus_specs.specs.Same.{is_same}
+use Rattle.calculus_specs.proofs.Same.{same_to_eq}
+use Rattle.shq_nnf.specs.Below.{count_below}
+use Rattle.shq_nnf.specs.Truth.{Interpretation, holds}
+use Rattle.calculus_specs.specs.declared.facts.Fact.{Fact}
+use Rattle.calculus_specs.specs.declared.facts.Fact.TheVariants.{Has, Edge, Apart, Same}
+use Rattle.calculus_specs.specs.Joins.{rep, joins, IsJoined}
+use Rattle.calculus_specs.specs.Joins.IsJoined.{itself, by_fact}
+use Rattle.calculus_specs.specs.State.{gives_concept, is_given, has_tree, gives_edge, has_edge, gives_apart, are_apart, all_apart}
+use Rattle.calculus_specs.proofs.Joined.{joined-rep}
+use Rattle.calculus_specs.specs.Rules.{Known, with_facts}
 use Rattle.refutation_truth.proofs.Below.{but, count_but}
 
 -- ---- members of lists

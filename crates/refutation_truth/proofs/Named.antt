@@ -5,15 +5,15 @@ use Rattle.std.specs.List.{list_any, list_all, find}
 use Rattle.std.specs.Option.{option_map}
 use Rattle.std.proofs.lemmas.Bool.{cases_Bool, and_parts, and_from, or_cases, eqb-true}
 use Rattle.std.proofs.lemmas.List.Folds.{list_all-append, list_any-append}
-use Rattle.shq_base.proofs.Bools.{or_only}
-use Rattle.shq_terms.specs.declared.axioms.Axiom.{Axiom}
-use Rattle.shq_terms.specs.declared.axioms.Axiom.TheVariants.{SubRole, EquivalentRoles, Transitive}
-use Rattle.shq_terms.specs.declared.axioms.Numbered.{Numbered}
-use Rattle.shape_specs.specs.Rows.{Part, NumberedPart, is_numbered}
-use Rattle.shape_specs.specs.Roles.{IsBelow, itself, by_step}
-use Rattle.shq_meaning.specs.Below.{all_below}
-use Rattle.shq_meaning.specs.Truth.{Interpretation, implies, included, roles_equal, meets, meets_all}
-use Rattle.shq_meaning.proofs.Implied.{implied}
+use Rattle.shq_nnf.proofs.Bools.{or_only}
+use Rattle.shq_nnf.specs.Axiom.{Axiom}
+use Rattle.shq_nnf.specs.Axiom.TheVariants.{SubRole, EquivalentRoles, Transitive}
+use Rattle.shq_nnf.specs.Numbered.{Numbered}
+use Rattle.calculus_specs.specs.Rows.{Part, NumberedPart, is_numbered}
+use Rattle.calculus_specs.specs.Roles.{IsBelow, itself, by_step}
+use Rattle.shq_nnf.specs.Below.{all_below}
+use Rattle.shq_nnf.specs.Truth.{Interpretation, implies, included, roles_equal, meets, meets_all}
+use Rattle.shq_nnf.proofs.Implied.{implied}
 use Rattle.shq_nnf.specs.Parts.{axiom_parts}
 use Rattle.shq_nnf.specs.Meeting.{meets_part, meets_parts}
 use Rattle.shq_nnf.proofs.Meeting.{axiom_is_parts}

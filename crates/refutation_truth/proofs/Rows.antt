@@ -2,10 +2,10 @@
 use Rattle.std.proofs.Common.{◌≡◌, ℕ, suc, ◌+◌, ◌<◌, ◌||◌, Bool, true, false, not, cond, List, [], ◌∷◌, ◌++◌, map, length, get_or, refl, ap, ◌∙◌, subst, arith, inl, inr}
 use Rattle.std.specs.List.{list_all}
 use Rattle.std.proofs.lemmas.Bool.{cases_Bool, and_from, or_left, or_right}
-use Rattle.shq_base.specs.Concept.{Concept, top, parts_of}
-use Rattle.shape_specs.specs.Normal.{negated_form}
-use Rattle.shape_specs.specs.Rows.{is_among, others_from, row_concept}
-use Rattle.shq_meaning.specs.Truth.{Interpretation, holds, hold_any}
+use Rattle.shq_nnf.specs.Concept.{Concept, top, parts_of}
+use Rattle.calculus_specs.specs.Normal.{negated_form}
+use Rattle.calculus_specs.specs.Rows.{is_among, others_from, row_concept}
+use Rattle.shq_nnf.specs.Truth.{Interpretation, holds, hold_any}
 use Rattle.shq_nnf.proofs.Truth.{or_holds, negated_truth}
 
 module _ (i : Interpretation) (v : ℕ) (d : Concept) (positions : List ℕ) where

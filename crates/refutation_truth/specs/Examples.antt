@@ -1,17 +1,17 @@
 -- Worked examples. Class names are numbers from 10, roles from 0.
 use Rattle.std.specs.Prelude.{◌≡◌, true, false, List, [], ◌∷◌, Some, None, refl}
-use Rattle.shq_base.specs.Concept.{Concept, name, complement}
-use Rattle.shq_terms.specs.declared.axioms.Axiom.{Axiom}
-use Rattle.shq_terms.specs.declared.axioms.Axiom.TheVariants.{SubClassOf, DisjointClasses, SubRole, Transitive, Range}
-use Rattle.shq_terms.specs.declared.axioms.Numbered.{Numbered}
-use Rattle.shape_specs.specs.Shape.{Shape}
-use Rattle.shape_specs.specs.Shape.Shape.{name as name_shape}
-use Rattle.shape_specs.specs.Rows.{Theory, part_at, inclusion, range}
+use Rattle.shq_nnf.specs.Concept.{Concept, name, complement}
+use Rattle.shq_nnf.specs.Axiom.{Axiom}
+use Rattle.shq_nnf.specs.Axiom.TheVariants.{SubClassOf, DisjointClasses, SubRole, Transitive, Range}
+use Rattle.shq_nnf.specs.Numbered.{Numbered}
+use Rattle.calculus_specs.specs.Shape.{Shape}
+use Rattle.calculus_specs.specs.Shape.Shape.{name as name_shape}
+use Rattle.calculus_specs.specs.Rows.{Theory, part_at, inclusion, range}
 use Rattle.role_box.specs.Paths.{is_below}
-use Rattle.refutation_specs.specs.Line.{Line, node, no_trees, tree}
-use Rattle.refutation_specs.specs.Line.Line.{start_line, row_line, clash_line}
-use Rattle.refutation_specs.specs.Rules.{nothing_known}
-use Rattle.refutation_specs.specs.Valid.{concept_at, open_after_all, IsRefutation}
+use Rattle.calculus_specs.specs.Line.{Line, node, no_trees, tree}
+use Rattle.calculus_specs.specs.Line.Line.{start_line, row_line, clash_line}
+use Rattle.calculus_specs.specs.Rules.{nothing_known}
+use Rattle.calculus_specs.specs.Valid.{concept_at, open_after_all, IsRefutation}
 use Rattle.refutation_truth.specs.Theory.{named_axioms, theory_of}
 
 abbrev a : Concept

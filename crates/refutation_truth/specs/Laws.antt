@@ -1,15 +1,15 @@
 -- A theory of axioms has their parts and their roles, and what is refuted over it is entailed by the axioms.
 use Rattle.std.specs.Prelude.{◌≡◌, ℕ, List}
-use Rattle.shq_base.specs.Concept.{Concept}
-use Rattle.shq_terms.specs.declared.axioms.Numbered.{Numbered}
-use Rattle.shq_meaning.specs.Truth.{Entails}
-use Rattle.shape_specs.specs.Shape.{Shape}
-use Rattle.shape_specs.specs.Rows.{part_at}
-use Rattle.shape_specs.specs.Roles.{HasRoles}
+use Rattle.shq_nnf.specs.Concept.{Concept}
+use Rattle.shq_nnf.specs.Numbered.{Numbered}
+use Rattle.shq_nnf.specs.Truth.{Entails}
+use Rattle.calculus_specs.specs.Shape.{Shape}
+use Rattle.calculus_specs.specs.Rows.{part_at}
+use Rattle.calculus_specs.specs.Roles.{HasRoles}
 use Rattle.role_box.specs.RoleAxioms.{role_axioms}
 use Rattle.role_box.specs.Steps.{Leads, IsTransitive}
-use Rattle.refutation_specs.specs.Line.{Line}
-use Rattle.refutation_specs.specs.Valid.{IsRefutation}
+use Rattle.calculus_specs.specs.Line.{Line}
+use Rattle.calculus_specs.specs.Valid.{IsRefutation}
 use Rattle.refutation_truth.specs.Theory.{named_axioms, all_axioms, theory_of, part_of_axiom}
 
 -- a number of an axiom and one of a part find the part with that number in the axiom, if the axiom is named

@@ -1,8 +1,8 @@
 -- What the axioms of some numbers give to refutations. Numbers count from 1, and none is 0.
 use Rattle.std.specs.Prelude.{ℕ, ◌+◌, ◌-◌, ◌&&◌, nat_le, List, [], ◌∷◌, ◌++◌, map, length, Option, Some, None, slice_get, if◌then◌else◌}
-use Rattle.shq_terms.specs.declared.axioms.Axiom.{Axiom}
-use Rattle.shq_terms.specs.declared.axioms.Numbered.{Numbered}
-use Rattle.shape_specs.specs.Rows.{Part, NumberedPart, Theory, is_among}
+use Rattle.shq_nnf.specs.Axiom.{Axiom}
+use Rattle.shq_nnf.specs.Numbered.{Numbered}
+use Rattle.calculus_specs.specs.Rows.{Part, NumberedPart, Theory, is_among}
 use Rattle.shq_nnf.specs.Parts.{axiom_parts, part_in}
 use Rattle.role_box.specs.RoleAxioms.{role_axioms}
 use Rattle.role_box.specs.Steps.{is_transitive}

@@ -78,18 +78,18 @@ put_alone listed list more leaf has alone x = (
 pub left_out : (listed list : List Limited) (leaf : Limited) → ¬ IsHitAlone listed leaf → IsRepairAdded listed list leaf list
 left_out listed list leaf shared x = (λ h. inl h, λ h. elim h [ inl old ↦ old | inr both ↦ absurd (shared both.1) ])
 
-pub repairs_more : (justs front longer old new : List Limited) (leaf : Limited) → longer ≡ front ++ leaf ∷ [] → IsRepairAdded justs old leaf new
-    → ((r : Limited) → Contains old r ↔ (Contains front r × IsHitAlone justs r)) → (r : Limited) → Contains new r ↔ (Contains longer r × IsHitAlone justs r)
-repairs_more justs front longer old new leaf e added before r = (
+pub repairs_more : (justifications front longer old new : List Limited) (leaf : Limited) → longer ≡ front ++ leaf ∷ [] → IsRepairAdded justifications old leaf new
+    → ((r : Limited) → Contains old r ↔ (Contains front r × IsHitAlone justifications r)) → (r : Limited) → Contains new r ↔ (Contains longer r × IsHitAlone justifications r)
+repairs_more justifications front longer old new leaf e added before r = (
   λ h. elim ((added r).0 h) [
     | inl had ↦ let both = (before r).0 had in (subst (λ (xs : List Limited). Contains xs r) (sym e) (Contains-append_left front (leaf ∷ []) r both.0), both.1)
     | inr both ↦ (
       subst (λ (xs : List Limited). Contains xs r) (sym e) (subst (λ (x : Limited). Contains (front ++ leaf ∷ []) x) (sym both.0) (Contains-push front leaf)),
-      subst (λ (x : Limited). IsHitAlone justs x) (sym both.0) both.1,
+      subst (λ (x : Limited). IsHitAlone justifications x) (sym both.0) both.1,
     )
   ],
   λ h. elim (Contains-push_cases front leaf r (subst (λ (xs : List Limited). Contains xs r) e h.0)) [
     | inl in_front ↦ (added r).1 (inl ((before r).1 (in_front, h.1)))
-    | inr same ↦ (added r).1 (inr (sym same, subst (λ (x : Limited). IsHitAlone justs x) (sym same) h.1))
+    | inr same ↦ (added r).1 (inr (sym same, subst (λ (x : Limited). IsHitAlone justifications x) (sym same) h.1))
   ],
 )

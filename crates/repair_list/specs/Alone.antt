@@ -11,11 +11,11 @@ use Rattle.hitting_set_tree.specs.Found.{IsFound}
 
 -- the list has just the leaves in which each member is hit alone
 abbrev pub AreRepairs : List Limited → List Limited → List Limited → Type 0
-AreRepairs justs leaves list = (r : Limited) → Contains list r ↔ (Contains leaves r × IsHitAlone justs r)
+AreRepairs justifications leaves list = (r : Limited) → Contains list r ↔ (Contains leaves r × IsHitAlone justifications r)
 
 -- the repairs of finished lists are exactly the smallest sets whose removal leaves no yes-set
 abbrev pub FinishedRepairsAreAll : Meaning → Type 0
-FinishedRepairsAreAll m = (f : Found) (list : List Limited) → IsFound m f → f.finished ≡ true → AreRepairs f.justs.items f.leaves.items list
+FinishedRepairsAreAll m = (f : Found) (list : List Limited) → IsFound m f → f.finished ≡ true → AreRepairs f.justifications.items f.leaves.items list
     → (r : Limited) → r.limit ≡ m.size → (Contains list r ↔ IsMinimalRemoval m.holds r)
 
 -- some listed set has k, and no other member of s

@@ -15,8 +15,8 @@ ghost use Rattle.repair_list.specs.Alone.{AreRepairs, FinishedRepairsAreAll, IsR
 
 use axiom_sets::AxiomSet;
 use hitting_set_tree::Found;
+use lane_sieve::NoMemory;
 use set_questions::{Entail, put_in_order};
-use shq_base::NoMemory;
 use std::alloc::Global;
 
 /// The leaves in which each member is hit alone, in the order of sets, each once. Where the lists were finished, these are
@@ -25,13 +25,13 @@ use std::alloc::Global;
 /// # Errors
 /// Where memory is refused.
 pub fn repairs(alloc: Global, found: &Found) -> Result<Vec<AxiomSet>, NoMemory>
-    requires { HaveOneLimit (found.now.justs.items ++ found.now.leaves.items) }
+    requires { HaveOneLimit (found.now.justifications.items ++ found.now.leaves.items) }
     ensures order { IfOk result (λ v. IsAscending v.items) }
-    ensures repairs { IfOk result (λ v. AreRepairs found.now.justs.items found.now.leaves.items v.items) }
+    ensures repairs { IfOk result (λ v. AreRepairs found.now.justifications.items found.now.leaves.items v.items) }
 {
     let mut list = Vec::new(alloc);
     for place in 0..found.leaves.len() {
-        add_repair(&mut list, &found.justs, &found.leaves[place])?;
+        add_repair(&mut list, &found.justifications, &found.leaves[place])?;
     }
     Ok(list)
 }
@@ -42,14 +42,18 @@ pub fn finished_repairs_are_all<E: Entail>(_entail: &E)
 {}
 
 /// Puts a leaf into the ascending list if each of its members is hit alone.
-fn add_repair(list: &mut Vec<AxiomSet>, justs: &[AxiomSet], leaf: &AxiomSet) -> Result<(), NoMemory>
-    requires limits { All (λ s. s.limit ≡ leaf.now.limit) justs.now }
+fn add_repair(
+    list: &mut Vec<AxiomSet>,
+    justifications: &[AxiomSet],
+    leaf: &AxiomSet,
+) -> Result<(), NoMemory>
+    requires limits { All (λ s. s.limit ≡ leaf.now.limit) justifications.now }
     requires list_limits { All (λ s. s.limit ≡ leaf.now.limit) list.old.items }
     requires order { IsAscending list.old.items }
     ensures order { OnOk result (IsAscending list.new.items) }
-    ensures added { OnOk result (IsRepairAdded justs.now list.old.items leaf.now list.new.items) }
+    ensures added { OnOk result (IsRepairAdded justifications.now list.old.items leaf.now list.new.items) }
 {
-    let alone = is_hit_alone(justs, leaf)?;
+    let alone = is_hit_alone(justifications, leaf)?;
     if !alone {
         return Ok(());
     }
@@ -58,13 +62,13 @@ fn add_repair(list: &mut Vec<AxiomSet>, justs: &[AxiomSet], leaf: &AxiomSet) -> 
 }
 
 /// Whether each member of the set is hit alone by some listed set.
-fn is_hit_alone(justs: &[AxiomSet], set: &AxiomSet) -> Result<bool, NoMemory>
-    requires { All (λ s. s.limit ≡ set.now.limit) justs.now }
-    ensures { IfOk result (λ b. IsTrue b ↔ IsHitAlone justs.now set.now) }
+fn is_hit_alone(justifications: &[AxiomSet], set: &AxiomSet) -> Result<bool, NoMemory>
+    requires { All (λ s. s.limit ≡ set.now.limit) justifications.now }
+    ensures { IfOk result (λ b. IsTrue b ↔ IsHitAlone justifications.now set.now) }
 {
     let limit = set.limit();
     for place in 0..limit {
-        let fits = is_missing_or_alone(justs, set, place + 1)?;
+        let fits = is_missing_or_alone(justifications, set, place + 1)?;
         if !fits {
             return Ok(false);
         }
@@ -73,29 +77,33 @@ fn is_hit_alone(justs: &[AxiomSet], set: &AxiomSet) -> Result<bool, NoMemory>
 }
 
 /// Whether the number is no member of the set, or is the only one that some listed set shares with it.
-fn is_missing_or_alone(justs: &[AxiomSet], set: &AxiomSet, number: u32) -> Result<bool, NoMemory>
-    requires limits { All (λ s. s.limit ≡ set.now.limit) justs.now }
+fn is_missing_or_alone(
+    justifications: &[AxiomSet],
+    set: &AxiomSet,
+    number: u32,
+) -> Result<bool, NoMemory>
+    requires limits { All (λ s. s.limit ≡ set.now.limit) justifications.now }
     requires low { 1 ≤ number }
     requires high { number ≤ set.now.limit }
-    ensures { IfOk result (λ b. IsTrue b ↔ NeedsAlone justs.now set.now number) }
+    ensures { IfOk result (λ b. IsTrue b ↔ NeedsAlone justifications.now set.now number) }
 {
     if !set.has(number) {
         return Ok(true);
     }
     let mut others = set.try_clone()?;
     others.take(number);
-    Ok(is_hit_beside(justs, &others, number))
+    Ok(is_hit_beside(justifications, &others, number))
 }
 
 /// Whether some listed set has the number, and none of the others.
-fn is_hit_beside(justs: &[AxiomSet], others: &AxiomSet, number: u32) -> bool
-    requires limits { All (λ s. s.limit ≡ others.now.limit) justs.now }
+fn is_hit_beside(justifications: &[AxiomSet], others: &AxiomSet, number: u32) -> bool
+    requires limits { All (λ s. s.limit ≡ others.now.limit) justifications.now }
     requires low { 1 ≤ number }
     requires high { number ≤ others.now.limit }
-    ensures { IsTrue result ↔ HitsBeside justs.now others.now.members number }
+    ensures { IsTrue result ↔ HitsBeside justifications.now others.now.members number }
 {
-    for place in 0..justs.len() {
-        if has_alone(&justs[place], others, number) {
+    for place in 0..justifications.len() {
+        if has_alone(&justifications[place], others, number) {
             return true;
         }
     }

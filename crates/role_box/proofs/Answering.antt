@@ -2,14 +2,14 @@
 use Rattle.std.proofs.Common.{◌≡◌, ℕ, zero, suc, ◌<◌, ◌≤◌, ◌&&◌, not, eqb, Bool, true, List, [], length, get_or, refl, sym, ◌∙◌, subst, arith, inl, inr, eq-eqb}
 use Rattle.std.specs.Prelude.{◌↔◌}
 use Rattle.std.proofs.lemmas.Bool.{or_cases, or_left, or_right, and_parts, and_from, cases_eq, eqb-true, false_from_ne_true, not_from_false, not-true}
-use Rattle.shape_specs.specs.Roles.{IsBelow, IsSimple, itself, by_step}
+use Rattle.calculus_specs.specs.Roles.{IsBelow, IsSimple, itself, by_step}
 use Rattle.role_box.specs.declared.role_axiom.RoleAxiom.{RoleAxiom}
 use Rattle.role_box.specs.Steps.{Leads, is_transitive, IsTransitive}
 use Rattle.role_box.specs.Paths.{has_path, same_or_leads, role_limit, is_below}
 use Rattle.role_box.specs.Closure.{any_below, IsClosed}
 use Rattle.role_box.specs.Rows.{has, linked}
 use Rattle.role_box.proofs.Rows.{linked_row}
-use Rattle.shq_base.proofs.Bools.{same_truth}
+use Rattle.shq_terms.proofs.Bools.{same_truth}
 use Rattle.role_box.proofs.Limits.{leads_within, transitive_within, test_is_below, is_below-bounded}
 
 -- from a role that no axiom names no chain leads to another role

@@ -1,13 +1,13 @@
 -- Roles of axioms are below the axioms' limit, and the test of paths is that of chains.
 use Rattle.std.proofs.Common.{◌≡◌, ℕ, zero, suc, ◌<◌, ◌≤◌, eqb, true, List, [], ◌∷◌, length, get_or, arith, inl, inr, subst, sym, refl}
 use Rattle.std.proofs.lemmas.Bool.{or_cases, or_left, or_right, and_parts, eqb-true, eq-eqb, false≢true}
-use Rattle.shape_specs.specs.Roles.{IsBelow, itself, by_step}
+use Rattle.calculus_specs.specs.Roles.{IsBelow, itself, by_step}
 use Rattle.role_box.specs.declared.role_axiom.RoleAxiom.{RoleAxiom}
 use Rattle.role_box.specs.declared.role_axiom.RoleAxiom.TheVariants.{Inclusion, Equivalence, Transitivity}
 use Rattle.role_box.specs.Steps.{is_among, leads_by, leads, Leads, is_transitive_by, is_transitive}
 use Rattle.role_box.specs.Paths.{has_path, same_or_leads, limit_of, axiom_limit, role_limit, is_below}
 use Rattle.role_box.specs.Laws.{TestIsBelow}
-use Rattle.shq_base.proofs.Bools.{same_truth}
+use Rattle.shq_terms.proofs.Bools.{same_truth}
 use Rattle.role_box.proofs.Paths.{chain_of_path, path_of_chain}
 
 among_within : (rs : List ℕ) (r : ℕ) → is_among rs r ≡ true → r < limit_of rs

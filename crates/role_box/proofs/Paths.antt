@@ -1,7 +1,7 @@
 -- Paths over bounded inner roles are chains of steps.
 use Rattle.std.proofs.Common.{◌≡◌, ℕ, zero, suc, ◌<◌, ◌&&◌, ◌⊎◌, Bool, true, arith, inl, inr, subst}
 use Rattle.std.proofs.lemmas.Bool.{or_cases, or_left, or_right, and_parts, and_from, cases_eq}
-use Rattle.shape_specs.specs.Roles.{IsBelow, itself, by_step}
+use Rattle.calculus_specs.specs.Roles.{IsBelow, itself, by_step}
 use Rattle.role_box.specs.Paths.{has_path}
 
 pub below-append : (Leads : ℕ → ℕ → Type 0) (r s t : ℕ) → IsBelow Leads r s → IsBelow Leads s t → IsBelow Leads r t

@@ -5,7 +5,7 @@ use Rattle.std.proofs.Math.Bool.{or_assoc, or-false, and-or_distrib_right}
 use Rattle.std.proofs.lemmas.Bool.{cases_eq, cases_lt}
 use Rattle.std.proofs.Math.Seq.{get_or-append_seam, take-append_seam}
 use Rattle.std.proofs.lemmas.List.{get_or_past, get_or-set_same, get_or-set_other}
-use Rattle.shq_base.proofs.Bools.{or_and_gathered}
+use Rattle.shq_terms.proofs.Bools.{or_and_gathered}
 use Rattle.role_box.specs.Rows.{has, linked}
 use Rattle.role_box.specs.declared.role_axiom.RoleAxiom.{RoleAxiom}
 use Rattle.role_box.specs.Steps.{is_among, leads}

@@ -6,7 +6,7 @@ use Rattle.std.specs.Cmp.{nat_cmp_total}
 use Rattle.std.specs.FinSet as sets
 use Rattle.std.proofs.Math.Bool.{or_comm}
 use Rattle.std.proofs.lemmas.Bool.{eqb-true}
-use Rattle.shq_base.proofs.Bools.{same_truth}
+use Rattle.shq_terms.proofs.Bools.{same_truth}
 use Rattle.lane_sieve.specs.Sets.{NumberSet, number_set}
 use Rattle.lane_sieve.proofs.Bits.{contains_insert}
 use Rattle.lane_sieve.proofs.Vectors.{number_set-zeros}

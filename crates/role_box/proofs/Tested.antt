@@ -1,13 +1,13 @@
 -- The test for simple roles.
 use Rattle.std.proofs.Common.{◌≡◌, ℕ, Bool, true, List, ◌&&◌, refl, arith}
 use Rattle.std.specs.Prelude.{◌↔◌}
-use Rattle.shape_specs.specs.Roles.{IsSimple}
+use Rattle.calculus_specs.specs.Roles.{IsSimple}
 use Rattle.role_box.specs.declared.role_axiom.RoleAxiom.{RoleAxiom}
 use Rattle.role_box.specs.Steps.{Leads, is_transitive, IsTransitive}
 use Rattle.role_box.specs.Paths.{role_limit, is_below}
 use Rattle.role_box.specs.Closure.{any_below}
 use Rattle.role_box.proofs.Answering.{simple_from_test}
-use Rattle.shq_base.proofs.Bools.{same_truth}
+use Rattle.shq_terms.proofs.Bools.{same_truth}
 use Rattle.role_box.specs.Simple.{is_simple}
 use Rattle.role_box.specs.Laws.{TestIsSimple}
 

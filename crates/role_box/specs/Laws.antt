@@ -1,6 +1,6 @@
 -- What the tests of roles answer, in terms of chains.
 use Rattle.std.specs.Prelude.{◌≡◌, ℕ, true, ◌↔◌, List}
-use Rattle.shape_specs.specs.Roles.{IsBelow, IsSimple}
+use Rattle.calculus_specs.specs.Roles.{IsBelow, IsSimple}
 use Rattle.role_box.specs.declared.role_axiom.RoleAxiom.{RoleAxiom}
 use Rattle.role_box.specs.Steps.{Leads, IsTransitive}
 use Rattle.role_box.specs.Paths.{is_below}

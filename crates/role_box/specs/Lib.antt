@@ -6,3 +6,9 @@ pub mod Closure
 pub mod Counted
 pub mod Simple
 pub mod Laws
+pub use Rattle.shq_terms.specs.Concept
+pub use Rattle.shq_terms.specs.Listed
+pub use Rattle.shq_terms.specs.Uses
+pub use Rattle.shq_terms.specs.declared.axioms.Axiom
+pub use Rattle.shq_terms.specs.declared.axioms.Numbered
+pub use Rattle.shq_terms.specs.declared.axioms.Query

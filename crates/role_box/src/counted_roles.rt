@@ -1,6 +1,6 @@
 // The roles that class expressions and axioms count.
 ghost use Rattle.std.specs.Prelude.{◌≡◌, ◌++◌};
-ghost use Rattle.shq_base.specs.Concept.{parts_of};
+ghost use Rattle.shq_terms.specs.Concept.{parts_of};
 ghost use Rattle.role_box.specs.Counted.{counted_roles, counted_in, counted_by};
 ghost use Rattle.role_box.specs.Simple.{is_simple, are_simple};
 

@@ -3,7 +3,7 @@ ghost use Rattle.std.specs.Prelude.{◌≡◌, ℕ, ◌≤◌, ◌==◌, ◌↔�
 ghost use Rattle.std.specs.List.{All};
 ghost use Rattle.std.specs.List.Sorted.{IsStrictlyIncreasing};
 ghost use Rattle.std.specs.Iterator.{YieldsFirst, item_count};
-ghost use Rattle.shape_specs.specs.Roles.{IsBelow, IsSimple};
+ghost use Rattle.calculus_specs.specs.Roles.{IsBelow, IsSimple};
 ghost use Rattle.role_box.specs.RoleAxioms.{role_axioms};
 ghost use Rattle.role_box.specs.Steps.{Leads, is_transitive, IsTransitive};
 ghost use Rattle.role_box.specs.Paths.{is_below};

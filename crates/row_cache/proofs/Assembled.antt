@@ -2,11 +2,11 @@
 use Rattle.std.proofs.Common.{◌≡◌, ℕ, ◌<◌, Bool, true, cond, ltb, List, [], ◌∷◌, ◌++◌, map, length, Option, Some, None, refl, ap, subst, sym, ◌∙◌}
 use Rattle.std.specs.List.{list_all}
 use Rattle.std.proofs.lemmas.Bool.{lt-ltb, and_from}
-use Rattle.shq_base.specs.Concept.{Concept}
-use Rattle.shape_specs.specs.Normal.{negated_form, or_of}
-use Rattle.shape_specs.specs.Shape.{Shape, IsTable}
-use Rattle.shape_specs.specs.Tree.{tree_of}
-use Rattle.shape_specs.specs.Rows.{Part, inclusion, range, conjunct_at, are_name_positions, row_concept}
+use Rattle.shq_terms.specs.Concept.{Concept}
+use Rattle.calculus_specs.specs.Normal.{negated_form, or_of}
+use Rattle.calculus_specs.specs.Shape.{Shape, IsTable}
+use Rattle.calculus_specs.specs.Tree.{tree_of}
+use Rattle.calculus_specs.specs.Rows.{Part, inclusion, range, conjunct_at, are_name_positions, row_concept}
 use Rattle.shq_nnf.specs.declared.parts.Part.TheVariants as K
 use Rattle.shq_nnf.specs.Numbers.{Extends, IsNumber, AreNumbers}
 use Rattle.shq_nnf.proofs.Numbers.{number_stays, numbers_stay, numbers_push}

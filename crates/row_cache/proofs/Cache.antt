@@ -4,10 +4,10 @@ use Rattle.std.specs.Prelude.{nat_eq, OnOk, OnErr}
 use Rattle.std.proofs.lemmas.Bool.{and_parts, eqb-true}
 use Rattle.indexmap.specs.IndexMap.{IndexMap, IsUnchanged, Updates}
 use Rattle.shq_terms.specs.declared.axioms.Numbered.{Numbered}
-use Rattle.shape_specs.specs.Rows.{part_at}
+use Rattle.calculus_specs.specs.Rows.{part_at}
 use Rattle.axiom_sets.specs.Sets.{Limited, member_list}
 use Rattle.refutation_truth.specs.Theory.{theory_of}
-use Rattle.shape_specs.specs.Shape.{Shape}
+use Rattle.calculus_specs.specs.Shape.{Shape}
 use Rattle.shq_nnf.specs.Numbers.{Extends}
 use Rattle.shq_nnf.proofs.Numbers.{number_stays, numbers_stay}
 use Rattle.row_cache.specs.declared.cached_row.CachedRow.{CachedRow}

@@ -9,8 +9,8 @@ use Rattle.std.proofs.Math.Bool.{and-true}
 use Rattle.lane_sieve.proofs.Ranges.{any-passing}
 use Rattle.axiom_sets.specs.Sets.{Limited, IsWithin, member_list}
 use Rattle.shq_terms.specs.declared.axioms.Numbered.{Numbered}
-use Rattle.shape_specs.specs.Shape.{Shape}
-use Rattle.shape_specs.specs.Rows.{Part, is_among, part_at}
+use Rattle.calculus_specs.specs.Shape.{Shape}
+use Rattle.calculus_specs.specs.Rows.{Part, is_among, part_at}
 use Rattle.shq_nnf.specs.declared.parts.Part.{Part as Kept}
 use Rattle.shq_nnf.specs.Parts.{StandsForPart, axiom_parts, axiom_has_counts_within, part_in}
 use Rattle.refutation_truth.specs.Theory.{theory_of, parts_in, parts_at}

@@ -3,12 +3,12 @@ use Rattle.std.proofs.Common.{◌≡◌, ℕ, zero, suc, ◌+◌, ◌<◌, ◌�
 use Rattle.std.specs.List.{list_all}
 use Rattle.std.proofs.lemmas.Bool.{ltb-true, leb-true, le-leb, ne_eqb, eq-eqb, cases_Bool, cases_eq, and_parts, and_from, false≢true}
 use Rattle.std.proofs.lemmas.List.{append_assoc, drop_more}
-use Rattle.shq_base.specs.Concept.{Concept, top}
-use Rattle.shape_specs.specs.Normal.{negated_form}
-use Rattle.shape_specs.specs.Shape.{Shape, shape_of, IsTable}
-use Rattle.shape_specs.specs.Shape.Shape.{top as top_shape, bottom as bottom_shape, name as name_shape, not_name, intersection as intersection_shape, union as union_shape, some_of as some_shape, all_of as all_shape, at_least as least_shape, at_most as most_shape}
-use Rattle.shape_specs.specs.Tree.{tree_over, trees_of, tree_of}
-use Rattle.shape_specs.specs.Rows.{is_among, is_ascending, is_name, conjunct_at, others_from}
+use Rattle.shq_terms.specs.Concept.{Concept, top}
+use Rattle.calculus_specs.specs.Normal.{negated_form}
+use Rattle.calculus_specs.specs.Shape.{Shape, shape_of, IsTable}
+use Rattle.calculus_specs.specs.Shape.Shape.{top as top_shape, bottom as bottom_shape, name as name_shape, not_name, intersection as intersection_shape, union as union_shape, some_of as some_shape, all_of as all_shape, at_least as least_shape, at_most as most_shape}
+use Rattle.calculus_specs.specs.Tree.{tree_over, trees_of, tree_of}
+use Rattle.calculus_specs.specs.Rows.{is_among, is_ascending, is_name, conjunct_at, others_from}
 use Rattle.shq_nnf.proofs.Numbers.{shape_tree, top_number}
 use Rattle.row_cache.specs.Rows.{is_name_shape, conjunct_number_at, other_numbers}
 

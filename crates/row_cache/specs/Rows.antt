@@ -1,12 +1,12 @@
 -- The rows of the parts of axioms, as a refutation uses them, and by the numbers of a table.
 use Rattle.std.specs.Prelude.{◌≡◌, ℕ, Bool, true, false, zero, suc, ◌+◌, ◌≤◌, List, [], ◌∷◌, map, length, slice_index_or, Option, Some, None, IsTrue, All, if◌then◌else◌}
 use Rattle.std.specs.List.{list_all}
-use Rattle.shq_base.specs.Concept.{Concept}
+use Rattle.shq_terms.specs.Concept.{Concept}
 use Rattle.shq_terms.specs.declared.axioms.Numbered.{Numbered}
-use Rattle.shape_specs.specs.Shape.{Shape}
-use Rattle.shape_specs.specs.Shape.Shape.{name}
-use Rattle.shape_specs.specs.Rows.{Part, inclusion, range, part_at, is_among, is_name, conjunct_at, are_name_positions, row_concept}
-use Rattle.shape_specs.specs.Tree.{tree_of}
+use Rattle.calculus_specs.specs.Shape.{Shape}
+use Rattle.calculus_specs.specs.Shape.Shape.{name}
+use Rattle.calculus_specs.specs.Rows.{Part, inclusion, range, part_at, is_among, is_name, conjunct_at, are_name_positions, row_concept}
+use Rattle.calculus_specs.specs.Tree.{tree_of}
 use Rattle.axiom_sets.specs.Sets.{Limited, member_list}
 use Rattle.refutation_truth.specs.Theory.{theory_of}
 use Rattle.shq_nnf.specs.declared.parts.Part.{Part as PartByNumber}

@@ -1,9 +1,9 @@
 // Rows of the axioms that are named, in numbers of a table of concepts.
 ghost use Rattle.std.specs.Prelude.{◌≡◌, ◌≤◌, ◌<◌, nat_le, nat_lt, true, IsTrue, IfOk, OnOk, length, map};
 ghost use Rattle.std.specs.List.{list_all};
-ghost use Rattle.shape_specs.specs.Rows.{is_among, is_ascending, is_name, are_name_positions};
-ghost use Rattle.shape_specs.specs.Shape.{IsTable};
-ghost use Rattle.shape_specs.specs.Tree.{tree_of};
+ghost use Rattle.calculus_specs.specs.Rows.{is_among, is_ascending, is_name, are_name_positions};
+ghost use Rattle.calculus_specs.specs.Shape.{IsTable};
+ghost use Rattle.calculus_specs.specs.Tree.{tree_of};
 ghost use Rattle.shq_nnf.specs.Shapes.{form_of};
 ghost use Rattle.shq_nnf.specs.Bounds.{negated_trees};
 ghost use Rattle.shq_nnf.specs.Numbers.{Extends, AreNumbers, trees_at};

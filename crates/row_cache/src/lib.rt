@@ -15,4 +15,4 @@ mod row_cache;
 
 pub use cached_row::{CachedRange, CachedRow, is_name, part_row};
 pub use row_cache::RowCache;
-pub use shq_base::NoMemory;
+pub use shq_terms::NoMemory;

@@ -1,8 +1,8 @@
 // A table of concepts with the rows that were made of its numbers.
 ghost use Rattle.std.specs.Prelude.{◌≡◌, ◌<◌, IsTrue, IfOk, OnOk, Some, length};
-ghost use Rattle.shape_specs.specs.Normal.{negated_form};
-ghost use Rattle.shape_specs.specs.Shape.{IsTable, has_parts_below, is_normal};
-ghost use Rattle.shape_specs.specs.Tree.{tree_of};
+ghost use Rattle.calculus_specs.specs.Normal.{negated_form};
+ghost use Rattle.calculus_specs.specs.Shape.{IsTable, has_parts_below, is_normal};
+ghost use Rattle.calculus_specs.specs.Tree.{tree_of};
 ghost use Rattle.shq_nnf.specs.Shapes.{form_of, concept_of};
 ghost use Rattle.shq_nnf.specs.Numbers.{Extends, IsNumber};
 ghost use Rattle.axiom_sets.specs.Sets.{IsWithin, member_list};
@@ -33,7 +33,7 @@ pub struct RowCache<'a> {
 
 impl<'a> Model for RowCache<'a> {
     ghost use Rattle.std.specs.Coded.{codes};
-    ghost use Rattle.shq_base.specs.Code.{concept_code};
+    ghost use Rattle.shq_terms.specs.Code.{concept_code};
     ghost use Rattle.axiom_sets.specs.Sets.{member_list};
     ghost use Rattle.row_cache.specs.Cache.{CacheState, IsRowCache};
 

@@ -2,8 +2,8 @@
 use Rattle.std.proofs.Common.{◌≡◌, Bool, true, false, List, refl, subst}
 use Rattle.std.specs.Prelude.{◌&&◌, not}
 use Rattle.std.proofs.lemmas.List.Elements.{All-contains}
-use Rattle.shq_base.specs.Concept.{Concept}
-use Rattle.shq_base.proofs.Bools.{none_outside}
+use Rattle.shq_terms.specs.Concept.{Concept}
+use Rattle.shq_terms.proofs.Bools.{none_outside}
 use Rattle.shq_terms.specs.Listed.{Listed}
 use Rattle.shq_terms.specs.declared.axioms.Axiom.{Axiom}
 use Rattle.shq_meaning.specs.Truth.{holds, Entails}

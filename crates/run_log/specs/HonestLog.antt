@@ -4,13 +4,13 @@ use Rattle.std.specs.List.{list_any}
 use Rattle.lane_sieve.specs.Sets.{NumberSet, IsPart}
 use Rattle.axiom_sets.specs.Sets.{Limited, IsFull, IsWithin, member_list}
 use Rattle.pinpointing_specs.specs.Nodes.{AreNodes}
-use Rattle.shq_base.specs.Concept.{Concept, top, bottom, name}
+use Rattle.shq_terms.specs.Concept.{Concept, top, bottom, name}
 use Rattle.shq_terms.specs.Listed.{Listed}
 use Rattle.shq_terms.specs.declared.axioms.Axiom.{Axiom}
 use Rattle.shq_terms.specs.declared.axioms.Query.{Query}
 use Rattle.shq_meaning.specs.Truth.{Entails}
-use Rattle.module_specs.specs.LocalModule.{IsLocalModule, IsJustification}
-use Rattle.shape_specs.specs.Rows.{Theory, Row}
+use Rattle.pinpointing_specs.specs.LocalModule.{IsLocalModule, IsJustification}
+use Rattle.calculus_specs.specs.Rows.{Theory, Row}
 use Rattle.refutation_truth.specs.Theory.{named_axioms, theory_of}
 use Rattle.tableau_specs.specs.declared.Item.{Item}
 use Rattle.tableau_specs.specs.Steps.{IsLegal}
@@ -94,7 +94,7 @@ pub record EndsWhenSpent (budget : ℕ) (log : List Entry) : Type 0 where
   pub is_whole : list_any is_spent log ≡ true → spent_of log ≡ budget
 
 -- what holds of the log of every job
-pub record KeepsToBudget (o : Listed) (budget : ℕ) (log : List Entry) : Type 0 where
+pub record IsHonestWithin (o : Listed) (budget : ℕ) (log : List Entry) : Type 0 where
   pub within : IsWithinBudget budget log
   pub honest : EachIsHonest o log
   pub ends : EndsWhenSpent budget log
@@ -191,23 +191,23 @@ pub record StaysInModule (o : Listed) (q : Query) (log : List Entry) : Type 0 wh
 -- ---- the whole
 
 -- what a log belongs to: the question whether a query follows, a classification, or the search for justifications and repairs
-pub data Question : Type 0 where
-  decision : Query → Question
-  classification : Question
-  pinpointing : Query → Question
+pub data Purpose : Type 0 where
+  decision : Query → Purpose
+  classification : Purpose
+  pinpointing : Query → Purpose
 
 pub record IsDecisionLog (o : Listed) (q : Query) (budget : ℕ) (log : List Entry) : Type 0 where
-  pub budget_kept : KeepsToBudget o budget log
+  pub budget_kept : IsHonestWithin o budget log
   pub one : IsOneTest o q log
 
 pub record IsClassificationLog (o : Listed) (budget : ℕ) (log : List Entry) : Type 0 where
-  pub budget_kept : KeepsToBudget o budget log
+  pub budget_kept : IsHonestWithin o budget log
   pub tests : AreClassTests o log
   pub once : AsksNothingTwice log
   pub new : AsksNoChain log
 
 pub record IsPinpointingLog (o : Listed) (q : Query) (budget : ℕ) (log : List Entry) : Type 0 where
-  pub budget_kept : KeepsToBudget o budget log
+  pub budget_kept : IsHonestWithin o budget log
   pub tests : AreTestsOf q log
   pub new : AsksNoAnswer log
   pub nodes : AreTreeNodes o q log
@@ -215,7 +215,7 @@ pub record IsPinpointingLog (o : Listed) (q : Query) (budget : ℕ) (log : List 
   pub in_module : StaysInModule o q log
 
 -- the log of such a question is honest
-abbrev pub IsHonest : Listed → Question → ℕ → List Entry → Type 0
+abbrev pub IsHonest : Listed → Purpose → ℕ → List Entry → Type 0
 IsHonest o (decision q) budget log = IsDecisionLog o q budget log
 IsHonest o classification budget log = IsClassificationLog o budget log
 IsHonest o (pinpointing q) budget log = IsPinpointingLog o q budget log

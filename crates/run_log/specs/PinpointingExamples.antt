@@ -11,7 +11,7 @@ use Rattle.std.specs.List.{list_any, flat_map}
 use Rattle.lane_sieve.specs.Sets.{NumberSet, IsPart}
 use Rattle.axiom_sets.specs.Sets.{Limited}
 use Rattle.pinpointing_specs.specs.Nodes.{IsChild}
-use Rattle.shq_base.specs.Concept.{name}
+use Rattle.shq_terms.specs.Concept.{name}
 use Rattle.shq_terms.specs.Listed.{Listed}
 use Rattle.shq_terms.specs.declared.axioms.Axiom.{Axiom}
 use Rattle.shq_terms.specs.declared.axioms.Axiom.TheVariants.{SubClassOf, Transitive}
@@ -20,9 +20,9 @@ use Rattle.shq_terms.specs.declared.axioms.Query.{Query}
 use Rattle.shq_meaning.specs.Below.{all_below}
 use Rattle.shq_meaning.specs.Truth.{Interpretation, implies, Entails}
 use Rattle.shq_meaning.proofs.Below.{all_below-false}
-use Rattle.module_specs.specs.LocalModule.{axioms_in_set, module_names, IsClosed, IsLocalModule, FollowsFrom}
-use Rattle.module_specs.specs.Signature.{is_among, axiom_names, query_names}
-use Rattle.module_specs.specs.Local.{is_local}
+use Rattle.pinpointing_specs.specs.LocalModule.{axioms_in_set, module_names, IsClosed, IsLocalModule, FollowsFrom}
+use Rattle.pinpointing_specs.specs.Signature.{is_among, axiom_names, query_names}
+use Rattle.pinpointing_specs.specs.Local.{is_local}
 use Rattle.run_log.specs.declared.entry.Entry.{Entry}
 use Rattle.run_log.specs.declared.entry.Entry.TheVariants.{Test, Node}
 use Rattle.run_log.specs.declared.entry.TestEnd.TheVariants.{Yes, No}

@@ -7,10 +7,10 @@ use Rattle.std.specs.Cmp.{nat_cmp_total}
 use Rattle.lane_sieve.specs.Sets.{NumberSet}
 use Rattle.axiom_sets.specs.Sets.{IsWithin}
 use Rattle.pinpointing_specs.specs.Smallest.{rest}
-use Rattle.shq_base.specs.Concept.{Concept, top, bottom, name}
+use Rattle.shq_terms.specs.Concept.{Concept, top, bottom, name}
 use Rattle.shq_terms.specs.Listed.{Listed}
 use Rattle.shq_terms.specs.declared.axioms.Query.{Query}
-use Rattle.module_specs.specs.LocalModule.{of_axioms, FollowsFrom, IsJustification}
+use Rattle.pinpointing_specs.specs.LocalModule.{of_axioms, FollowsFrom, IsJustification}
 use Rattle.run_log.specs.declared.entry.Entry.{Entry}
 use Rattle.run_log.specs.declared.entry.Entry.TheVariants.{Test}
 use Rattle.run_log.specs.declared.entry.TestEnd.TheVariants.{Yes, No}

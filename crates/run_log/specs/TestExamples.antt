@@ -9,18 +9,18 @@ use Rattle.std.specs.FinSet as set
 use Rattle.std.specs.Ordering.{nat_cmp}
 use Rattle.std.proofs.Math.Bool.{and-not_self}
 use Rattle.axiom_sets.specs.Sets.{Limited, member_list}
-use Rattle.shq_base.specs.Concept.{top, bottom, name, intersection, parts_of}
+use Rattle.shq_terms.specs.Concept.{top, bottom, name, intersection, parts_of}
 use Rattle.shq_terms.specs.declared.axioms.Axiom.{Axiom}
 use Rattle.shq_terms.specs.declared.axioms.Query.{Query}
 use Rattle.shq_meaning.specs.Truth.{Interpretation, Entails}
-use Rattle.shape_specs.specs.Shape.{Shape, shape_of, has_parts_below, is_normal, IsTable}
-use Rattle.shape_specs.specs.Shape.Shape.{top as top_shape, bottom as bottom_shape, name as name_shape, not_name, intersection as intersection_shape, at_most}
-use Rattle.shape_specs.specs.Tree.{tree_of, trees_of, tree_over}
-use Rattle.shape_specs.specs.Rows.{Row, NumberedPart, IsRowOf, IsChoice, is_row_of, is_numbered}
-use Rattle.shape_specs.proofs.Unique.{tree_of_shape, numbers_unique}
-use Rattle.fact_specs.specs.declared.Fact.{Fact}
-use Rattle.fact_specs.specs.declared.Fact.TheVariants.{Has}
-use Rattle.fact_specs.specs.State.{has}
+use Rattle.calculus_specs.specs.Shape.{Shape, shape_of, has_parts_below, is_normal, IsTable}
+use Rattle.calculus_specs.specs.Shape.Shape.{top as top_shape, bottom as bottom_shape, name as name_shape, not_name, intersection as intersection_shape, at_most}
+use Rattle.calculus_specs.specs.Tree.{tree_of, trees_of, tree_over}
+use Rattle.calculus_specs.specs.Rows.{Row, NumberedPart, IsRowOf, IsChoice, is_row_of, is_numbered}
+use Rattle.calculus_specs.proofs.Unique.{tree_of_shape, numbers_unique}
+use Rattle.calculus_specs.specs.declared.facts.Fact.{Fact}
+use Rattle.calculus_specs.specs.declared.facts.Fact.TheVariants.{Has}
+use Rattle.calculus_specs.specs.State.{has}
 use Rattle.refutation_truth.specs.Theory.{named_axioms, named_parts, theory_of}
 use Rattle.tableau_specs.specs.declared.Item.{Item}
 use Rattle.tableau_specs.specs.declared.Item.TheVariants.{Fact as Says}
@@ -41,7 +41,7 @@ use Rattle.run_log.specs.declared.entry.Entry.TheVariants.{Test}
 use Rattle.run_log.specs.declared.entry.TestEnd.TheVariants.{No}
 use Rattle.run_log.specs.Entries.{is_spent}
 use Rattle.run_log.specs.HonestLog.{IsAxiomSet, FollowsIn, CostsSteps, IsHonestYes, IsHonestNo, GoesOn, IsHonestEntry, IsHonest}
-use Rattle.run_log.specs.HonestLog.Question.{decision}
+use Rattle.run_log.specs.HonestLog.Purpose.{decision}
 use Rattle.run_log.specs.LogExamples.{bare, no_axioms, no_axioms_are_whole}
 
 -- Whether class 0 is part of itself, which follows from no axioms; whether all things are in no class, which does not; and

@@ -1,6 +1,6 @@
 -- What is kept of a trail.
 use Rattle.std.specs.Prelude.{List}
-use Rattle.shape_specs.specs.Shape.{Shape}
+use Rattle.calculus_specs.specs.Shape.{Shape}
 use Rattle.tableau_specs.specs.declared.Item.{Item}
 
 -- facts and marks, and the shapes of the concept numbers in them

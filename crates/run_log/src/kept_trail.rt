@@ -1,6 +1,6 @@
 // A trail that is kept when its search is gone.
 ghost use Rattle.std.specs.Prelude.{◌≡◌, ◌<◌, IfOk, length, map, take};
-ghost use Rattle.shape_specs.specs.Shape.{shape_of};
+ghost use Rattle.calculus_specs.specs.Shape.{shape_of};
 ghost use Rattle.shq_nnf.specs.Shapes.{form_of, form_of_owned};
 
 use crate::NoMemory;

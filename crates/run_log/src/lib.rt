@@ -19,4 +19,4 @@ pub use entry::{Entry, TestEnd};
 pub use kept_trail::KeptTrail;
 pub use laws::{answers_are_true, chains_are_true, follows_in_more, sets_are_named, whole_is_all};
 pub use log::RunLog;
-pub use shq_base::NoMemory;
+pub use shq_terms::NoMemory;

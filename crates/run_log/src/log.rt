@@ -16,7 +16,7 @@ pub struct RunLog {
 impl Model for RunLog {
     ghost use Rattle.std.specs.Prelude.{List, ◌≡◌};
     ghost use Rattle.std.specs.Coded.{codes};
-    ghost use Rattle.shq_base.specs.Code.{concept_code};
+    ghost use Rattle.shq_terms.specs.Code.{concept_code};
     ghost use Rattle.axiom_sets.specs.Sets.{limited_code};
     ghost use Rattle.run_log.specs.declared.entry.Entry.{Entry as PlainEntry};
     ghost use Rattle.run_log.specs.Entries.{spent_of};

@@ -5,12 +5,12 @@ use Rattle.std.specs.List.{All, list_any}
 use Rattle.std.proofs.lemmas.Bool.{eqb-true, eq-eqb, or_parts, cases_Bool}
 use Rattle.std.proofs.lemmas.List.Elements.{All-push}
 use Rattle.std.proofs.lemmas.List.Folds.{list_any-append}
-use Rattle.shape_specs.specs.Shape.{Shape, shape_of}
-use Rattle.shape_specs.specs.Shape.Shape.{all_of}
+use Rattle.calculus_specs.specs.Shape.{Shape, shape_of}
+use Rattle.calculus_specs.specs.Shape.Shape.{all_of}
 use Rattle.role_box.specs.declared.role_axiom.RoleAxiom.{RoleAxiom}
 use Rattle.role_box.specs.Steps.{is_transitive}
 use Rattle.role_box.specs.Paths.{is_below}
-use Rattle.concept_closure.specs.Needed.{HasTransitiveRoles}
+use Rattle.absorption.specs.Needed.{HasTransitiveRoles}
 use Rattle.step_finders.specs.Found.{IsCarry, AreCarries}
 use Rattle.search_rules.specs.Lists.{option_list}
 use Rattle.search_rules.specs.Tables.{role_context}

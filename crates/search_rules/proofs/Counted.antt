@@ -4,9 +4,9 @@ use Rattle.std.specs.List.{All, list_any}
 use Rattle.std.proofs.lemmas.Bool.{eq-eqb, cases_lt, cases_eq}
 use Rattle.std.proofs.lemmas.List.Elements.{All-push}
 use Rattle.std.proofs.lemmas.List.Folds.{list_any-append}
-use Rattle.shape_specs.specs.Shape.{Shape, shape_of, has_parts_below, IsTable}
-use Rattle.shape_specs.specs.Shape.Shape.{top, bottom, name, not_name, intersection, union, some_of, all_of, at_least, at_most}
-use Rattle.concept_closure.proofs.Carried.{most_filler}
+use Rattle.calculus_specs.specs.Shape.{Shape, shape_of, has_parts_below, IsTable}
+use Rattle.calculus_specs.specs.Shape.Shape.{top, bottom, name, not_name, intersection, union, some_of, all_of, at_least, at_most}
+use Rattle.absorption.proofs.Carried.{most_filler}
 use Rattle.tableau_specs.proofs.Listed.{listed}
 use Rattle.step_finders.specs.Clashing.{IsMost, AreMosts}
 use Rattle.search_rules.specs.Lists.{list_at}

@@ -5,25 +5,25 @@ use Rattle.std.specs.List.{All, Contains, flat_map, list_any, list_all, range_wi
 use Rattle.std.specs.Map.{lookup, keys_of}
 use Rattle.std.proofs.lemmas.Bool.{cases_Bool, eqb-true, eq-eqb, and_parts, and_from, ltb-true, or_cases}
 use Rattle.std.proofs.lemmas.List.Elements.{All-contains, All-contains_itself, Contains-append_left, Contains-append_right, Contains-append_cases}
-use Rattle.shq_base.specs.Concept.{Concept, top, bottom, name, complement, intersection, union, some_of, all_of, at_least, at_most, exactly}
-use Rattle.shape_specs.specs.Shape.{Shape, shape_of, IsTable}
-use Rattle.shape_specs.specs.Shape.Shape.{top as top_shape, bottom as bottom_shape, name as name_shape, not_name, intersection as intersection_shape, union as union_shape, some_of as some_shape, all_of as all_shape, at_least as least_shape, at_most as most_shape}
-use Rattle.shape_specs.specs.Tree.{tree_over, trees_of, tree_of}
-use Rattle.shape_specs.specs.Rows.{Part, Theory, part_at, conjunct_at, Trigger as PlainTrigger, Row as PlainRowOf}
-use Rattle.shape_specs.specs.Rows.Part.{inclusion, range}
-use Rattle.shape_specs.specs.Rows.Trigger.{always, names, edge, end_of}
+use Rattle.shq_terms.specs.Concept.{Concept, top, bottom, name, complement, intersection, union, some_of, all_of, at_least, at_most, exactly}
+use Rattle.calculus_specs.specs.Shape.{Shape, shape_of, IsTable}
+use Rattle.calculus_specs.specs.Shape.Shape.{top as top_shape, bottom as bottom_shape, name as name_shape, not_name, intersection as intersection_shape, union as union_shape, some_of as some_shape, all_of as all_shape, at_least as least_shape, at_most as most_shape}
+use Rattle.calculus_specs.specs.Tree.{tree_over, trees_of, tree_of}
+use Rattle.calculus_specs.specs.Rows.{Part, Theory, part_at, conjunct_at, Trigger as PlainTrigger, Row as PlainRowOf}
+use Rattle.calculus_specs.specs.Rows.Part.{inclusion, range}
+use Rattle.calculus_specs.specs.Rows.Trigger.{always, names, edge, end_of}
 use Rattle.shq_nnf.specs.Numbers.{AreNumbers, trees_at}
 use Rattle.shq_nnf.proofs.Numbers.{shape_tree}
-use Rattle.fact_specs.specs.declared.Fact.{Fact}
-use Rattle.fact_specs.specs.declared.Fact.TheVariants.{Has, Edge as EdgeFact, Apart, Same}
-use Rattle.fact_specs.specs.Joins.{rep}
-use Rattle.fact_specs.specs.State.{node_count, has, label, has_edge, gives_edge, is_successor}
-use Rattle.fact_specs.proofs.Joined.{rep-joined, joined-rep}
-use Rattle.fact_specs.proofs.State.{any-label}
+use Rattle.calculus_specs.specs.declared.facts.Fact.{Fact}
+use Rattle.calculus_specs.specs.declared.facts.Fact.TheVariants.{Has, Edge as EdgeFact, Apart, Same}
+use Rattle.calculus_specs.specs.Joins.{rep}
+use Rattle.calculus_specs.specs.State.{node_count, has, label, has_edge, gives_edge, is_successor}
+use Rattle.calculus_specs.proofs.Joined.{rep-joined, joined-rep}
+use Rattle.calculus_specs.proofs.State.{any-label}
 use Rattle.tableau_specs.specs.Steps.{SearchContext, below_of, is_named, has_name, has_names, begins_edge, ends_edge, is_triggered, is_used_at}
 use Rattle.tableau_specs.proofs.Listed.{listed}
-use Rattle.clash_specs.proofs.Moved.{has_at, edge_to}
-use Rattle.row_triggers.specs.Triggers.{trigger_for, premises_for}
+use Rattle.tableau_specs.proofs.Moved.{has_at, edge_to}
+use Rattle.absorption.specs.Triggers.{trigger_for, premises_for}
 use Rattle.absorption.specs.declared.row.Row.{Row}
 use Rattle.absorption.specs.declared.row.Trigger.{Trigger}
 use Rattle.absorption.specs.declared.row.Trigger.TheVariants.{Always, Names, Edge, End}

@@ -2,12 +2,12 @@
 use Rattle.std.proofs.Common.{◌≡◌, ℕ, ◌<◌, ◌≤◌, List, length, get_or, sym, ap, ◌∙◌, arith}
 use Rattle.std.proofs.Math.ListN.{get_or-eq_default}
 use Rattle.std.specs.Prelude.{Option, None, Some}
-use Rattle.shq_base.specs.Concept.{Concept, top}
-use Rattle.shape_specs.specs.Normal.{negated_form}
-use Rattle.shape_specs.specs.Shape.{Shape, IsTable}
-use Rattle.shape_specs.specs.Tree.{trees_of, tree_of, IsComplement}
-use Rattle.shape_specs.proofs.Tree.{length-trees_of}
-use Rattle.shape_specs.proofs.Unique.{numbers_unique}
+use Rattle.shq_terms.specs.Concept.{Concept, top}
+use Rattle.calculus_specs.specs.Normal.{negated_form}
+use Rattle.calculus_specs.specs.Shape.{Shape, IsTable}
+use Rattle.calculus_specs.specs.Tree.{trees_of, tree_of, IsComplement}
+use Rattle.calculus_specs.proofs.Tree.{length-trees_of}
+use Rattle.calculus_specs.proofs.Unique.{numbers_unique}
 use Rattle.shq_nnf.specs.Numbers.{Extends, IsNumber}
 use Rattle.shq_nnf.proofs.Numbers.{length_extends, tree_stays, top_number}
 use Rattle.search_rules.specs.Tables.{FindsComplement}

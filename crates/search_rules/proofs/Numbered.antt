@@ -3,8 +3,8 @@ use Rattle.std.proofs.Common.{◌≡◌, ℕ, ◌+◌, ◌<◌, ◌≤◌, List,
 use Rattle.std.proofs.lemmas.Bool.{cases_lt}
 use Rattle.std.proofs.lemmas.List.{get_or_append_left, get_or_push}
 use Rattle.std.proofs.Math.ListN.{get_or-eq_default}
-use Rattle.shape_specs.specs.Shape.{Shape, shape_of}
-use Rattle.shape_specs.specs.Shape.Shape.{top}
+use Rattle.calculus_specs.specs.Shape.{Shape, shape_of}
+use Rattle.calculus_specs.specs.Shape.Shape.{top}
 
 module _ {A : Type 0} (P : ℕ → A → Type 0) (d : A) where
   pub each_pushed : (n : ℕ) (xs : List A) (x : A) → length xs ≡ n → ((c : ℕ) → c < n → P c (get_or xs c d)) → P n x → (c : ℕ) → c < n + 1 → P c (get_or (xs ++ x ∷ []) c d)

@@ -3,14 +3,14 @@ use Rattle.std.proofs.Common.{◌≡◌, ℕ, zero, suc, ◌+◌, ◌-◌, ◌<�
 use Rattle.std.specs.Prelude.{slice_get, if◌then◌else◌}
 use Rattle.std.specs.List.{All, list_all}
 use Rattle.std.proofs.lemmas.Bool.{and_parts, leb-true, cases_lt}
-use Rattle.shq_base.specs.Concept.{Concept, top}
+use Rattle.shq_terms.specs.Concept.{Concept, top}
 use Rattle.shq_terms.specs.declared.axioms.Axiom.{Axiom}
 use Rattle.shq_terms.specs.declared.axioms.Axiom.TheVariants.{SubClassOf, EquivalentClasses, DisjointClasses, DisjointUnion, SubRole, EquivalentRoles, Domain, Range, Functional, Transitive}
 use Rattle.shq_terms.specs.declared.axioms.Numbered.{Numbered}
-use Rattle.shape_specs.specs.Rows.{Part, inclusion, range, part_at, is_among, inclusion_of}
+use Rattle.calculus_specs.specs.Rows.{Part, inclusion, range, part_at, is_among, inclusion_of}
 use Rattle.shq_nnf.specs.Parts.{axiom_parts, part_in, disjoint_pair, disjoint_parts, chain_parts, equivalent_parts, union_parts}
-use Rattle.refutation_truth.specs.Theory.{theory_of, part_of_axiom, parts_at, parts_in}
-use Rattle.refutation_truth.proofs.Numbered.{numbered}
+use Rattle.absorption.specs.Theory.{theory_of, part_of_axiom, parts_at, parts_in}
+use Rattle.absorption.proofs.Numbered.{numbered}
 use Rattle.tableau_specs.specs.LineLaws.{RangesAreFirst}
 
 abbrev is_inclusion : Part → Bool

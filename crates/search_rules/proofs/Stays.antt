@@ -2,18 +2,18 @@
 use Rattle.std.proofs.Common.{◌≡◌, ℕ, ◌<◌, ◌||◌, Bool, true, false, eqb, List, [], ◌∷◌, length, Some, refl, ap, sym, ◌∙◌, subst, arith, Option}
 use Rattle.std.specs.List.{All, list_any}
 use Rattle.std.proofs.lemmas.Bool.{or_right}
-use Rattle.shq_base.specs.Concept.{Concept}
-use Rattle.shape_specs.specs.Shape.{Shape, shape_of, IsTable}
-use Rattle.shape_specs.specs.Shape.Shape.{top, bottom, name, not_name, intersection, union, some_of, all_of, at_least, at_most}
-use Rattle.shape_specs.specs.Tree.{tree_of}
-use Rattle.shape_specs.specs.Rows.{Theory, Row, IsRowOf, IsChoice}
+use Rattle.shq_terms.specs.Concept.{Concept}
+use Rattle.calculus_specs.specs.Shape.{Shape, shape_of, IsTable}
+use Rattle.calculus_specs.specs.Shape.Shape.{top, bottom, name, not_name, intersection, union, some_of, all_of, at_least, at_most}
+use Rattle.calculus_specs.specs.Tree.{tree_of}
+use Rattle.calculus_specs.specs.Rows.{Theory, Row, IsRowOf, IsChoice}
 use Rattle.shq_terms.specs.declared.axioms.Numbered.{Numbered}
 use Rattle.shq_nnf.specs.Numbers.{Extends}
 use Rattle.shq_nnf.proofs.Numbers.{length_extends, tree_stays, numbers_stay}
-use Rattle.refutation_truth.specs.Theory.{theory_of}
+use Rattle.absorption.specs.Theory.{theory_of}
 use Rattle.tableau_specs.specs.Steps.{is_named}
 use Rattle.tableau_specs.proofs.Listed.{listed}
-use Rattle.concept_closure.proofs.Carried.{shape_stays}
+use Rattle.absorption.proofs.Carried.{shape_stays}
 use Rattle.absorption.specs.declared.row.Row.{Row as Filed}
 use Rattle.absorption.specs.Rows.{plain_rows}
 use Rattle.absorption.specs.Places.{FiledRows, all_filed, names_class, WaitsForName, StandInPlaces}
@@ -25,7 +25,7 @@ use Rattle.role_box.specs.declared.role_axiom.RoleAxiom.{RoleAxiom}
 use Rattle.role_box.specs.RoleAxioms.{role_axioms}
 use Rattle.role_box.specs.Steps.{is_transitive}
 use Rattle.role_box.specs.Paths.{is_below}
-use Rattle.concept_closure.specs.Closed.{IsClosed}
+use Rattle.absorption.specs.Closed.{IsClosed}
 use Rattle.search_rules.specs.declared.query_numbers.QueryNumbers.{QueryNumbers}
 use Rattle.search_rules.specs.Lists.{NumberLists, EdgeLists}
 use Rattle.search_rules.specs.RuleLists.{RuleLists, numbers_in}

@@ -1,8 +1,8 @@
 -- Each 'at most' among the first numbers of a table.
 use Rattle.std.specs.Prelude.{◌≡◌, ℕ, ◌<◌, ◌==◌, true, List, All, Option, None, Some}
 use Rattle.std.specs.List.{list_any}
-use Rattle.shape_specs.specs.Shape.{Shape, shape_of}
-use Rattle.shape_specs.specs.Shape.Shape.{at_most}
+use Rattle.calculus_specs.specs.Shape.{Shape, shape_of}
+use Rattle.calculus_specs.specs.Shape.Shape.{at_most}
 use Rattle.step_finders.specs.Clashing.{IsMost}
 
 abbrev pub filler_of_most : Shape → Option ℕ

@@ -3,14 +3,14 @@ use Rattle.std.specs.Prelude.{◌≡◌, ℕ, ◌<◌, List, length}
 use Rattle.shq_terms.specs.Listed.{Listed}
 use Rattle.shq_terms.specs.declared.axioms.Query.{Query}
 use Rattle.axiom_sets.specs.Sets.{Limited, member_list}
-use Rattle.shape_specs.specs.Shape.{Shape, IsTable}
-use Rattle.shape_specs.specs.Normal.{normal_form, negated_form}
-use Rattle.shape_specs.specs.Tree.{tree_of}
-use Rattle.shape_specs.specs.Rows.{Theory}
+use Rattle.calculus_specs.specs.Shape.{Shape, IsTable}
+use Rattle.calculus_specs.specs.Normal.{normal_form, negated_form}
+use Rattle.calculus_specs.specs.Tree.{tree_of}
+use Rattle.calculus_specs.specs.Rows.{Theory}
 use Rattle.shq_nnf.specs.Numbers.{Extends}
-use Rattle.refutation_truth.specs.Theory.{theory_of}
+use Rattle.absorption.specs.Theory.{theory_of}
 use Rattle.tableau_specs.specs.Steps.{SearchContext}
-use Rattle.concept_closure.specs.Laws.{IsClosedFor}
+use Rattle.absorption.specs.ClosureLaws.{IsClosedFor}
 use Rattle.absorption.specs.Rows.{plain_rows}
 use Rattle.absorption.specs.Places.{FiledRows, all_filed}
 use Rattle.absorption.specs.Tables.{IsRowTable}

@@ -1,8 +1,8 @@
 -- The tables that answer what the rules are asked, by number.
 use Rattle.std.specs.Prelude.{◌≡◌, ℕ, ◌<◌, Bool, List, [], map, length, Option, None, Some, MatchOption, slice_index_or}
-use Rattle.shape_specs.specs.Shape.{Shape, shape_of}
-use Rattle.shape_specs.specs.Shape.Shape.{all_of}
-use Rattle.shape_specs.specs.Tree.{IsComplement}
+use Rattle.calculus_specs.specs.Shape.{Shape, shape_of}
+use Rattle.calculus_specs.specs.Shape.Shape.{all_of}
+use Rattle.calculus_specs.specs.Tree.{IsComplement}
 use Rattle.role_box.specs.declared.role_axiom.RoleAxiom.{RoleAxiom}
 use Rattle.role_box.specs.RoleAxioms.{role_axioms}
 use Rattle.role_box.specs.Steps.{is_transitive}

@@ -1,11 +1,11 @@
 // What universal restrictions hand on along transitive roles.
 ghost use Rattle.std.specs.Prelude.{◌≡◌, ℕ, ◌<◌, true, length, IfOk, MatchOption, All};
-ghost use Rattle.shape_specs.specs.Shape.{shape_of};
-ghost use Rattle.shape_specs.specs.Shape.Shape.{all_of};
+ghost use Rattle.calculus_specs.specs.Shape.{shape_of};
+ghost use Rattle.calculus_specs.specs.Shape.Shape.{all_of};
 ghost use Rattle.role_box.specs.Steps.{is_transitive};
 ghost use Rattle.role_box.specs.Paths.{is_below};
-ghost use Rattle.concept_closure.specs.Closed.{IsClosed};
-ghost use Rattle.concept_closure.specs.Needed.{HasTransitiveRoles};
+ghost use Rattle.absorption.specs.Closed.{IsClosed};
+ghost use Rattle.absorption.specs.Needed.{HasTransitiveRoles};
 ghost use Rattle.shq_nnf.specs.Shapes.{form_of};
 ghost use Rattle.step_finders.specs.Found.{IsCarry, AreCarriesOf, AreCarries};
 ghost use Rattle.search_rules.specs.Lists.{list_at};

@@ -24,4 +24,4 @@ mod query_numbers;
 mod search_rules;
 
 pub use search_rules::SearchRules;
-pub use shq_base::NoMemory;
+pub use shq_terms::NoMemory;

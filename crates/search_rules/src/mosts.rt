@@ -1,6 +1,6 @@
 // The 'at most' with each filler.
 ghost use Rattle.std.specs.Prelude.{◌≡◌, ℕ, ◌+◌, ◌<◌, [], ◌∷◌, ◌++◌, length, slice_set, IfOk, OnOk};
-ghost use Rattle.shape_specs.specs.Shape.{shape_of};
+ghost use Rattle.calculus_specs.specs.Shape.{shape_of};
 ghost use Rattle.shq_nnf.specs.Shapes.{form_of};
 ghost use Rattle.step_finders.specs.Clashing.{AreMosts};
 ghost use Rattle.search_rules.specs.Lists.{list_at};

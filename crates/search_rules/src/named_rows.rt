@@ -1,6 +1,6 @@
 // The rows of names.
 ghost use Rattle.std.specs.Prelude.{◌≡◌, ℕ, map, IfOk};
-ghost use Rattle.shape_specs.specs.Shape.{shape_of};
+ghost use Rattle.calculus_specs.specs.Shape.{shape_of};
 ghost use Rattle.shq_nnf.specs.Shapes.{form_of};
 ghost use Rattle.search_rules.specs.Lists.{list_at};
 ghost use Rattle.search_rules.specs.Files.{positions_of, named_of, rows_at_shape};

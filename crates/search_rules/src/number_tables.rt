@@ -2,7 +2,7 @@
 ghost use Rattle.std.specs.Prelude.{◌≡◌, ℕ, ◌<◌, None, length, IfOk, slice_index_or};
 ghost use Rattle.role_box.specs.Steps.{is_transitive};
 ghost use Rattle.role_box.specs.Paths.{is_below};
-ghost use Rattle.concept_closure.specs.Closed.{IsClosed};
+ghost use Rattle.absorption.specs.Closed.{IsClosed};
 ghost use Rattle.search_rules.specs.Lists.{list_at};
 ghost use Rattle.search_rules.specs.Tables.{AreNumberLists};
 

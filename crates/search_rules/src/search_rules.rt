@@ -1,6 +1,6 @@
 // The rules of searches over one set of axioms.
 ghost use Rattle.std.specs.Prelude.{◌≡◌, ℕ, ◌<◌, ◌≤◌, All, IsTrue, IfOk, OnErr, length};
-ghost use Rattle.shape_specs.specs.Shape.{IsTable};
+ghost use Rattle.calculus_specs.specs.Shape.{IsTable};
 ghost use Rattle.axiom_sets.specs.Sets.{IsWithin, member_list};
 ghost use Rattle.shq_nnf.specs.Counts.{has_counts_within};
 ghost use Rattle.shq_nnf.specs.Numbers.{Extends};
@@ -35,7 +35,7 @@ pub struct SearchRules<'a> {
 
 impl<'a> Model for SearchRules<'a> {
     ghost use Rattle.std.specs.Coded.{codes};
-    ghost use Rattle.shq_base.specs.Code.{concept_code};
+    ghost use Rattle.shq_terms.specs.Code.{concept_code};
     ghost use Rattle.axiom_sets.specs.Sets.{limited_code};
     ghost use Rattle.search_rules.specs.RuleLists.{RuleLists};
     ghost use Rattle.search_rules.specs.Tables.{AreKept};
@@ -193,7 +193,7 @@ fn class_of(shape: Shape<'_>) -> Option<u32> {
 
 impl<'a> Rules for SearchRules<'a> {
     ghost use Rattle.std.specs.Prelude.{◌≡◌};
-    ghost use Rattle.shape_specs.specs.Shape.{IsTable};
+    ghost use Rattle.calculus_specs.specs.Shape.{IsTable};
     ghost use Rattle.search_rules.specs.RuleLists.{context_in};
     ghost use Rattle.search_rules.specs.Files.{files_in};
 

@@ -3,14 +3,14 @@ use Rattle.std.proofs.Common.{◌≡◌, ℕ, ◌&&◌, eqb, Bool, true, cond, f
 use Rattle.std.proofs.lemmas.List.Elements.{All-nil}
 use Rattle.std.specs.List.{list_any}
 use Rattle.std.specs.FinSet as sets
-use Rattle.closing_specs.specs.Noted.{Marked, marked, is_within}
+use Rattle.search_trace.specs.Noted.{Marked, marked, is_within}
 use Rattle.search_state.proofs.Holding.{part_itself}
 use Rattle.shq_terms.specs.declared.axioms.Query.{Query}
 use Rattle.tableau_specs.specs.Steps.{SearchContext}
-use Rattle.closing_specs.proofs.Places.{start_is_traced}
+use Rattle.search_trace.proofs.Places.{start_is_traced}
 use Rattle.completion_tree.specs.declared.tree.Entry.{Entry}
 use Rattle.completion_tree.specs.Trail.{facts_in}
-use Rattle.blocking.specs.Followed.{Printed, IsCurrent}
+use Rattle.step_agenda.specs.Followed.{Printed, IsCurrent}
 use Rattle.step_finders.specs.declared.clash.Clash.{Clash}
 use Rattle.search_trace.specs.Trace.{TraceLists, begun}
 use Rattle.search_state.specs.Beginning.{begun_entries}

@@ -3,18 +3,18 @@ use Rattle.std.proofs.Common.{◌≡◌, ℕ, ◌+◌, ◌<◌, ◌||◌, eqb, B
 use Rattle.std.specs.Prelude.{MatchOption}
 use Rattle.std.specs.List.{list_any}
 use Rattle.std.proofs.lemmas.Bool.{or_cases, or_left, or_right, eqb-true}
-use Rattle.shape_specs.specs.Shape.{Shape, shape_of, IsTable}
-use Rattle.shape_specs.specs.Shape.Shape.{top, bottom, name, not_name, at_most}
-use Rattle.fact_specs.specs.declared.Fact.{Fact}
-use Rattle.fact_specs.specs.declared.Fact.TheVariants.{Has, Edge, Apart, Same}
-use Rattle.fact_specs.specs.State.{node_count, has, has_edge}
+use Rattle.calculus_specs.specs.Shape.{Shape, shape_of, IsTable}
+use Rattle.calculus_specs.specs.Shape.Shape.{top, bottom, name, not_name, at_most}
+use Rattle.calculus_specs.specs.declared.facts.Fact.{Fact}
+use Rattle.calculus_specs.specs.declared.facts.Fact.TheVariants.{Has, Edge, Apart, Same}
+use Rattle.calculus_specs.specs.State.{node_count, has, has_edge}
 use Rattle.tableau_specs.specs.Clash.{IsPlainClash, filled_successors}
 use Rattle.tableau_specs.specs.Clash.IsPlainClash.{plain_bottom, plain_names, plain_most}
 use Rattle.tableau_specs.specs.Steps.{SearchContext, below_of}
-use Rattle.clash_specs.specs.Near.{IsOverrun, ClashesBy}
-use Rattle.clash_specs.specs.Near.ClashesBy.{by_bottom, by_name, by_complement, by_most, by_filler}
-use Rattle.clash_specs.proofs.Concept.{concept_clashes}
-use Rattle.closing_specs.specs.Among.{IsAmong}
+use Rattle.tableau_specs.specs.Near.{IsOverrun, ClashesBy}
+use Rattle.tableau_specs.specs.Near.ClashesBy.{by_bottom, by_name, by_complement, by_most, by_filler}
+use Rattle.tableau_specs.proofs.Concept.{concept_clashes}
+use Rattle.search_trace.specs.Among.{IsAmong}
 use Rattle.step_finders.specs.declared.clash.Clash.{Clash}
 use Rattle.step_finders.specs.Clashing.{NoClashBy, IsShown}
 use Rattle.search_state.specs.Progress.{IsClashOf}

@@ -8,9 +8,9 @@ use Rattle.std.proofs.lemmas.Bool.{or_right}
 use Rattle.std.proofs.lemmas.List.{length-take-le, length-append}
 use Rattle.std.proofs.Math.Seq.{take-append_seam}
 use Rattle.lane_sieve.specs.Sets.{NumberSet}
-use Rattle.fact_specs.specs.declared.Fact.{Fact}
-use Rattle.fact_specs.specs.State.{node_count}
-use Rattle.refutation_specs.specs.Line.{Line}
+use Rattle.calculus_specs.specs.declared.facts.Fact.{Fact}
+use Rattle.calculus_specs.specs.State.{node_count}
+use Rattle.calculus_specs.specs.Line.{Line}
 use Rattle.tableau_specs.specs.declared.Branch.{Branch}
 use Rattle.tableau_specs.specs.declared.Choice.{Choice}
 use Rattle.tableau_specs.specs.declared.Item.{Item}
@@ -19,11 +19,11 @@ use Rattle.tableau_specs.specs.Items.{facts_of}
 use Rattle.tableau_specs.specs.Clash.{IsPlainClash}
 use Rattle.tableau_specs.specs.Steps.{SearchContext, below_of, MayBranch, IsAlternative, IsLegal, next_choice, HasClash}
 use Rattle.tableau_specs.specs.Steps.IsLegal.{choose, back}
-use Rattle.closing_specs.specs.Noted.{marked, noted_start}
-use Rattle.closing_specs.specs.Premises.{Added}
-use Rattle.closing_specs.specs.Grounded.{named, is_known_within, AreGrounded}
-use Rattle.closing_specs.specs.Trail.{MarkedFact, Puts}
-use Rattle.closing_specs.specs.Places.{Place, opened_place, turned_place}
+use Rattle.search_trace.specs.Noted.{marked, noted_start}
+use Rattle.search_trace.specs.Premises.{Added}
+use Rattle.search_trace.specs.Grounded.{named, is_known_within, AreGrounded}
+use Rattle.search_trace.specs.Trail.{MarkedFact, Puts}
+use Rattle.search_trace.specs.Places.{Place, opened_place, turned_place}
 use Rattle.completion_tree.specs.declared.tree.By.{By}
 use Rattle.completion_tree.specs.declared.tree.Entry.{Entry}
 use Rattle.completion_tree.specs.declared.tree.Entry.TheVariants.{Fact as Grounded, Mark}

@@ -3,13 +3,13 @@ use Rattle.std.proofs.Common.{◌≡◌, ℕ, Bool, true, false, cond, List, [],
 use Rattle.std.specs.List.{filter}
 use Rattle.std.specs.FinSet as sets
 use Rattle.lane_sieve.specs.Sets.{NumberSet}
-use Rattle.fact_specs.specs.declared.Fact.{Fact}
+use Rattle.calculus_specs.specs.declared.facts.Fact.{Fact}
 use Rattle.tableau_specs.specs.declared.Choice.{Choice}
 use Rattle.tableau_specs.specs.declared.Item.{Item}
 use Rattle.tableau_specs.specs.declared.Item.TheVariants.{Fact as Says, Mark as Marks}
 use Rattle.tableau_specs.specs.Items.{facts_of, says}
-use Rattle.closing_specs.specs.Noted.{marked, is_within, within, items}
-use Rattle.closing_specs.specs.Trail.{MarkedFact}
+use Rattle.search_trace.specs.Noted.{marked, is_within, within, items}
+use Rattle.search_trace.specs.Trail.{MarkedFact}
 use Rattle.completion_tree.specs.declared.tree.By.{By}
 use Rattle.completion_tree.specs.declared.tree.Entry.{Entry}
 use Rattle.completion_tree.specs.declared.tree.Entry.TheVariants.{Fact as Grounded, Mark}

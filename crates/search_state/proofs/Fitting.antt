@@ -4,15 +4,15 @@ use Rattle.std.specs.List.{All, list_all}
 use Rattle.std.proofs.lemmas.Bool.{and_parts, and_from}
 use Rattle.std.proofs.lemmas.List.Elements.{All-nil, All-cons, All-head, All-tail}
 use Rattle.lane_sieve.specs.Sets.{NumberSet}
-use Rattle.shq_base.specs.Concept.{Concept}
-use Rattle.shape_specs.specs.Rows.{Part, Theory, part_at}
-use Rattle.shape_specs.specs.Tree.{tree_of}
-use Rattle.refutation_specs.specs.Line.{Line}
-use Rattle.refutation_specs.specs.Line.Line.{start_line, and_line, or_line, all_line, carry_line, row_line, range_line, some_line, least_line, choose_line, pair_line, bottom_line, clash_line, most_line}
+use Rattle.shq_terms.specs.Concept.{Concept}
+use Rattle.calculus_specs.specs.Rows.{Part, Theory, part_at}
+use Rattle.calculus_specs.specs.Tree.{tree_of}
+use Rattle.calculus_specs.specs.Line.{Line}
+use Rattle.calculus_specs.specs.Line.Line.{start_line, and_line, or_line, all_line, carry_line, row_line, range_line, some_line, least_line, choose_line, pair_line, bottom_line, clash_line, most_line}
 use Rattle.refutation_tree.specs.RuleLine.{concept_numbers}
 use Rattle.tableau_specs.specs.KeptKinds.{IsKept}
 use Rattle.tableau_specs.specs.Steps.{SearchContext}
-use Rattle.closing_specs.specs.Noted.{NotedLine}
+use Rattle.search_trace.specs.Noted.{NotedLine}
 use Rattle.step_lines.specs.Serving.{HasPart}
 use Rattle.search_trace.specs.Trace.{TraceLists, turned_back}
 use Rattle.search_trace.proofs.KeptKinds.{kinds_kept}

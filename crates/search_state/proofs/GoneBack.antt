@@ -1,11 +1,11 @@
 -- Where a search is once its trace has gone back from a clash.
 use Rattle.std.proofs.Common.{◌≡◌, List, [], ◌∷◌, ◌++◌, length, sym, subst}
 use Rattle.lane_sieve.specs.Sets.{NumberSet}
-use Rattle.refutation_specs.specs.Line.{Line}
+use Rattle.calculus_specs.specs.Line.{Line}
 use Rattle.tableau_specs.specs.Steps.{SearchContext, HasClash}
 use Rattle.std.specs.List.{All}
-use Rattle.closing_specs.specs.Noted.{Noted, noted_start}
-use Rattle.closing_specs.specs.Places.{Place}
+use Rattle.search_trace.specs.Noted.{Noted, noted_start}
+use Rattle.search_trace.specs.Places.{Place}
 use Rattle.completion_tree.specs.Trail.{items_of}
 use Rattle.search_trace.specs.declared.opens.Back.{Back}
 use Rattle.search_trace.specs.declared.opens.Back.TheVariants.{Turned, Closed}

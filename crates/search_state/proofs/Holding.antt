@@ -7,25 +7,25 @@ use Rattle.std.proofs.lemmas.Bool.{and_parts, and_from, or_cases, or_left, or_ri
 use Rattle.std.proofs.lemmas.List.{take_more}
 use Rattle.std.proofs.lemmas.List.Folds.{list_all-append}
 use Rattle.lane_sieve.specs.Sets.{NumberSet}
-use Rattle.fact_specs.specs.declared.Fact.{Fact}
-use Rattle.fact_specs.specs.declared.Fact.TheVariants.{Has, Edge, Apart, Same}
-use Rattle.fact_specs.specs.Joins.{rep, IsJoined}
-use Rattle.fact_specs.specs.Joins.IsJoined.{itself, by_fact}
-use Rattle.fact_specs.specs.State.{is_given, is_so}
-use Rattle.fact_specs.proofs.Joined.{rep-joined, joined-rep, joined_on, joined_back}
-use Rattle.refutation_specs.specs.Line.{Line}
+use Rattle.calculus_specs.specs.declared.facts.Fact.{Fact}
+use Rattle.calculus_specs.specs.declared.facts.Fact.TheVariants.{Has, Edge, Apart, Same}
+use Rattle.calculus_specs.specs.Joins.{rep, IsJoined}
+use Rattle.calculus_specs.specs.Joins.IsJoined.{itself, by_fact}
+use Rattle.calculus_specs.specs.State.{is_given, is_so}
+use Rattle.calculus_specs.proofs.Joined.{rep-joined, joined-rep, joined_on, joined_back}
+use Rattle.calculus_specs.specs.Line.{Line}
 use Rattle.tableau_specs.specs.Steps.{SearchContext}
 use Rattle.tableau_specs.specs.declared.Branch.{Branch}
-use Rattle.closing_specs.specs.Among.{IsAmong}
-use Rattle.closing_specs.specs.Noted.{Marked, is_within, within}
-use Rattle.closing_specs.specs.Premises.{Added}
-use Rattle.closing_specs.specs.Trail.{MarkedFact}
-use Rattle.closing_specs.specs.Grounded.{AreGrounded}
-use Rattle.closing_specs.proofs.Among.{any_implies, any_within, given_stays, edge_stays, apart_stays}
+use Rattle.search_trace.specs.Among.{IsAmong}
+use Rattle.search_trace.specs.Noted.{Marked, is_within, within}
+use Rattle.search_trace.specs.Premises.{Added}
+use Rattle.search_trace.specs.Trail.{MarkedFact}
+use Rattle.search_trace.specs.Grounded.{AreGrounded}
+use Rattle.search_trace.proofs.Among.{any_implies, any_within, given_stays, edge_stays, apart_stays}
 use Rattle.completion_tree.specs.declared.tree.Entry.{Entry}
 use Rattle.completion_tree.specs.Trail.{facts_in}
-use Rattle.concept_closure.specs.Laws.{IsClosedFor}
-use Rattle.concept_closure.proofs.Lacking.{lack_nothing}
+use Rattle.absorption.specs.ClosureLaws.{IsClosedFor}
+use Rattle.absorption.proofs.Lacking.{lack_nothing}
 use Rattle.step_finders.specs.declared.choosing.Choosing.{Choosing}
 use Rattle.step_finders.specs.declared.make.NewNodes.{NewNodes}
 use Rattle.step_finders.specs.Choosing.{branch_of, IsChoosable}

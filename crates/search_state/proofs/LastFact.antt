@@ -5,10 +5,10 @@ use Rattle.std.specs.List.{list_any}
 use Rattle.std.proofs.lemmas.Bool.{and_from, or_left, or_right}
 use Rattle.std.proofs.lemmas.List.Folds.{list_any-append}
 use Rattle.std.proofs.Math.Seq.{take-append_seam}
-use Rattle.fact_specs.specs.declared.Fact.{Fact}
-use Rattle.fact_specs.specs.declared.Fact.TheVariants.{Has, Edge, Apart, Same}
-use Rattle.fact_specs.specs.Joins.{rep}
-use Rattle.fact_specs.specs.State.{node_count, has, is_given, gives_concept}
+use Rattle.calculus_specs.specs.declared.facts.Fact.{Fact}
+use Rattle.calculus_specs.specs.declared.facts.Fact.TheVariants.{Has, Edge, Apart, Same}
+use Rattle.calculus_specs.specs.Joins.{rep}
+use Rattle.calculus_specs.specs.State.{node_count, has, is_given, gives_concept}
 use Rattle.tableau_specs.specs.declared.Item.{Item}
 use Rattle.tableau_specs.specs.declared.Item.TheVariants.{Fact as Says}
 use Rattle.tableau_specs.specs.Items.{facts_of}
@@ -16,11 +16,11 @@ use Rattle.tableau_specs.specs.Clash.{IsPlainClash}
 use Rattle.tableau_specs.specs.Steps.{SearchContext, below_of}
 use Rattle.tableau_specs.specs.StepLaws.{IsOn, IsChild}
 use Rattle.tableau_specs.proofs.Reached.{nodes_before, successor_is_child}
-use Rattle.clash_specs.specs.Near.{speak_of_nodes}
-use Rattle.clash_specs.proofs.Marks.{reached_speak}
-use Rattle.clash_specs.proofs.Concept.{concept_clashes}
-use Rattle.clash_specs.proofs.Join.{join_clashes}
-use Rattle.clash_specs.proofs.Parted.{apart_clashes}
+use Rattle.tableau_specs.specs.Near.{speak_of_nodes}
+use Rattle.tableau_specs.proofs.Marks.{reached_speak}
+use Rattle.tableau_specs.proofs.Concept.{concept_clashes}
+use Rattle.tableau_specs.proofs.Join.{join_clashes}
+use Rattle.tableau_specs.proofs.Parted.{apart_clashes}
 use Rattle.completion_tree.specs.declared.tree.Entry.{Entry}
 use Rattle.completion_tree.specs.declared.tree.Entry.TheVariants.{Fact as Grounded}
 use Rattle.completion_tree.specs.Trail.{facts_in, items_of}

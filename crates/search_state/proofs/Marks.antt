@@ -2,7 +2,7 @@
 use Rattle.std.proofs.Common.{◌≡◌, ℕ, zero, suc, ◌+◌, ◌<◌, ◌≤◌, List, [], ◌∷◌, ◌++◌, length, take, drop, Option, Some, None, refl, ap, ◌∙◌, sym, subst, arith}
 use Rattle.std.specs.Prelude.{slice_get}
 use Rattle.tableau_specs.specs.Steps.{SearchContext}
-use Rattle.closing_specs.specs.Places.{Place}
+use Rattle.search_trace.specs.Places.{Place}
 use Rattle.completion_tree.specs.declared.tree.Entry.{Entry}
 use Rattle.search_state.specs.Marked.{marked_in}
 use Rattle.search_state.specs.Branchings.{IsMarkOf, AreMarks}

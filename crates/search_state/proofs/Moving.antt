@@ -4,24 +4,24 @@ use Rattle.std.specs.List.{All, list_all}
 use Rattle.std.proofs.lemmas.List.Elements.{All-append, All-cons, All-nil}
 use Rattle.std.proofs.lemmas.List.{append-nil}
 use Rattle.lane_sieve.specs.Sets.{NumberSet}
-use Rattle.shq_base.specs.Concept.{Concept}
-use Rattle.fact_specs.specs.declared.Fact.{Fact}
-use Rattle.refutation_specs.specs.Line.{Line}
+use Rattle.shq_terms.specs.Concept.{Concept}
+use Rattle.calculus_specs.specs.declared.facts.Fact.{Fact}
+use Rattle.calculus_specs.specs.Line.{Line}
 use Rattle.tableau_specs.specs.Items.{facts_of, says}
 use Rattle.tableau_specs.specs.KeptKinds.{IsKept}
 use Rattle.tableau_specs.specs.Steps.{SearchContext, below_of, IsLegal}
 use Rattle.tableau_specs.specs.Reached.{start, Follows, IsReached}
 use Rattle.tableau_specs.specs.StepLaws.{AreOfKind}
 use Rattle.tableau_specs.proofs.KeptKinds.{kept_kinds_stay}
-use Rattle.closing_specs.specs.Noted.{marked, NotedLine, noted_start}
-use Rattle.closing_specs.specs.Premises.{Added, is_single}
-use Rattle.closing_specs.specs.Trail.{MarkedFact, Puts}
-use Rattle.closing_specs.specs.Grounded.{AreGrounded}
-use Rattle.closing_specs.specs.Places.{Place}
+use Rattle.search_trace.specs.Noted.{marked, NotedLine, noted_start}
+use Rattle.search_trace.specs.Premises.{Added, is_single}
+use Rattle.search_trace.specs.Trail.{MarkedFact, Puts}
+use Rattle.search_trace.specs.Grounded.{AreGrounded}
+use Rattle.search_trace.specs.Places.{Place}
 use Rattle.completion_tree.specs.declared.tree.By.{By}
 use Rattle.completion_tree.specs.declared.tree.Entry.{Entry}
 use Rattle.completion_tree.specs.Trail.{facts_in, items_of, grounded}
-use Rattle.blocking.specs.Followed.{IsCurrent}
+use Rattle.step_agenda.specs.Followed.{IsCurrent}
 use Rattle.search_trace.specs.Trace.{TraceLists, next_line, with_line}
 use Rattle.search_trace.specs.Laws.{IsTracedAt}
 use Rattle.search_trace.proofs.Traced.{goes_on}

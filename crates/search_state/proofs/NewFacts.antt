@@ -4,14 +4,14 @@ use Rattle.std.specs.Prelude.{MatchOption}
 use Rattle.std.specs.List.{list_any}
 use Rattle.std.proofs.lemmas.Bool.{and_from, or_left, or_right}
 use Rattle.std.proofs.lemmas.List.Folds.{list_any-append}
-use Rattle.fact_specs.specs.declared.Fact.{Fact}
-use Rattle.fact_specs.specs.declared.Fact.TheVariants.{Has, Edge}
-use Rattle.fact_specs.specs.Joins.{rep}
-use Rattle.fact_specs.specs.State.{node_count, has, is_given, gives_concept, fresh_facts}
+use Rattle.calculus_specs.specs.declared.facts.Fact.{Fact}
+use Rattle.calculus_specs.specs.declared.facts.Fact.TheVariants.{Has, Edge}
+use Rattle.calculus_specs.specs.Joins.{rep}
+use Rattle.calculus_specs.specs.State.{node_count, has, is_given, gives_concept, fresh_facts}
 use Rattle.tableau_specs.specs.Clash.{IsPlainClash}
 use Rattle.tableau_specs.specs.Steps.{SearchContext, below_of}
 use Rattle.tableau_specs.proofs.GenerateLines.{count-fresh}
-use Rattle.clash_specs.proofs.Block.{block_clashes}
+use Rattle.tableau_specs.proofs.ClashBlock.{block_clashes}
 use Rattle.completion_tree.specs.Trail.{facts_in, grounded}
 use Rattle.step_finders.specs.declared.clash.Clash.{Clash}
 use Rattle.step_finders.specs.declared.make.NewNodes.{NewNodes}

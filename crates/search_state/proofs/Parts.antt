@@ -1,16 +1,16 @@
 -- Facts of alternatives.
 use Rattle.std.proofs.Common.{◌≡◌, ℕ, zero, suc, ◌+◌, ◌<◌, List, [], ◌∷◌, length, get_or, Option, Some, None, refl, sym, subst, arith}
 use Rattle.std.specs.Prelude.{slice_get, IfSome}
-use Rattle.shape_specs.specs.Shape.{Shape, shape_of}
-use Rattle.shape_specs.specs.Shape.Shape.{union}
-use Rattle.fact_specs.specs.declared.Fact.{Fact}
-use Rattle.fact_specs.specs.declared.Fact.TheVariants.{Has, Edge, Apart, Same}
+use Rattle.calculus_specs.specs.Shape.{Shape, shape_of}
+use Rattle.calculus_specs.specs.Shape.Shape.{union}
+use Rattle.calculus_specs.specs.declared.facts.Fact.{Fact}
+use Rattle.calculus_specs.specs.declared.facts.Fact.TheVariants.{Has, Edge, Apart, Same}
 use Rattle.fact_tree.specs.Entries.{IsFit}
 use Rattle.tableau_specs.specs.declared.Branch.{Branch}
 use Rattle.tableau_specs.specs.declared.Branch.TheVariants.{Or}
 use Rattle.tableau_specs.specs.StepLaws.{BranchIsOn}
 use Rattle.tableau_specs.specs.Steps.{SearchContext, IsAlternative}
-use Rattle.fact_specs.specs.State.{node_count}
+use Rattle.calculus_specs.specs.State.{node_count}
 use Rattle.step_finders.specs.declared.choosing.Choosing.{Choosing}
 use Rattle.step_finders.specs.declared.choosing.Choosing.TheVariants as C
 use Rattle.step_finders.specs.Choosing.{branch_of, HasGround}

@@ -1,10 +1,10 @@
 -- The alternatives of a branch by their places.
 use Rattle.std.proofs.Common.{◌≡◌, ℕ, zero, suc, ◌+◌, ◌<◌, List, [], ◌∷◌, length, Some, refl, sym, subst, arith, slice_index_or}
 use Rattle.std.specs.Prelude.{slice_get}
-use Rattle.shape_specs.specs.Shape.{Shape, shape_of}
-use Rattle.shape_specs.specs.Shape.Shape.{union}
-use Rattle.shape_specs.specs.Tree.{IsComplement}
-use Rattle.fact_specs.specs.declared.Fact.TheVariants.{Has, Same, Apart}
+use Rattle.calculus_specs.specs.Shape.{Shape, shape_of}
+use Rattle.calculus_specs.specs.Shape.Shape.{union}
+use Rattle.calculus_specs.specs.Tree.{IsComplement}
+use Rattle.calculus_specs.specs.declared.facts.Fact.TheVariants.{Has, Same, Apart}
 use Rattle.tableau_specs.specs.declared.Branch.TheVariants.{Or, Choose, Pair}
 use Rattle.tableau_specs.specs.Steps.{IsAlternative, of_union, of_filler, of_complement, of_joining, of_parting}
 use Rattle.step_lines.specs.Kinds.{part_count}

@@ -5,19 +5,19 @@ use Rattle.std.specs.List.{list_all}
 use Rattle.std.specs.FinSet as sets
 use Rattle.std.proofs.lemmas.Bool.{and_parts, leb-true}
 use Rattle.lane_sieve.specs.Sets.{NumberSet}
-use Rattle.shape_specs.specs.Shape.{Shape, shape_of, is_normal, IsTable}
-use Rattle.shape_specs.specs.Shape.Shape.{top, bottom, name, not_name, intersection, union, some_of, all_of, at_least, at_most}
-use Rattle.fact_specs.specs.declared.Fact.{Fact}
-use Rattle.fact_specs.specs.declared.Fact.TheVariants.{Has}
-use Rattle.fact_specs.specs.State.{node_count, has, fresh_facts}
-use Rattle.refutation_specs.specs.Line.{Line}
+use Rattle.calculus_specs.specs.Shape.{Shape, shape_of, is_normal, IsTable}
+use Rattle.calculus_specs.specs.Shape.Shape.{top, bottom, name, not_name, intersection, union, some_of, all_of, at_least, at_most}
+use Rattle.calculus_specs.specs.declared.facts.Fact.{Fact}
+use Rattle.calculus_specs.specs.declared.facts.Fact.TheVariants.{Has}
+use Rattle.calculus_specs.specs.State.{node_count, has, fresh_facts}
+use Rattle.calculus_specs.specs.Line.{Line}
 use Rattle.tableau_specs.specs.Items.{facts_of, says}
 use Rattle.tableau_specs.specs.Clash.{IsPlainClash}
 use Rattle.tableau_specs.specs.Steps.{SearchContext, below_of, Adds, Generates, IsLegal, HasPlainClash}
 use Rattle.tableau_specs.specs.Steps.IsLegal.{add, generate}
-use Rattle.closing_specs.specs.Noted.{marked}
-use Rattle.closing_specs.specs.Grounded.{named, is_known_within, AreGrounded}
-use Rattle.closing_specs.specs.Trail.{MarkedFact}
+use Rattle.search_trace.specs.Noted.{marked}
+use Rattle.search_trace.specs.Grounded.{named, is_known_within, AreGrounded}
+use Rattle.search_trace.specs.Trail.{MarkedFact}
 use Rattle.completion_tree.specs.declared.tree.By.{By}
 use Rattle.completion_tree.specs.declared.tree.Entry.{Entry}
 use Rattle.completion_tree.specs.declared.tree.Entry.TheVariants.{Fact as Grounded}

@@ -4,8 +4,8 @@ use Rattle.std.specs.Prelude.{slice_get}
 use Rattle.std.proofs.lemmas.List.{length-append, length-reverse, reverse-append, take-append-drop, length-take-le}
 use Rattle.std.proofs.Math.Seq.{take-append_seam}
 use Rattle.lane_sieve.specs.Sets.{NumberSet}
-use Rattle.fact_specs.specs.declared.Fact.{Fact}
-use Rattle.fact_specs.specs.State.{node_count}
+use Rattle.calculus_specs.specs.declared.facts.Fact.{Fact}
+use Rattle.calculus_specs.specs.State.{node_count}
 use Rattle.fact_tree.specs.Entries.{IsFit}
 use Rattle.tableau_specs.specs.declared.Choice.{Choice}
 use Rattle.tableau_specs.specs.declared.Item.TheVariants.{Mark as Marks}
@@ -15,7 +15,7 @@ use Rattle.tableau_specs.specs.LineLaws.{IsNumbered}
 use Rattle.tableau_specs.specs.StepLaws.{BranchIsOn}
 use Rattle.tableau_specs.specs.Steps.{SearchContext, below_of, next_choice, IsAlternative}
 use Rattle.tableau_specs.proofs.Reached.{nodes_before}
-use Rattle.clash_specs.proofs.Marks.{reached_before}
+use Rattle.tableau_specs.proofs.Marks.{reached_before}
 use Rattle.completion_tree.specs.declared.tree.By.{By}
 use Rattle.completion_tree.specs.declared.tree.Entry.TheVariants.{Fact as Grounded, Mark}
 use Rattle.completion_tree.specs.Trail.{facts_in, items_of, IsMarkAt}

@@ -1,7 +1,7 @@
 -- Going back from a clash.
 use Rattle.std.specs.Prelude.{◌≡◌, ℕ, Bool, List, [], ◌∷◌, ◌++◌, take}
 use Rattle.lane_sieve.specs.Sets.{NumberSet}
-use Rattle.refutation_specs.specs.Line.{Line}
+use Rattle.calculus_specs.specs.Line.{Line}
 use Rattle.search_trace.specs.Trace.{TraceLists, with_line, turned_back, answer_of, is_turn}
 
 -- the trace with the line of a clash, that rests on these marks, once it has gone back

@@ -1,7 +1,7 @@
 -- Where a search begins.
 use Rattle.std.specs.Prelude.{ℕ, List, [], ◌∷◌}
 use Rattle.std.specs.FinSet as sets
-use Rattle.fact_specs.specs.declared.Fact.TheVariants.{Has}
+use Rattle.calculus_specs.specs.declared.facts.Fact.TheVariants.{Has}
 use Rattle.completion_tree.specs.declared.tree.By.{By}
 use Rattle.completion_tree.specs.declared.tree.Entry.{Entry}
 use Rattle.completion_tree.specs.declared.tree.Entry.TheVariants.{Fact as Grounded}

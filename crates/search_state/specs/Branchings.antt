@@ -1,14 +1,14 @@
 -- The marks of a trail, and the open branchings of the trace to which they belong.
 use Rattle.std.specs.Prelude.{◌≡◌, ℕ, ◌+◌, true, List, [], ◌∷◌, take, drop, length, Some, slice_get}
 use Rattle.std.specs.List.{list_all}
-use Rattle.fact_specs.specs.declared.Fact.{Fact}
+use Rattle.calculus_specs.specs.declared.facts.Fact.{Fact}
 use Rattle.tableau_specs.specs.declared.Branch.{Branch}
 use Rattle.tableau_specs.specs.declared.Choice.{Choice}
 use Rattle.tableau_specs.specs.Steps.{SearchContext, IsAlternative}
 use Rattle.tableau_specs.specs.LineLaws.{IsNumbered}
-use Rattle.closing_specs.specs.Premises.{Added}
-use Rattle.closing_specs.specs.Grounded.{is_known_within, AreGrounded}
-use Rattle.closing_specs.specs.Places.{Place}
+use Rattle.search_trace.specs.Premises.{Added}
+use Rattle.search_trace.specs.Grounded.{is_known_within, AreGrounded}
+use Rattle.search_trace.specs.Places.{Place}
 use Rattle.completion_tree.specs.declared.tree.Entry.{Entry}
 use Rattle.completion_tree.specs.declared.tree.Entry.TheVariants.{Mark}
 use Rattle.step_lines.specs.Serving.{branch_nodes}

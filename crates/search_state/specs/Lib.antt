@@ -8,3 +8,4 @@ pub mod Backing
 pub mod Stepping
 pub mod Advancing
 pub mod Beginning
+pub use Rattle.step_agenda.specs.Followed

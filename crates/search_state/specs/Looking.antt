@@ -1,9 +1,9 @@
 -- Where a fact may have made a plain clash.
 use Rattle.std.specs.Prelude.{◌≡◌, ℕ, ◌<◌, true, List}
-use Rattle.fact_specs.specs.declared.Fact.{Fact}
-use Rattle.fact_specs.specs.declared.Fact.TheVariants.{Has, Edge, Apart, Same}
-use Rattle.fact_specs.specs.State.{node_count, has}
-use Rattle.clash_specs.specs.Near.{speak_of_nodes}
+use Rattle.calculus_specs.specs.declared.facts.Fact.{Fact}
+use Rattle.calculus_specs.specs.declared.facts.Fact.TheVariants.{Has, Edge, Apart, Same}
+use Rattle.calculus_specs.specs.State.{node_count, has}
+use Rattle.tableau_specs.specs.Near.{speak_of_nodes}
 use Rattle.tableau_specs.specs.Steps.{SearchContext}
 use Rattle.step_finders.specs.declared.make.NewNodes.{NewNodes}
 use Rattle.step_finders.specs.Clashing.{IsOfParent, NoClashBy, NoClashByApart, NoClashByJoin}

@@ -1,7 +1,7 @@
 -- The facts of a trail with the marks that they rest on.
 use Rattle.std.specs.Prelude.{List, [], ◌∷◌}
-use Rattle.closing_specs.specs.Noted.{marked}
-use Rattle.closing_specs.specs.Trail.{MarkedFact}
+use Rattle.search_trace.specs.Noted.{marked}
+use Rattle.search_trace.specs.Trail.{MarkedFact}
 use Rattle.completion_tree.specs.declared.tree.Entry.{Entry}
 use Rattle.completion_tree.specs.declared.tree.Entry.TheVariants.{Fact as Grounded, Mark}
 

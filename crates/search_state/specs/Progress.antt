@@ -1,29 +1,29 @@
 -- How far a search is.
 use Rattle.std.specs.Prelude.{◌≡◌, ℕ, ◌+◌, ◌<◌, nat_lt, Bool, true, List, [], ◌∷◌, ◌++◌, length, Option, Some, None, All}
 use Rattle.std.specs.List.{list_all}
-use Rattle.shq_base.specs.Concept.{Concept}
+use Rattle.shq_terms.specs.Concept.{Concept}
 use Rattle.shq_terms.specs.declared.axioms.Query.{Query}
-use Rattle.shape_specs.specs.Normal.{normal_form, negated_form}
-use Rattle.shape_specs.specs.Shape.{IsTable}
-use Rattle.shape_specs.specs.Tree.{tree_of}
-use Rattle.shape_specs.specs.Rows.{IsChoice}
-use Rattle.fact_specs.specs.declared.Fact.{Fact}
-use Rattle.fact_specs.specs.State.{node_count}
+use Rattle.calculus_specs.specs.Normal.{normal_form, negated_form}
+use Rattle.calculus_specs.specs.Shape.{IsTable}
+use Rattle.calculus_specs.specs.Tree.{tree_of}
+use Rattle.calculus_specs.specs.Rows.{IsChoice}
+use Rattle.calculus_specs.specs.declared.facts.Fact.{Fact}
+use Rattle.calculus_specs.specs.State.{node_count}
 use Rattle.refutation_tree.specs.RuleLine.{concept_numbers}
 use Rattle.tableau_specs.specs.Clash.{IsPlainClash}
-use Rattle.clash_specs.specs.Near.{speak_of_nodes}
+use Rattle.tableau_specs.specs.Near.{speak_of_nodes}
 use Rattle.tableau_specs.specs.KeptKinds.{IsKept}
 use Rattle.tableau_specs.specs.Steps.{SearchContext, below_of, IsLegal}
 use Rattle.tableau_specs.specs.Reached.{start, Follows}
-use Rattle.concept_closure.specs.Laws.{IsClosedFor}
-use Rattle.closing_specs.specs.Noted.{NotedLine, noted_start}
-use Rattle.closing_specs.specs.Grounded.{AreGrounded}
-use Rattle.closing_specs.specs.Places.{Place}
+use Rattle.absorption.specs.ClosureLaws.{IsClosedFor}
+use Rattle.search_trace.specs.Noted.{NotedLine, noted_start}
+use Rattle.search_trace.specs.Grounded.{AreGrounded}
+use Rattle.search_trace.specs.Places.{Place}
 use Rattle.completion_tree.specs.declared.tree.By.{By}
 use Rattle.completion_tree.specs.declared.tree.Entry.{Entry}
 use Rattle.completion_tree.specs.declared.tree.Entry.TheVariants.{Fact as Grounded}
 use Rattle.completion_tree.specs.Trail.{facts_in, items_of, with_fresh}
-use Rattle.blocking.specs.Followed.{Printed, IsCurrent}
+use Rattle.step_agenda.specs.Followed.{Printed, IsCurrent}
 use Rattle.step_finders.specs.declared.clash.Clash.{Clash}
 use Rattle.step_finders.specs.declared.make.NewNodes.{NewNodes}
 use Rattle.step_finders.specs.Clashing.{IsShown}

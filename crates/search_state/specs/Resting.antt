@@ -1,20 +1,20 @@
 -- Rule lines that follow from facts of a trail which rest on the line's marks alone.
 use Rattle.std.specs.Prelude.{◌≡◌, ℕ, nat_lt, Bool, true, List, [], ◌∷◌, length}
 use Rattle.std.specs.List.{list_all}
-use Rattle.shq_base.specs.Concept.{Concept}
+use Rattle.shq_terms.specs.Concept.{Concept}
 use Rattle.lane_sieve.specs.Sets.{NumberSet}
-use Rattle.shape_specs.specs.Tree.{tree_of}
-use Rattle.fact_specs.specs.declared.Fact.TheVariants.{Has}
-use Rattle.fact_specs.specs.State.{node_count, fresh_facts}
-use Rattle.refutation_specs.specs.Line.{Line}
+use Rattle.calculus_specs.specs.Tree.{tree_of}
+use Rattle.calculus_specs.specs.declared.facts.Fact.TheVariants.{Has}
+use Rattle.calculus_specs.specs.State.{node_count, fresh_facts}
+use Rattle.calculus_specs.specs.Line.{Line}
 use Rattle.refutation_tree.specs.RuleLine.{concept_numbers}
 use Rattle.tableau_specs.specs.declared.Branch.{Branch}
 use Rattle.tableau_specs.specs.KeptKinds.{IsKept}
 use Rattle.tableau_specs.specs.StepLaws.{AreOfKind}
 use Rattle.tableau_specs.specs.Steps.{SearchContext}
-use Rattle.closing_specs.specs.Premises.{Added, is_single, is_branching}
-use Rattle.closing_specs.specs.Grounded.{is_known_within}
-use Rattle.closing_specs.specs.Trail.{Puts}
+use Rattle.search_trace.specs.Premises.{Added, is_single, is_branching}
+use Rattle.search_trace.specs.Grounded.{is_known_within}
+use Rattle.search_trace.specs.Trail.{Puts}
 use Rattle.completion_tree.specs.declared.tree.Entry.{Entry}
 use Rattle.completion_tree.specs.Trail.{facts_in}
 use Rattle.step_finders.specs.declared.make.NewNodes.{NewNodes}

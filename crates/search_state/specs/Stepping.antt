@@ -3,9 +3,9 @@ use Rattle.std.specs.Prelude.{◌≡◌, List, [], ◌∷◌, Some, All}
 use Rattle.tableau_specs.specs.declared.Item.{Item}
 use Rattle.tableau_specs.specs.Steps.{SearchContext, IsLegal, IsSaturated, HasClash}
 use Rattle.tableau_specs.specs.Reached.{start}
-use Rattle.closing_specs.specs.Leaves.{leaves}
-use Rattle.closing_specs.specs.Noted.{noted_start}
-use Rattle.closing_specs.specs.Back.{step_of}
+use Rattle.search_trace.specs.Leaves.{leaves}
+use Rattle.search_trace.specs.Noted.{noted_start}
+use Rattle.search_trace.specs.Back.{step_of}
 use Rattle.completion_tree.specs.Trail.{items_of}
 use Rattle.search_state.specs.declared.stepping.Stepped.{Stepped}
 use Rattle.search_state.specs.declared.stepping.Stepped.TheVariants.{Moved, Saturated, Closed}

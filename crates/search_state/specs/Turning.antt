@@ -2,17 +2,17 @@
 use Rattle.std.specs.Prelude.{◌≡◌, ℕ, List, [], ◌∷◌, ◌++◌, Some, All, length, map}
 use Rattle.std.specs.FinSet as sets
 use Rattle.lane_sieve.specs.Sets.{NumberSet}
-use Rattle.fact_specs.specs.declared.Fact.{Fact}
+use Rattle.calculus_specs.specs.declared.facts.Fact.{Fact}
 use Rattle.tableau_specs.specs.Steps.{SearchContext, HasClash}
 use Rattle.tableau_specs.specs.Reached.{start, Follows}
-use Rattle.closing_specs.specs.Premises.{Added}
-use Rattle.closing_specs.specs.Leaves.{leaves}
-use Rattle.closing_specs.specs.Noted.{marked, noted_start}
-use Rattle.closing_specs.specs.Trail.{Puts}
-use Rattle.closing_specs.specs.Back.{step_of}
-use Rattle.closing_specs.specs.Places.{Place, turned_place}
+use Rattle.search_trace.specs.Premises.{Added}
+use Rattle.search_trace.specs.Leaves.{leaves}
+use Rattle.search_trace.specs.Noted.{marked, noted_start}
+use Rattle.search_trace.specs.Trail.{Puts}
+use Rattle.search_trace.specs.Back.{step_of}
+use Rattle.search_trace.specs.Places.{Place, turned_place}
 use Rattle.completion_tree.specs.Trail.{facts_in, items_of}
-use Rattle.blocking.specs.Followed.{IsCurrent}
+use Rattle.step_agenda.specs.Followed.{IsCurrent}
 use Rattle.search_trace.specs.declared.opens.Back.{Back}
 use Rattle.search_trace.specs.declared.opens.Back.TheVariants.{Turned, Closed}
 use Rattle.search_trace.specs.Laws.{IsTracedAt}

@@ -1,7 +1,7 @@
 // The next step of a search.
 ghost use Rattle.std.specs.Prelude.{◌≡◌, ◌+◌, ◌<◌, ◌^◌, None, MatchOption, OnOk, IfOk, IfSome};
 ghost use Rattle.completion_tree.specs.Trail.{facts_in};
-ghost use Rattle.blocking.specs.Followed.{IsCurrent};
+ghost use Rattle.step_agenda.specs.Followed.{IsCurrent};
 ghost use Rattle.step_finders.specs.Clashing.{IsShown};
 ghost use Rattle.step_finders.specs.Choosing.{IsChoosable};
 ghost use Rattle.step_finders.specs.Making.{IsMaking};
@@ -19,14 +19,14 @@ use crate::alternatives::{count_alternatives, fact_of};
 use crate::progress::Progress;
 use crate::resting::{rest_addition, rest_choice, rest_new_nodes};
 use crate::{NoMemory, Stepped};
+use calculus_specs::Fact;
 use completion_tree::Deps;
-use fact_specs::Fact;
 use search_trace::Back;
 use std::alloc::Allocator;
+use step_agenda::TreeState;
 use step_finders::{
     Addition, Choosing, Clash, NewNodes, Rules, Step, find_step, no_step_is_saturated,
 };
-use tree_state::TreeState;
 
 impl<'b, A: Allocator + Copy> Progress<'b, A> {
     // A node gets a concept.

@@ -2,14 +2,14 @@
 ghost use Rattle.std.specs.Prelude.{◌≡◌, ◌+◌, ◌<◌, ℕ, Some, slice_get, IfOk, IfSome};
 ghost use Rattle.tableau_specs.specs.declared.Branch.TheVariants.{Or, Choose, Pair};
 ghost use Rattle.std.specs.FinSet as set;
-ghost use Rattle.fact_specs.specs.declared.Fact.TheVariants.{Has};
+ghost use Rattle.calculus_specs.specs.declared.facts.Fact.TheVariants.{Has};
 ghost use Rattle.tableau_specs.specs.Steps.{IsAlternative};
 ghost use Rattle.step_lines.specs.Kinds.{alternative_count, part_count};
-ghost use Rattle.shape_specs.specs.Shape.{shape_of};
+ghost use Rattle.calculus_specs.specs.Shape.{shape_of};
 
 use crate::NoMemory;
+use calculus_specs::Fact;
 use completion_tree::Deps;
-use fact_specs::Fact;
 use shq_nnf::Shape;
 use std::alloc::Global;
 use step_finders::Rules;

@@ -1,9 +1,9 @@
 // Where a search begins.
 ghost use Rattle.std.specs.Prelude.{◌≡◌, [], ◌∷◌, ◌++◌, OnOk, IfOk};
-ghost use Rattle.fact_specs.specs.declared.Fact.TheVariants.{Has};
+ghost use Rattle.calculus_specs.specs.declared.facts.Fact.TheVariants.{Has};
 ghost use Rattle.completion_tree.specs.declared.tree.Entry.TheVariants.{Fact as Grounded};
 ghost use Rattle.completion_tree.specs.Trail.{facts_in};
-ghost use Rattle.blocking.specs.Followed.{IsCurrent};
+ghost use Rattle.step_agenda.specs.Followed.{IsCurrent};
 ghost use Rattle.search_state.specs.Beginning.{by_start, begun_entries};
 ghost use Rattle.search_state.specs.Progress.{IsAsked, IsClashOf};
 ghost use Rattle.search_state.specs.Stepping.{HasBegun};
@@ -11,13 +11,12 @@ ghost use Rattle.search_state.specs.Stepping.{HasBegun};
 use crate::effort::Effort;
 use crate::looking::find_clash_by;
 use crate::{NoMemory, Progress};
-use blocking::{Prints, blocks_stay};
+use calculus_specs::Fact;
 use completion_tree::{By, Deps, Tree};
-use fact_specs::Fact;
 use search_trace::Trace;
 use shq_terms::Query;
 use std::alloc::{Allocator, Global};
-use step_agenda::Agenda;
+use step_agenda::{Agenda, Blocks, blocks_stay};
 use step_finders::{Clash, Rules};
 
 impl<'b, A: Allocator + Copy> Progress<'b, A> {
@@ -42,7 +41,7 @@ impl<'b, A: Allocator + Copy> Progress<'b, A> {
         let mut tree = Tree::new_in(alloc)?;
         put_start(&mut tree, sub)?;
         put_start(&mut tree, not_sup)?;
-        let mut prints = Prints::new(heap);
+        let mut prints = Blocks::new(heap);
         blocks_stay();
         prints.follow(&tree, 0)?;
         let clash = find_clash_at_start(heap, &tree, &prints, rules, sub, not_sup)?;
@@ -78,7 +77,7 @@ fn put_start<A: Allocator + Copy>(tree: &mut Tree<A>, concept: u32) -> Result<()
 fn find_clash_at_start<A: Allocator + Copy, R: Rules>(
     heap: Global,
     tree: &Tree<A>,
-    prints: &Prints,
+    prints: &Blocks,
     rules: &R,
     sub: u32,
     not_sup: u32,

@@ -14,5 +14,6 @@ mod stepping;
 
 pub use effort::Effort;
 pub use progress::Progress;
-pub use shq_base::NoMemory;
+pub use shq_terms::NoMemory;
+pub use step_agenda::Blocks;
 pub use stepping::{Rested, Stepped};

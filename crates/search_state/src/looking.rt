@@ -1,26 +1,25 @@
 // Whether the last facts have made a plain clash.
 ghost use Rattle.std.specs.Prelude.{◌≡◌, ℕ, MatchOption, IfOk};
 ghost use Rattle.completion_tree.specs.Trail.{facts_in};
-ghost use Rattle.blocking.specs.Followed.{IsCurrent};
+ghost use Rattle.step_agenda.specs.Followed.{IsCurrent};
 ghost use Rattle.step_finders.specs.Clashing.{IsShown, NoClashByNew};
 ghost use Rattle.search_state.specs.Looking.{IsLookable, IsNewLookable, NoClashByFact};
 
 use crate::NoMemory;
-use blocking::Prints;
+use calculus_specs::Fact;
 use completion_tree::Tree;
-use fact_specs::Fact;
 use std::alloc::{Allocator, Global};
+use step_agenda::{Blocks, TreeState};
 use step_finders::{
     Clash, NewNodes, Rules, find_clash, find_clash_of_apart, find_clash_of_join,
     find_clash_of_new_nodes,
 };
-use tree_state::TreeState;
 
 /// A plain clash that is there by the fact; none exactly where there is none.
 pub(crate) fn find_clash_by<A: Allocator + Copy, R: Rules>(
     alloc: Global,
     tree: &Tree<A>,
-    prints: &Prints,
+    prints: &Blocks,
     rules: &R,
     fact: Fact<u32>,
 ) -> Result<Option<Clash>, NoMemory>
@@ -42,7 +41,7 @@ pub(crate) fn find_clash_by<A: Allocator + Copy, R: Rules>(
 pub(crate) fn find_clash_by_new<A: Allocator + Copy, R: Rules>(
     alloc: Global,
     tree: &Tree<A>,
-    prints: &Prints,
+    prints: &Blocks,
     rules: &R,
     new: &NewNodes,
     first: u32,

@@ -1,13 +1,13 @@
 // The fact of an alternative.
 ghost use Rattle.std.specs.Prelude.{◌≡◌, ℕ, ◌+◌, ◌<◌, List};
-ghost use Rattle.shape_specs.specs.Shape.{Shape as PlainShape, shape_of};
-ghost use Rattle.fact_specs.specs.declared.Fact.TheVariants.{Has as HasFact};
+ghost use Rattle.calculus_specs.specs.Shape.{Shape as PlainShape, shape_of};
+ghost use Rattle.calculus_specs.specs.declared.facts.Fact.TheVariants.{Has as HasFact};
 ghost use Rattle.tableau_specs.specs.declared.Branch.TheVariants.{Or as OrBranch, Choose as ChooseBranch, Pair as PairBranch};
 ghost use Rattle.tableau_specs.specs.Steps.{IsAlternative};
 ghost use Rattle.tableau_specs.specs.LineLaws.{IsNumbered};
 ghost use Rattle.step_lines.specs.Kinds.{part_count, alternative_count};
 
-use fact_specs::Fact;
+use calculus_specs::Fact;
 use shq_nnf::Shape;
 use step_finders::Rules;
 use tableau_specs::Branch;

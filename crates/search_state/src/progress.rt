@@ -1,10 +1,10 @@
 // How far a search is.
 ghost use Rattle.std.specs.Prelude.{◌≡◌, ◌+◌, ◌<◌, ◌≤◌, ◌^◌, [], ◌∷◌, ◌++◌, None, OnOk, IfOk, length, take};
-ghost use Rattle.fact_specs.specs.declared.Fact.TheVariants.{Has};
-ghost use Rattle.fact_specs.specs.State.{node_count};
+ghost use Rattle.calculus_specs.specs.declared.facts.Fact.TheVariants.{Has};
+ghost use Rattle.calculus_specs.specs.State.{node_count};
 ghost use Rattle.refutation_tree.specs.RuleLine.{line_of};
 ghost use Rattle.completion_tree.specs.Trail.{facts_in};
-ghost use Rattle.blocking.specs.Followed.{IsCurrent, AreBlocksBelow};
+ghost use Rattle.step_agenda.specs.Followed.{IsCurrent, AreBlocksBelow};
 ghost use Rattle.step_finders.specs.Reasons.{IsAddition};
 ghost use Rattle.fact_tree.specs.Entries.{IsFit};
 ghost use Rattle.completion_tree.specs.declared.tree.Entry.TheVariants.{Fact as Grounded, Mark};
@@ -21,14 +21,13 @@ use crate::alternatives::with_mark;
 use crate::effort::Effort;
 use crate::looking::{find_clash_by, find_clash_by_new};
 use crate::resting::RestingLine;
-use blocking::{Prints, blocks_stay, still_current};
+use calculus_specs::Fact;
 use completion_tree::{By, Choice, Tree};
-use fact_specs::Fact;
 use search_trace::Trace;
 use shq_terms::Query;
 use std::alloc::{Allocator, Global};
 use std::marker::Model;
-use step_agenda::Agenda;
+use step_agenda::{Agenda, Blocks, blocks_stay, still_current};
 use step_finders::{Addition, Choosing, Clash, NewNodes, Rules};
 use step_lines::{alternatives_speak_of_nodes, facts_stay_grounded, new_nodes_stay_grounded};
 
@@ -40,7 +39,7 @@ pub struct Progress<'b, A: Allocator> {
     pub(crate) sub: u32,
     pub(crate) not_sup: u32,
     pub(crate) tree: Tree<A>,
-    pub(crate) prints: Prints,
+    pub(crate) prints: Blocks,
     pub(crate) trace: Trace,
     pub(crate) marks: Vec<u32>,
     pub(crate) clash: Option<Clash>,
@@ -54,8 +53,8 @@ pub struct Progress<'b, A: Allocator> {
 impl<'b, A: Allocator> Model for Progress<'b, A> {
     ghost use Rattle.std.specs.Prelude.{reverse};
     ghost use Rattle.std.specs.Coded.{codes};
-    ghost use Rattle.shq_base.specs.Code.{concept_code};
-    ghost use Rattle.dependency_sets.specs.contracts.deps.Deps as deps;
+    ghost use Rattle.shq_terms.specs.Code.{concept_code};
+    ghost use Rattle.axiom_sets.specs.contracts.deps.Deps as deps;
     ghost use Rattle.search_trace.specs.contracts.trace.Trace as traces;
     ghost use Rattle.search_state.specs.Progress.{ProgressLists};
 
@@ -79,7 +78,7 @@ impl<'b, A: Allocator> Model for Progress<'b, A> {
 // Finds the blocks again, of which those below `from` stood before the entries from `place` on were put.
 pub(crate) fn follow<A: Allocator + Copy>(
     tree: &Tree<A>,
-    prints: &mut Prints,
+    prints: &mut Blocks,
     place: u32,
     from: u32,
 ) -> Result<(), NoMemory>

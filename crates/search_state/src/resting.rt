@@ -2,30 +2,29 @@
 ghost use Rattle.std.specs.Prelude.{◌≡◌, true, IfOk};
 ghost use Rattle.std.specs.List.{list_all};
 ghost use Rattle.std.specs.FinSet as set;
-ghost use Rattle.fact_specs.specs.State.{is_so};
+ghost use Rattle.calculus_specs.specs.State.{is_so};
 ghost use Rattle.refutation_tree.specs.RuleLine.{line_of};
-ghost use Rattle.closing_specs.specs.Grounded.{AreGrounded};
+ghost use Rattle.search_trace.specs.Grounded.{AreGrounded};
 ghost use Rattle.completion_tree.specs.Trail.{facts_in};
-ghost use Rattle.blocking.specs.Followed.{IsCurrent};
+ghost use Rattle.step_agenda.specs.Followed.{IsCurrent};
 ghost use Rattle.step_finders.specs.Choosing.{branch_of, IsChoosable};
 ghost use Rattle.step_finders.specs.Clashing.{IsShown};
 ghost use Rattle.step_finders.specs.Making.{IsMaking};
 ghost use Rattle.step_finders.specs.Reasons.{IsAddition};
-ghost use Rattle.concept_closure.specs.Laws.{IsClosedFor};
+ghost use Rattle.absorption.specs.ClosureLaws.{IsClosedFor};
 ghost use Rattle.step_lines.specs.Serving.{HoldWithin};
-ghost use Rattle.closing_specs.specs.Noted.{within};
+ghost use Rattle.search_trace.specs.Noted.{within};
 ghost use Rattle.search_state.specs.Marked.{marked_in};
 ghost use Rattle.search_state.specs.Resting.{RestsAddition, RestsNewNodes, RestsChoice, RestsClash};
 
 use crate::NoMemory;
-use blocking::Prints;
+use calculus_specs::Fact;
 use completion_tree::{Deps, Tree};
-use fact_specs::Fact;
 use refutation_tree::Line;
 use std::alloc::{Allocator, Global};
+use step_agenda::{Blocks, TreeState};
 use step_finders::{Addition, Choosing, Clash, NewNodes, Rules};
 use step_lines::{line_of_addition, line_of_choice, line_of_clash, line_of_new_nodes};
-use tree_state::TreeState;
 
 /// A rule line, and the marks that it rests on.
 #[derive(Drop)]
@@ -70,7 +69,7 @@ fn with_marks<A: Allocator + Copy>(
 pub(crate) fn rest_addition<A: Allocator + Copy, R: Rules>(
     alloc: Global,
     tree: &Tree<A>,
-    prints: &Prints,
+    prints: &Blocks,
     rules: &R,
     addition: &Addition,
 ) -> Result<RestingLine, NoMemory>
@@ -91,7 +90,7 @@ pub(crate) fn rest_addition<A: Allocator + Copy, R: Rules>(
 pub(crate) fn rest_new_nodes<A: Allocator + Copy, R: Rules>(
     alloc: Global,
     tree: &Tree<A>,
-    prints: &Prints,
+    prints: &Blocks,
     rules: &R,
     new: &NewNodes,
 ) -> Result<RestingLine, NoMemory>
@@ -112,7 +111,7 @@ pub(crate) fn rest_new_nodes<A: Allocator + Copy, R: Rules>(
 pub(crate) fn rest_choice<A: Allocator + Copy, R: Rules>(
     alloc: Global,
     tree: &Tree<A>,
-    prints: &Prints,
+    prints: &Blocks,
     rules: &R,
     choosing: &Choosing,
 ) -> Result<RestingLine, NoMemory>
@@ -134,7 +133,7 @@ pub(crate) fn rest_choice<A: Allocator + Copy, R: Rules>(
 pub(crate) fn rest_clash<A: Allocator + Copy, R: Rules>(
     alloc: Global,
     tree: &Tree<A>,
-    prints: &Prints,
+    prints: &Blocks,
     rules: &R,
     clash: &Clash,
 ) -> Result<RestingLine, NoMemory>

@@ -11,12 +11,12 @@ ghost use Rattle.search_state.specs.Stepping.{HasBegun, IsStepped, IsRested};
 
 use crate::resting::{RestingLine, rest_clash};
 use crate::{Effort, NoMemory, Progress};
-use blocking::Prints;
 use completion_tree::Tree;
 use search_trace::{Back, Trace};
 use shq_terms::Query;
 use std::alloc::{Allocator, Global};
 use std::mem;
+use step_agenda::Blocks;
 use step_finders::{Clash, Rules, no_step_is_saturated};
 
 /// What one step came to.
@@ -138,7 +138,7 @@ impl<'b, A: Allocator + Copy> Progress<'b, A> {
     }
 
     /// The blocks of the tree's nodes.
-    pub fn prints(&self) -> &Prints
+    pub fn prints(&self) -> &Blocks
         ensures { result.now ≡ self.now.prints }
     {
         &self.prints

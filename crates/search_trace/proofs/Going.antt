@@ -4,7 +4,7 @@ use Rattle.std.specs.FinSet as sets
 use Rattle.std.proofs.lemmas.Bool.{ne_eqb}
 use Rattle.std.proofs.lemmas.List.{reverse-append, reverse-reverse, length-append, length-take-le, map-append, take-map, drop-map}
 use Rattle.lane_sieve.specs.Sets.{NumberSet}
-use Rattle.closing_specs.specs.Noted.{NotedLine, strip}
+use Rattle.search_trace.specs.Noted.{NotedLine, strip}
 use Rattle.search_trace.specs.declared.lines.TraceLine.{TraceLine}
 use Rattle.search_trace.specs.declared.opens.OpenBranching.{OpenBranching}
 use Rattle.search_trace.specs.Lines.{stays}

@@ -4,8 +4,8 @@ use Rattle.std.specs.List.{list_all}
 use Rattle.std.specs.FinSet as sets
 use Rattle.std.proofs.lemmas.Bool.{cases_Bool, and_parts, and_from, eqb-true, eqb-false}
 use Rattle.lane_sieve.specs.Sets.{NumberSet}
-use Rattle.refutation_specs.specs.Line.{Line}
-use Rattle.closing_specs.specs.Noted.{NotedLine, rests_on, strip}
+use Rattle.calculus_specs.specs.Line.{Line}
+use Rattle.search_trace.specs.Noted.{NotedLine, rests_on, strip}
 use Rattle.search_trace.specs.declared.opens.OpenBranching.{OpenBranching}
 use Rattle.search_trace.specs.Trace.{TraceLists, lines_in, whole_marks, without, GoneBack, gone_back, turned_back}
 use Rattle.search_trace.proofs.Going.{back_whole, back_turns, back_out}

@@ -3,15 +3,15 @@ use Rattle.std.proofs.Common.{◌≡◌, ℕ, ◌&&◌, not, Bool, true, false, 
 use Rattle.std.specs.FinSet as sets
 use Rattle.std.proofs.lemmas.Bool.{cases_Bool, eqb-true, eqb-false}
 use Rattle.lane_sieve.specs.Sets.{NumberSet}
-use Rattle.shape_specs.specs.Shape.{Shape}
-use Rattle.shape_specs.specs.Rows.{Theory}
-use Rattle.fact_specs.specs.declared.Fact.{Fact}
-use Rattle.refutation_specs.specs.Line.{Line}
-use Rattle.closing_specs.specs.Premises.{Added, Rule, is_branching, is_clash, is_single}
-use Rattle.closing_specs.specs.Noted.{marked, marks_given, Noted, NotedLine, strip}
-use Rattle.closing_specs.specs.Trail.{MarkedFact, RuleHolds, Puts}
-use Rattle.closing_specs.specs.Places.{Place, IsTraced, IsClosing, opened_place, place_marks, without_place, turned_place}
-use Rattle.closing_specs.proofs.Places.{traced_line, traced_branching, traced_clash, closing_stripped, closing_whole, closing_turned, closing_ended}
+use Rattle.calculus_specs.specs.Shape.{Shape}
+use Rattle.calculus_specs.specs.Rows.{Theory}
+use Rattle.calculus_specs.specs.declared.facts.Fact.{Fact}
+use Rattle.calculus_specs.specs.Line.{Line}
+use Rattle.search_trace.specs.Premises.{Added, Rule, is_branching, is_clash, is_single}
+use Rattle.search_trace.specs.Noted.{marked, marks_given, Noted, NotedLine, strip}
+use Rattle.search_trace.specs.Trail.{MarkedFact, RuleHolds, Puts}
+use Rattle.search_trace.specs.Places.{Place, IsTraced, IsClosing, opened_place, place_marks, without_place, turned_place}
+use Rattle.search_trace.proofs.Places.{traced_line, traced_branching, traced_clash, closing_stripped, closing_whole, closing_turned, closing_ended}
 use Rattle.search_trace.specs.declared.opens.OpenBranching.{OpenBranching}
 use Rattle.search_trace.specs.Trace.{TraceLists, next_line, whole_marks, without, GoneBack, gone_back, turned_latest, at_next, turn_of}
 use Rattle.search_trace.specs.Laws.{IsAt, AreAt, IsTracedAt, IsClosingAt, LinesAreTraced, IsTurnedAt, IsLeft, GoesBack}

@@ -2,21 +2,21 @@
 use Rattle.std.specs.Prelude.{◌≡◌, ℕ, Bool, true, List, [], ◌∷◌, ◌++◌, map, length, Some}
 use Rattle.std.specs.List.{list_all}
 use Rattle.std.specs.FinSet as sets
-use Rattle.shq_base.specs.Concept.{Concept}
+use Rattle.calculus_specs.specs.Concept.{Concept}
 use Rattle.lane_sieve.specs.Sets.{NumberSet}
-use Rattle.shape_specs.specs.Normal.{normal_form, negated_form}
-use Rattle.shape_specs.specs.Shape.{Shape}
-use Rattle.shape_specs.specs.Tree.{tree_of}
-use Rattle.shape_specs.specs.Rows.{Theory}
-use Rattle.fact_specs.specs.declared.Fact.{Fact}
-use Rattle.fact_specs.specs.declared.Fact.TheVariants.{Has}
-use Rattle.refutation_specs.specs.Line.{Line}
-use Rattle.closing_specs.specs.Premises.{Added, Rule, is_branching, is_single}
-use Rattle.closing_specs.specs.Leaves.{leaves}
-use Rattle.closing_specs.specs.Noted.{marked, Noted, noted_start}
-use Rattle.closing_specs.specs.Trail.{MarkedFact, RuleHolds, Puts}
-use Rattle.closing_specs.specs.Back.{step_of}
-use Rattle.closing_specs.specs.Places.{Place, IsTraced, IsClosing, opened_place, turned_place}
+use Rattle.calculus_specs.specs.Normal.{normal_form, negated_form}
+use Rattle.calculus_specs.specs.Shape.{Shape}
+use Rattle.calculus_specs.specs.Tree.{tree_of}
+use Rattle.calculus_specs.specs.Rows.{Theory}
+use Rattle.calculus_specs.specs.declared.facts.Fact.{Fact}
+use Rattle.calculus_specs.specs.declared.facts.Fact.TheVariants.{Has}
+use Rattle.calculus_specs.specs.Line.{Line}
+use Rattle.search_trace.specs.Premises.{Added, Rule, is_branching, is_single}
+use Rattle.search_trace.specs.Leaves.{leaves}
+use Rattle.search_trace.specs.Noted.{marked, Noted, noted_start}
+use Rattle.search_trace.specs.Trail.{MarkedFact, RuleHolds, Puts}
+use Rattle.search_trace.specs.Back.{step_of}
+use Rattle.search_trace.specs.Places.{Place, IsTraced, IsClosing, opened_place, turned_place}
 use Rattle.search_trace.specs.declared.opens.OpenBranching.{OpenBranching}
 use Rattle.search_trace.specs.declared.opens.Back.{Back}
 use Rattle.search_trace.specs.declared.opens.Back.TheVariants.{Turned, Closed}

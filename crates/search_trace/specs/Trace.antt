@@ -2,9 +2,9 @@
 use Rattle.std.specs.Prelude.{◌≡◌, ℕ, ◌+◌, ◌-◌, ◌==◌, ◌≤◌, Bool, true, false, List, [], ◌∷◌, ◌++◌, length, take, drop, map, if◌then◌else◌}
 use Rattle.std.specs.FinSet as sets
 use Rattle.lane_sieve.specs.Sets.{NumberSet}
-use Rattle.refutation_specs.specs.Line.{Line}
+use Rattle.calculus_specs.specs.Line.{Line}
 use Rattle.refutation_tree.specs.RuleLine.{line_of}
-use Rattle.closing_specs.specs.Noted.{NotedLine, strip}
+use Rattle.search_trace.specs.Noted.{NotedLine, strip}
 use Rattle.search_trace.specs.declared.lines.TraceLine.{TraceLine}
 use Rattle.search_trace.specs.declared.opens.OpenBranching.{OpenBranching}
 use Rattle.search_trace.specs.declared.opens.Back.{Back}

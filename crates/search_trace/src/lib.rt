@@ -7,16 +7,26 @@
 //! only what the open alternatives still need.
 //!
 //! A line has a number, by which a branching's choice is named: its mark.
+//!
+//! `closing_laws` are the laws behind that: which lines may be taken out of a trace, and that lines which close everything are a
+//! refutation.
 #![tactic(auto)]
 
+mod closing_laws;
 mod laws;
 mod lines;
 mod opens;
 mod trace;
 
-pub use dependency_sets::Deps;
+pub use axiom_sets::Deps;
+pub use calculus_specs::NoMemory;
+pub use closing_laws::{
+    alternatives_are_put, closed_traces_refute, closing_ends, closing_goes_back,
+    grounded_facts_know, lines_hold_by_all, more_marks_hold, named_parts_serve, numbers_take_out,
+    premises_stay, rules_follow_shapes, rules_say_children, start_is_traced, steps_are_traced,
+    stripped_lines_close, trails_rest_on_choices,
+};
 pub use laws::{going_back_keeps_kinds, traces_begin, traces_go_back, traces_go_on};
 pub use opens::Back;
 pub use refutation_tree::Line;
-pub use shq_base::NoMemory;
 pub use trace::Trace;

@@ -1,6 +1,6 @@
 // The trace of a search.
 ghost use Rattle.std.specs.Prelude.{◌≡◌, ◌∷◌, [], IfOk, OnOk, length, map};
-ghost use Rattle.refutation_specs.specs.Line.Line.{start_line};
+ghost use Rattle.calculus_specs.specs.Line.Line.{start_line};
 ghost use Rattle.refutation_tree.specs.RuleLine.{line_of};
 ghost use Rattle.search_trace.specs.Trace.{begun, lines_in, with_line, with_branching, turned_back, answer_of, is_turn};
 
@@ -22,7 +22,7 @@ pub struct Trace {
 impl Model for Trace {
     ghost use Rattle.std.specs.Prelude.{length, map, reverse};
     ghost use Rattle.std.specs.Coded.{codes};
-    ghost use Rattle.dependency_sets.specs.contracts.deps.Deps as deps;
+    ghost use Rattle.axiom_sets.specs.contracts.deps.Deps as deps;
     ghost use Rattle.search_trace.specs.Trace.{TraceLists, ArePlaced, noted};
 
     ghost Value = { TraceLists };

@@ -4,7 +4,7 @@ use Rattle.std.specs.Prelude.{nat_le}
 use Rattle.std.specs.Cmp.{nat_cmp_total}
 use Rattle.std.specs.FinSet as set
 use Rattle.std.proofs.lemmas.Bool.{true≢false, or_cases, and_parts, eqb-true, le-leb, leb-true}
-use Rattle.shq_base.proofs.Bools.{same_truth}
+use Rattle.lane_sieve.proofs.Bools.{same_truth}
 use Rattle.lane_sieve.specs.Sets.{NumberSet}
 use Rattle.lane_sieve.proofs.Bits.{contains_insert}
 use Rattle.axiom_sets.specs.Sets.{IsFull}

@@ -3,11 +3,11 @@ use Rattle.std.specs.Prelude.{◌≡◌, ◌-◌, ◌++◌, ◌∷◌, [], Bool,
 use Rattle.axiom_sets.specs.Sets.{Limited}
 use Rattle.lane_sieve.specs.Sets.{IsPart}
 use Rattle.set_questions.specs.Meaning.{Meaning}
-use Rattle.set_questions.specs.declared.entail.Ask.{Ask}
-use Rattle.set_questions.specs.declared.entail.Ask.TheVariants.{Yes, No, Spent}
+use Rattle.set_questions.specs.declared.entail.Reply.{Reply}
+use Rattle.set_questions.specs.declared.entail.Reply.TheVariants.{Yes, No, Spent}
 
 -- an answer about the asked set, where `m` is what the object means afterwards
-abbrev pub Answers : Meaning → Limited → Ask → Type 0
+abbrev pub Answers : Meaning → Limited → Reply → Type 0
 Answers m asked (Yes part) = (part.limit ≡ asked.limit) × IsPart part.members asked.members × m.holds part.members × m.shown_yes part.members
 Answers m asked No = (¬ m.holds asked.members) × m.shown_no asked.members
 Answers m asked Spent = m.left ≡ 0
@@ -19,7 +19,7 @@ Takes m m' node false = (m.left ≡ 0) × (m'.taken ≡ m.taken)
 
 -- where something was left, one unit of it was taken, and the set is a yes-set or not; where nothing was left, there is
 -- no answer, and nothing was taken
-abbrev pub Spends : Meaning → Meaning → Ask → Type 0
+abbrev pub Spends : Meaning → Meaning → Reply → Type 0
 Spends m m' (Yes part) = ¬ (m.left ≡ 0) × (m'.left ≡ m.left - 1)
 Spends m m' No = ¬ (m.left ≡ 0) × (m'.left ≡ m.left - 1)
 Spends m m' Spent = (m.left ≡ 0) × (m'.left ≡ m.left)

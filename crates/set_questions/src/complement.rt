@@ -5,7 +5,7 @@ ghost use Rattle.axiom_sets.specs.Sets.{IsWithin};
 ghost use Rattle.pinpointing_specs.specs.Smallest.{rest};
 
 use axiom_sets::AxiomSet;
-use shq_base::NoMemory;
+use lane_sieve::NoMemory;
 use std::alloc::Global;
 
 /// The numbers from 1 to the limit that are not in the set.

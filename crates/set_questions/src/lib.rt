@@ -9,16 +9,20 @@
 //!
 //! Besides there is what the algorithms over any such object share: the first listed set that is part of a set or apart
 //! from it, what a set lacks, and lists in the order of sets.
+//!
+//! Of all sets that were put, an [`Antichain`] keeps those that contain no other one, or those that no other one contains.
 #![tactic(auto)]
 
+mod antichain;
 mod complement;
 mod entail;
 mod places;
 mod set_lists;
 mod set_oracle;
 
+pub use antichain::{Antichain, Kind};
 pub use complement::rest_of;
-pub use entail::{Ask, Entail};
+pub use entail::{Entail, Reply};
 pub use places::{place_apart, place_of_part};
 pub use set_lists::{in_order, put_in_order};
 pub use set_oracle::SetOracle;

@@ -9,7 +9,7 @@ ghost use Rattle.pinpointing_specs.specs.Order.{IsAscending};
 ghost use Rattle.set_questions.specs.InOrder.{HaveOneLimit, IsBetween, HasMore};
 
 use axiom_sets::AxiomSet;
-use shq_base::NoMemory;
+use lane_sieve::NoMemory;
 use std::alloc::Global;
 use std::cmp::Ordering;
 

@@ -1,6 +1,6 @@
 -- Small interpretations, axioms and queries, whose meaning is worked out by hand.
 use Rattle.std.specs.Prelude.{ℕ, ◌&&◌, ◌||◌, eqb, leb, [], ◌∷◌}
-use Rattle.shq_base.specs.Concept.{Concept, bottom, name, complement, at_least}
+use Rattle.shq_terms.specs.Concept.{Concept, bottom, name, complement, at_least}
 use Rattle.shq_terms.specs.declared.axioms.Axiom.{Axiom}
 use Rattle.shq_terms.specs.declared.axioms.Axiom.TheVariants.{SubClassOf, EquivalentClasses, DisjointUnion}
 use Rattle.shq_terms.specs.declared.axioms.Query.{Query}

@@ -3,3 +3,8 @@ pub mod Truth
 pub mod Least
 pub mod Laws
 pub mod Examples
+pub use Rattle.shq_terms.specs.Concept
+pub use Rattle.shq_terms.specs.Depth
+pub use Rattle.shq_terms.specs.Node
+pub use Rattle.shq_terms.specs.declared.axioms.Axiom
+pub use Rattle.shq_terms.specs.declared.axioms.Numbered

@@ -1,6 +1,6 @@
 // Small interpretations in which the meaning of axioms and class expressions was worked out by hand.
 ghost use Rattle.std.specs.Prelude.{IsTrue, IsFalse, [], ◌∷◌};
-ghost use Rattle.shq_base.specs.Concept.{top, name, complement, some_of, all_of, at_most, exactly};
+ghost use Rattle.shq_terms.specs.Concept.{top, name, complement, some_of, all_of, at_most, exactly};
 ghost use Rattle.shq_terms.specs.declared.axioms.Axiom.TheVariants as axioms;
 ghost use Rattle.shq_meaning.specs.Truth.{holds, meets, refutes_at};
 ghost use Rattle.shq_meaning.specs.Examples.{complete, path, two_successors, split, split_twice, others, is_nothing};

@@ -12,3 +12,4 @@ mod laws;
 
 pub use examples::examples_hold;
 pub use laws::{counter_models_refute, entailment_is_monotone};
+pub use shq_terms::{Axiom, Concept, NoMemory, Node, NumberList};

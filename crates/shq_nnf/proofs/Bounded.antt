@@ -1,10 +1,10 @@
 -- The normal forms of cardinalities and of their fillers.
 use Rattle.std.proofs.Common.{◌≡◌, ℕ, zero, suc, ◌<◌, Bool, true, false, not, List, [], ◌∷◌, map, length, get_or, arith, refl, ap, sym, ◌∙◌}
 use Rattle.std.proofs.lemmas.Bool.{and_parts}
-use Rattle.shq_base.specs.Concept.{Concept, intersection, union, parts_of}
-use Rattle.shape_specs.specs.Normal.{and_of, or_of, normal_form, negated_form, normal_forms, negated_forms}
-use Rattle.shape_specs.specs.Shape.{Shape}
-use Rattle.shape_specs.specs.Tree.{tree_of}
+use Rattle.shq_meaning.specs.Concept.{Concept, intersection, union, parts_of}
+use Rattle.calculus_specs.specs.Normal.{and_of, or_of, normal_form, negated_form, normal_forms, negated_forms}
+use Rattle.calculus_specs.specs.Shape.{Shape}
+use Rattle.calculus_specs.specs.Tree.{tree_of}
 use Rattle.shq_nnf.specs.declared.counts.Bound.{Bound}
 use Rattle.shq_nnf.specs.declared.counts.Bound.TheVariants.{AtLeast, AtMost, Exactly}
 use Rattle.shq_nnf.specs.Bounds.{signed_form, joined_form, bound_form, uses_plain, uses_negated}

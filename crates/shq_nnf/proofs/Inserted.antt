@@ -3,7 +3,7 @@ use Rattle.std.proofs.Common.{◌≡◌, ℕ, zero, suc, ◌+◌, ◌<◌, ◌�
 use Rattle.std.specs.Prelude.{slice_get, if◌then◌else◌}
 use Rattle.std.specs.List.{list_any}
 use Rattle.std.proofs.lemmas.List.{map-append}
-use Rattle.shape_specs.specs.Shape.{shape_of, has_parts_below, is_normal, IsTable}
+use Rattle.calculus_specs.specs.Shape.{shape_of, has_parts_below, is_normal, IsTable}
 use Rattle.shq_nnf.specs.declared.shapes.OwnedShape.{OwnedShape}
 use Rattle.shq_nnf.specs.contracts.shapes.OwnedShapePartialEq.TheImpl.{ghosts}
 use Rattle.shq_nnf.specs.Shapes.{form_of_owned}

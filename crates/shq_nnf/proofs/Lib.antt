@@ -9,3 +9,5 @@ pub mod Stable
 pub mod Truth
 pub mod Pairs
 pub mod Meeting
+pub use Rattle.shq_meaning.proofs.Implied
+pub use Rattle.shq_meaning.proofs.Bools

@@ -4,12 +4,12 @@ use Rattle.std.specs.List.{list_all}
 use Rattle.std.proofs.lemmas.Bool.{ltb-true, lt-ltb, and_parts, and_from}
 use Rattle.std.proofs.lemmas.List.{take-take, take_all, take-append-le, take-append-drop, length-take, get_or_push, map-append}
 use Rattle.std.proofs.lemmas.List.Folds.{list_all-append}
-use Rattle.shq_base.specs.Concept.{Concept, top}
-use Rattle.shape_specs.specs.Shape.{Shape, shape_of, has_parts_below, IsTable}
-use Rattle.shape_specs.specs.Shape.Shape.{top as top_shape}
-use Rattle.shape_specs.specs.Tree.{tree_over, trees_of, tree_of}
-use Rattle.shape_specs.proofs.Tree.{tree_of-append, tree_of_new}
-use Rattle.shape_specs.proofs.Unique.{tree_of_shape}
+use Rattle.shq_meaning.specs.Concept.{Concept, top}
+use Rattle.calculus_specs.specs.Shape.{Shape, shape_of, has_parts_below, IsTable}
+use Rattle.calculus_specs.specs.Shape.Shape.{top as top_shape}
+use Rattle.calculus_specs.specs.Tree.{tree_over, trees_of, tree_of}
+use Rattle.calculus_specs.proofs.Tree.{tree_of-append, tree_of_new}
+use Rattle.calculus_specs.proofs.Unique.{tree_of_shape}
 use Rattle.shq_nnf.specs.Numbers.{Extends, IsPut, IsNumber, AreNumbers}
 
 pub extends_itself : (t : List Shape) → Extends t t

@@ -5,12 +5,12 @@ use Rattle.std.specs.List.{list_all, list_any, flat_map}
 use Rattle.std.proofs.lemmas.Bool.{ltb-true, lt-ltb, and_parts, and_from, le-leb}
 use Rattle.std.proofs.lemmas.List.{map-append}
 use Rattle.std.proofs.lemmas.List.Folds.{list_all-append}
-use Rattle.shq_base.specs.Concept.{Concept, top, bottom, intersection, union, parts_of, part_list}
-use Rattle.shape_specs.specs.Normal.{is_top, is_bottom, conjuncts_of, conjuncts, intersected, disjuncts_of, disjuncts, united}
-use Rattle.shape_specs.specs.Shape.{Shape, shape_of, has_parts_below, is_conjunct, is_disjunct, is_normal, IsTable}
-use Rattle.shape_specs.specs.Shape.Shape.{top as top_shape, bottom as bottom_shape, name as name_shape, not_name, intersection as intersection_shape, union as union_shape, some_of as some_shape, all_of as all_shape, at_least as least_shape, at_most as most_shape}
-use Rattle.shape_specs.specs.Tree.{tree_over, trees_of, tree_of}
-use Rattle.shape_specs.proofs.Unique.{part_list-parts_of}
+use Rattle.shq_meaning.specs.Concept.{Concept, top, bottom, intersection, union, parts_of, part_list}
+use Rattle.calculus_specs.specs.Normal.{is_top, is_bottom, conjuncts_of, conjuncts, intersected, disjuncts_of, disjuncts, united}
+use Rattle.calculus_specs.specs.Shape.{Shape, shape_of, has_parts_below, is_conjunct, is_disjunct, is_normal, IsTable}
+use Rattle.calculus_specs.specs.Shape.Shape.{top as top_shape, bottom as bottom_shape, name as name_shape, not_name, intersection as intersection_shape, union as union_shape, some_of as some_shape, all_of as all_shape, at_least as least_shape, at_most as most_shape}
+use Rattle.calculus_specs.specs.Tree.{tree_over, trees_of, tree_of}
+use Rattle.calculus_specs.proofs.Unique.{part_list-parts_of}
 use Rattle.shq_nnf.specs.Opened.{is_top_shape, is_bottom_shape, conjunct_numbers_of, conjunct_numbers, disjunct_numbers_of, disjunct_numbers, is_open_conjunct, is_open_disjunct, open_intersection, open_union}
 use Rattle.shq_nnf.proofs.Numbers.{shape_tree}
 

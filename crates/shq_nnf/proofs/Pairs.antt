@@ -2,10 +2,10 @@
 use Rattle.std.proofs.Common.{◌≡◌, ℕ, zero, suc, ◌+◌, ◌-◌, ◌*◌, ◌<◌, ◌≤◌, List, [], ◌∷◌, map, length, get_or, drop, refl, ap, sym, ◌∙◌, subst, inl, inr, arith, length-append}
 use Rattle.std.proofs.lemmas.Bool.{cases_lt}
 use Rattle.std.proofs.lemmas.List.{get_or_append_left, get_or-append_right, get_or-map, get_or_default, length-map}
-use Rattle.shq_base.specs.Concept.{Concept, top}
-use Rattle.shape_specs.specs.Rows.{Part, inclusion, conjuncts_in, inclusion_of}
-use Rattle.shape_specs.specs.Shape.{Shape}
-use Rattle.shape_specs.specs.Tree.{tree_of}
+use Rattle.shq_meaning.specs.Concept.{Concept, top}
+use Rattle.calculus_specs.specs.Rows.{Part, inclusion, conjuncts_in, inclusion_of}
+use Rattle.calculus_specs.specs.Shape.{Shape}
+use Rattle.calculus_specs.specs.Tree.{tree_of}
 use Rattle.shq_nnf.specs.declared.parts.Part.{Part as Kept}
 use Rattle.shq_nnf.specs.Parts.{StandsForPart, disjoint_pair, disjoint_parts, chain_parts, equivalent_parts, union_parts, part_in}
 use Rattle.shq_nnf.specs.Numbers.{IsNumber, Extends}

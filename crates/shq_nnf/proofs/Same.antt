@@ -2,7 +2,7 @@
 use Rattle.std.proofs.Common.{◌≡◌, ◌&&◌, true, eqb, eq-eqb, refl, ap}
 use Rattle.std.proofs.lemmas.Bool.{eqb-true, and_parts, and_from}
 use Rattle.std.proofs.lemmas.Slice.Eq.{bytes_eq-Decides}
-use Rattle.shape_specs.specs.Shape.Shape.{name, not_name, intersection, union}
+use Rattle.calculus_specs.specs.Shape.Shape.{name, not_name, intersection, union}
 use Rattle.shq_nnf.specs.declared.shapes.OwnedShape.{OwnedShape}
 use Rattle.shq_nnf.specs.declared.shapes.OwnedShape.TheVariants.{Top, Bottom, Name, NotName, And, Or, SomeOf, AllOf, Min, Max}
 use Rattle.shq_nnf.specs.contracts.shapes.OwnedShapePartialEq.TheImpl.{ghosts}

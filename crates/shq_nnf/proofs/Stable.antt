@@ -3,18 +3,18 @@ use Rattle.std.proofs.Common.{◌≡◌, ℕ, zero, suc, ◌+◌, ◌-◌, ◌<�
 use Rattle.std.specs.List.{list_all, list_any, flat_map}
 use Rattle.std.proofs.lemmas.Bool.{ltb-true, leb-true, lt-ltb, and_parts, and_from}
 use Rattle.std.proofs.lemmas.List.{map_more}
-use Rattle.shq_base.specs.Concept.{Concept, intersection, union, some_of, all_of, at_least, at_most, parts_of}
-use Rattle.shape_specs.specs.Normal.{and_of, or_of, normal_form, negated_form, least_form}
-use Rattle.shape_specs.specs.Shape.{Shape, shape_of, has_parts_below, is_conjunct, is_disjunct, is_normal, IsTable}
-use Rattle.shape_specs.specs.Shape.Shape.{top as top_shape, bottom as bottom_shape, name as name_shape, not_name, intersection as intersection_shape, union as union_shape, some_of as some_shape, all_of as all_shape, at_least as least_shape, at_most as most_shape}
-use Rattle.shape_specs.specs.Tree.{tree_over, trees_of, tree_of}
-use Rattle.shape_specs.specs.Rows.{conjuncts_in}
+use Rattle.shq_meaning.specs.Concept.{Concept, intersection, union, some_of, all_of, at_least, at_most, parts_of}
+use Rattle.calculus_specs.specs.Normal.{and_of, or_of, normal_form, negated_form, least_form}
+use Rattle.calculus_specs.specs.Shape.{Shape, shape_of, has_parts_below, is_conjunct, is_disjunct, is_normal, IsTable}
+use Rattle.calculus_specs.specs.Shape.Shape.{top as top_shape, bottom as bottom_shape, name as name_shape, not_name, intersection as intersection_shape, union as union_shape, some_of as some_shape, all_of as all_shape, at_least as least_shape, at_most as most_shape}
+use Rattle.calculus_specs.specs.Tree.{tree_over, trees_of, tree_of}
+use Rattle.calculus_specs.specs.Rows.{conjuncts_in}
 use Rattle.shq_nnf.specs.Opened.{is_top_shape, is_bottom_shape, conjunct_numbers_of, disjunct_numbers_of, open_intersection, open_union}
 use Rattle.shq_nnf.specs.Bounds.{joined_form}
 use Rattle.shq_nnf.specs.Numbers.{Extends, IsNumber, AreNumbers}
 use Rattle.shq_nnf.proofs.Numbers.{shape_tree, tree_stays, numbers_stay, numbers_push}
 use Rattle.shq_nnf.proofs.Bounded.{normal_list, negated_list}
-use Rattle.shape_specs.proofs.Unique.{part_list-parts_of}
+use Rattle.calculus_specs.proofs.Unique.{part_list-parts_of}
 use Rattle.shq_nnf.proofs.Opened.{conjunct_listed_of, conjunct_trees, disjunct_trees, intersection_without, union_without, intersection_of_many, union_of_many}
 
 conjunct_alone : (c : ℕ) (s : Shape) → is_conjunct s ≡ true → conjunct_numbers_of c s ≡ c ∷ []

@@ -1,9 +1,9 @@
 -- Normal forms of a class expression and its complement by one word, and what those of cardinalities use.
 use Rattle.std.specs.Prelude.{ℕ, zero, suc, Bool, true, false, List, [], ◌∷◌, map}
-use Rattle.shq_base.specs.Concept.{Concept, some_of, all_of}
-use Rattle.shape_specs.specs.Normal.{and_of, or_of, least_form, fewer_form, most_form, more_form, normal_form, negated_form}
-use Rattle.shape_specs.specs.Shape.{Shape}
-use Rattle.shape_specs.specs.Tree.{tree_of}
+use Rattle.shq_meaning.specs.Concept.{Concept, some_of, all_of}
+use Rattle.calculus_specs.specs.Normal.{and_of, or_of, least_form, fewer_form, most_form, more_form, normal_form, negated_form}
+use Rattle.calculus_specs.specs.Shape.{Shape}
+use Rattle.calculus_specs.specs.Tree.{tree_of}
 use Rattle.shq_nnf.specs.Numbers.{IsNumber}
 use Rattle.shq_nnf.specs.declared.counts.Bound.{Bound}
 use Rattle.shq_nnf.specs.declared.counts.Bound.TheVariants.{AtLeast, AtMost, Exactly}

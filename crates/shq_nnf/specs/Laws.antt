@@ -1,10 +1,10 @@
 -- What normal forms, tables and parts mean.
 use Rattle.std.specs.Prelude.{◌≡◌, ℕ, ◌<◌, not, false, List, length}
-use Rattle.shq_base.specs.Concept.{Concept}
-use Rattle.shq_terms.specs.declared.axioms.Axiom.{Axiom}
-use Rattle.shape_specs.specs.Normal.{normal_form, negated_form}
-use Rattle.shape_specs.specs.Shape.{Shape, IsTable}
-use Rattle.shape_specs.specs.Tree.{tree_of}
+use Rattle.shq_meaning.specs.Concept.{Concept}
+use Rattle.shq_meaning.specs.Axiom.{Axiom}
+use Rattle.calculus_specs.specs.Normal.{normal_form, negated_form}
+use Rattle.calculus_specs.specs.Shape.{Shape, IsTable}
+use Rattle.calculus_specs.specs.Tree.{tree_of}
 use Rattle.shq_meaning.specs.Truth.{Interpretation, holds, meets}
 use Rattle.shq_nnf.specs.Parts.{axiom_parts}
 use Rattle.shq_nnf.specs.Meeting.{meets_parts, is_role_axiom}

@@ -6,3 +6,9 @@ pub mod Bounds
 pub mod Meeting
 pub mod Laws
 pub mod Parts
+pub use Rattle.shq_meaning.specs.Below
+pub use Rattle.shq_meaning.specs.Truth
+pub use Rattle.calculus_specs.specs.Roles
+pub use Rattle.shq_meaning.specs.Concept
+pub use Rattle.shq_meaning.specs.Axiom
+pub use Rattle.shq_meaning.specs.Numbered

@@ -1,9 +1,9 @@
 -- What it is that a finite interpretation meets a part of an axiom.
 use Rattle.std.specs.Prelude.{Bool, true, false, List}
 use Rattle.std.specs.List.{list_all}
-use Rattle.shq_terms.specs.declared.axioms.Axiom.{Axiom}
-use Rattle.shq_terms.specs.declared.axioms.Axiom.TheVariants.{SubRole, EquivalentRoles, Transitive}
-use Rattle.shape_specs.specs.Rows.{Part, inclusion, range}
+use Rattle.shq_meaning.specs.Axiom.{Axiom}
+use Rattle.shq_meaning.specs.Axiom.TheVariants.{SubRole, EquivalentRoles, Transitive}
+use Rattle.calculus_specs.specs.Rows.{Part, inclusion, range}
 use Rattle.shq_meaning.specs.Below.{all_below}
 use Rattle.shq_meaning.specs.Truth.{Interpretation, implies, holds}
 

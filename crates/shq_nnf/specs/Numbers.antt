@@ -1,9 +1,9 @@
 -- What the numbers of a table stand for, and how a table grows.
 use Rattle.std.specs.Prelude.{◌≡◌, ℕ, ◌<◌, nat_lt, Bool, ◌⊎◌, true, List, [], ◌∷◌, ◌++◌, length, map, take}
 use Rattle.std.specs.List.{list_all}
-use Rattle.shq_base.specs.Concept.{Concept}
-use Rattle.shape_specs.specs.Shape.{Shape, shape_of}
-use Rattle.shape_specs.specs.Tree.{tree_of}
+use Rattle.shq_meaning.specs.Concept.{Concept}
+use Rattle.calculus_specs.specs.Shape.{Shape, shape_of}
+use Rattle.calculus_specs.specs.Tree.{tree_of}
 
 -- the later table begins with the earlier one, so that each number keeps its shape
 abbrev pub Extends : List Shape → List Shape → Type 0

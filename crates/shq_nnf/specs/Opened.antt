@@ -1,9 +1,9 @@
 -- The members of an intersection or a union of numbers, as numbers.
 use Rattle.std.specs.Prelude.{ℕ, Bool, true, false, List, [], ◌∷◌, if◌then◌else◌}
 use Rattle.std.specs.List.{flat_map, list_any}
-use Rattle.shq_base.specs.Concept.{Concept, top as top_concept, bottom as bottom_concept}
-use Rattle.shape_specs.specs.Normal.{is_top, is_bottom, intersected, united}
-use Rattle.shape_specs.specs.Shape.{Shape, shape_of, top, bottom, intersection, union}
+use Rattle.shq_meaning.specs.Concept.{Concept, top as top_concept, bottom as bottom_concept}
+use Rattle.calculus_specs.specs.Normal.{is_top, is_bottom, intersected, united}
+use Rattle.calculus_specs.specs.Shape.{Shape, shape_of, top, bottom, intersection, union}
 
 abbrev pub is_top_shape : Shape → Bool
 is_top_shape top = true

@@ -1,12 +1,12 @@
 -- The parts of an axiom, in order.
 use Rattle.std.specs.Prelude.{◌≡◌, ℕ, Bool, true, ◌&&◌, List, [], ◌∷◌, ◌++◌, map, slice_index_or}
-use Rattle.shq_base.specs.Concept.{Concept, top, complement, union, some_of, at_most, parts_of}
-use Rattle.shq_terms.specs.declared.axioms.Axiom.{Axiom}
-use Rattle.shq_terms.specs.declared.axioms.Axiom.TheVariants.{SubClassOf, EquivalentClasses, DisjointClasses, DisjointUnion, SubRole, EquivalentRoles, Domain, Range, Functional, Transitive}
-use Rattle.shape_specs.specs.Shape.{Shape}
-use Rattle.shape_specs.specs.Normal.{normal_form}
-use Rattle.shape_specs.specs.Tree.{tree_of}
-use Rattle.shape_specs.specs.Rows.{Part, inclusion, range, conjuncts_in, inclusion_of, range_of}
+use Rattle.shq_meaning.specs.Concept.{Concept, top, complement, union, some_of, at_most, parts_of}
+use Rattle.shq_meaning.specs.Axiom.{Axiom}
+use Rattle.shq_meaning.specs.Axiom.TheVariants.{SubClassOf, EquivalentClasses, DisjointClasses, DisjointUnion, SubRole, EquivalentRoles, Domain, Range, Functional, Transitive}
+use Rattle.calculus_specs.specs.Shape.{Shape}
+use Rattle.calculus_specs.specs.Normal.{normal_form}
+use Rattle.calculus_specs.specs.Tree.{tree_of}
+use Rattle.calculus_specs.specs.Rows.{Part, inclusion, range, conjuncts_in, inclusion_of, range_of}
 use Rattle.shq_nnf.specs.declared.parts.Part.{Part as Kept}
 use Rattle.shq_nnf.specs.declared.parts.Part.TheVariants as K
 use Rattle.shq_nnf.specs.Bounds.{signed_form}

@@ -1,7 +1,7 @@
 // The complements of numbers.
 ghost use Rattle.std.specs.Prelude.{◌≡◌, ◌<◌, ◌≤◌, nat_lt, IsTrue, IfOk, length};
 ghost use Rattle.std.specs.List.{list_all};
-ghost use Rattle.shape_specs.specs.Shape.{shape_of, IsTable};
+ghost use Rattle.calculus_specs.specs.Shape.{shape_of, IsTable};
 ghost use Rattle.shq_nnf.specs.Bounds.{joined_form, complement_quantifier, negated_tree, negated_trees};
 ghost use Rattle.shq_nnf.specs.Shapes.{form_of_owned};
 ghost use Rattle.shq_nnf.specs.Numbers.{Extends, IsNumber, AreNumbers};

@@ -1,7 +1,7 @@
 // The table itself: what it holds, and how a shape is put into it.
 ghost use Rattle.std.specs.Prelude.{◌≡◌, ℕ, ◌+◌, ◌<◌, ◌≤◌, [], ◌∷◌, ◌++◌, IsTrue, IfOk, OnOk, OnErr, MatchOption, length, take};
-ghost use Rattle.shape_specs.specs.Shape.{shape_of, has_parts_below, is_normal, IsTable};
-ghost use Rattle.shape_specs.specs.Shape.Shape.{top as plain_top};
+ghost use Rattle.calculus_specs.specs.Shape.{shape_of, has_parts_below, is_normal, IsTable};
+ghost use Rattle.calculus_specs.specs.Shape.Shape.{top as plain_top};
 ghost use Rattle.shq_nnf.specs.Shapes.{form_of, form_of_owned, concept_of};
 ghost use Rattle.shq_nnf.specs.Numbers.{Extends, IsPut, IsNumber};
 
@@ -21,7 +21,7 @@ pub struct Concepts {
 
 impl Model for Concepts {
     ghost use Rattle.std.specs.Prelude.{List, map, length, ◌<◌, ◌^◌};
-    ghost use Rattle.shape_specs.specs.Shape.{Shape as Form, IsTable};
+    ghost use Rattle.calculus_specs.specs.Shape.{Shape as Form, IsTable};
     ghost use Rattle.shq_nnf.specs.Shapes.{form_of_owned};
 
     ghost Value = { List Form };
@@ -120,7 +120,8 @@ impl Concepts {
         }
     }
 
-    /// The first numbers alone.
+    /// Takes out all numbers but the first `len`, which keep their trees. For a caller that has put concepts and gives them up
+    /// before anything names their numbers, as where a later step is refused: a number that is handed on keeps its tree for good.
     pub fn truncate(&mut self, len: u32)
         requires { 0 < len }
         ensures { self.new ≡ take len self.old }

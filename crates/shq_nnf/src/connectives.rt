@@ -1,8 +1,8 @@
 // Intersections and unions of numbers.
 ghost use Rattle.std.specs.Prelude.{◌≡◌, ◌<◌, nat_lt, IsTrue, IfOk, OnOk, OnErr, ◌++◌, length};
 ghost use Rattle.std.specs.List.{list_all, list_any};
-ghost use Rattle.shape_specs.specs.Shape.{shape_of};
-ghost use Rattle.shape_specs.specs.Normal.{and_of, or_of};
+ghost use Rattle.calculus_specs.specs.Shape.{shape_of};
+ghost use Rattle.calculus_specs.specs.Normal.{and_of, or_of};
 ghost use Rattle.shq_nnf.specs.Numbers.{Extends, IsNumber, trees_at};
 ghost use Rattle.shq_nnf.specs.Bounds.{joined_form};
 ghost use Rattle.shq_nnf.specs.Opened.{is_top_shape, is_bottom_shape, conjunct_numbers_at, disjunct_numbers_at, conjunct_numbers, disjunct_numbers, is_open_conjunct, is_open_disjunct, open_intersection, open_union};

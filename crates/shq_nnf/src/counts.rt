@@ -1,8 +1,8 @@
 // Quantifiers and cardinalities over numbers.
 ghost use Rattle.std.specs.Prelude.{◌≡◌, ◌<◌, ◌≤◌, IfOk, OnErr, length, [], ◌∷◌, true};
-ghost use Rattle.shq_base.specs.Concept.{at_most, top, bottom, name, complement};
-ghost use Rattle.shape_specs.specs.Normal.{least_form};
-ghost use Rattle.shape_specs.specs.Tree.{tree_of};
+ghost use Rattle.shq_meaning.specs.Concept.{at_most, top, bottom, name, complement};
+ghost use Rattle.calculus_specs.specs.Normal.{least_form};
+ghost use Rattle.calculus_specs.specs.Tree.{tree_of};
 ghost use Rattle.shq_nnf.specs.declared.counts.Bound.TheVariants.{AtLeast, AtMost};
 ghost use Rattle.shq_nnf.specs.Numbers.{Extends, IsNumber};
 ghost use Rattle.shq_nnf.specs.Bounds.{signed_form, quantified_form, IsBounded, uses_plain, uses_negated};

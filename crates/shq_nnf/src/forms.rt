@@ -1,15 +1,15 @@
 // Normal forms of class expressions and of their complements.
 ghost use Rattle.std.specs.Prelude.{◌≡◌, ◌<◌, ◌≤◌, IsTrue, IfOk, OnOk, OnErr, length, take, true};
-ghost use Rattle.shq_base.specs.Concept.{parts_of};
-ghost use Rattle.shape_specs.specs.Normal.{normal_form, negated_form};
-ghost use Rattle.shape_specs.specs.Tree.{tree_of};
+ghost use Rattle.shq_meaning.specs.Concept.{parts_of};
+ghost use Rattle.calculus_specs.specs.Normal.{normal_form, negated_form};
+ghost use Rattle.calculus_specs.specs.Tree.{tree_of};
 ghost use Rattle.shq_nnf.specs.Numbers.{Extends, IsNumber, IsNumberIf, AreNumbers};
 ghost use Rattle.shq_nnf.specs.Counts.{has_counts_within, have_counts_within};
 ghost use Rattle.shq_nnf.specs.Bounds.{signed_form, signed_forms, joined_form, quantifier_form, bounded_form};
 
 use crate::counts::Bound;
 use crate::{Concepts, NoMemory};
-use shq_terms::{Concept, Node};
+use shq_meaning::{Concept, Node};
 
 impl Concepts {
     /// The number of the normal form of a class expression whose cardinalities are at most 100.

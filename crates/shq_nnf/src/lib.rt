@@ -25,4 +25,4 @@ pub use concepts::Concepts;
 pub use laws::{axioms_are_their_parts, normal_forms_keep_truth, numbers_are_normal};
 pub use parts::{Part, part_count};
 pub use shapes::{OwnedShape, Shape};
-pub use shq_base::NoMemory;
+pub use shq_meaning::NoMemory;

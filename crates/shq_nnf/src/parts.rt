@@ -1,15 +1,15 @@
 // The parts of axioms, in numbers of a table.
 ghost use Rattle.std.specs.Prelude.{◌≡◌, ◌+◌, ◌-◌, ◌<◌, ◌≤◌, IsTrue, IfOk, OnErr, length, slice_index_or};
-ghost use Rattle.shq_base.specs.Concept.{parts_of, some_of, at_most, top};
-ghost use Rattle.shape_specs.specs.Rows.{conjuncts_in, inclusion_of, range_of};
-ghost use Rattle.shape_specs.specs.Tree.{tree_of};
+ghost use Rattle.shq_meaning.specs.Concept.{parts_of, some_of, at_most, top};
+ghost use Rattle.calculus_specs.specs.Rows.{conjuncts_in, inclusion_of, range_of};
+ghost use Rattle.calculus_specs.specs.Tree.{tree_of};
 ghost use Rattle.shq_nnf.specs.Counts.{has_counts_within, have_counts_within};
 ghost use Rattle.shq_nnf.specs.Numbers.{Extends, IsNumber, AreNumbers};
 ghost use Rattle.shq_nnf.specs.Parts.{StandsForPart, covering, signed_inclusion, inclusion_at, disjoint_pair, disjoint_parts, equivalent_parts, union_parts, part_in, axiom_parts, axiom_has_counts_within};
 
 use crate::shapes::Shape;
 use crate::{Concepts, NoMemory};
-use shq_terms::{Axiom, Concept, NumberList};
+use shq_meaning::{Axiom, Concept, NumberList};
 use std::alloc::Global;
 
 /// What an axiom says of one element, in numbers of a table.

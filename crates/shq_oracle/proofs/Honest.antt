@@ -1,13 +1,13 @@
 -- What a search that ends says is honest.
 use Rattle.std.proofs.Common.{◌≡◌, ℕ, zero, suc, ◌+◌, ◌≤◌, List, [], ◌∷◌, ◌++◌, take, Some, ap, sym, subst, ◌∙◌, arith, inl, inr}
 use Rattle.std.specs.Prelude.{slice_get, Result, Ok, Err, IfOk}
-use Rattle.shq_base.specs.declared.memory.NoMemory.{NoMemory}
+use Rattle.shq_terms.specs.NoMemory.{NoMemory}
 use Rattle.axiom_sets.specs.Sets.{Limited, member_list}
 use Rattle.shq_terms.specs.declared.axioms.Query.{Query}
 use Rattle.ontology_limits.specs.Limits.{IsInLimit}
-use Rattle.refutation_truth.proofs.Entailed.{entailed}
+use Rattle.tableau.proofs.Entailed.{entailed}
 use Rattle.refutation_tree.specs.RefutationLists.{RefutationLists}
-use Rattle.counter_models.proofs.Laws.{saturated_does_not_entail}
+use Rattle.tableau.proofs.CounterModelLaws.{saturated_does_not_entail}
 use Rattle.tableau.specs.SearchState.{SearchState, context_of, trail_of, IsReachedBy}
 use Rattle.tableau.specs.declared.search.End.{End}
 use Rattle.tableau.specs.declared.search.End.TheVariants.{Saturated, Closed, Spent as OutOfFuel}
@@ -16,8 +16,8 @@ use Rattle.run_log.specs.Trails.{TrailLists}
 use Rattle.run_log.specs.HonestLog.{IsAxiomSet, FollowsIn, IsHonestYes, IsHonestNo, GoesOn}
 use Rattle.run_log.proofs.Named.{more}
 use Rattle.run_log.specs.declared.entry.TestEnd.TheVariants as E
-use Rattle.search_rules.specs.RuleLists.{RuleLists}
-use Rattle.shq_oracle.specs.declared.answer.Answer.TheVariants.{Refuted, Spent}
+use Rattle.tableau.specs.RuleLists.{RuleLists}
+use Rattle.shq_oracle.specs.declared.answer.Answer.TheVariants as Answered
 use Rattle.shq_oracle.specs.declared.found.Found.{Found}
 use Rattle.shq_oracle.specs.Decided.{IsProof, IsFound, IsFoundBy, MayGoOn, HasEnded}
 
@@ -61,7 +61,7 @@ module _ (s : SearchState) (reached : IsReachedBy s) where
   honest_spent h = record { rows = (context_of s).rows; reached = reached; next = h.0; is_legal = h.1 }
 
   pub found_yes : (r : RefutationLists) → IsAxiomSet s.rules.ontology s.rules.set → IsAtRefutation r s → (u : Limited) → u ≡ r.axioms → (k : ℕ) → k ≡ s.steps
-      → (fuel : ℕ) → s.steps ≤ fuel → IsFoundBy s fuel (record { answer = Refuted r; steps = k; ended = E.Yes u })
+      → (fuel : ℕ) → s.steps ≤ fuel → IsFoundBy s fuel (record { answer = Answered.Entailed r; steps = k; ended = E.Yes u })
   found_yes r is_set c u e k f fuel le =
       let honest : IsHonestYes s.rules.ontology s.rules.set s.query k r.axioms = subst (λ (n : ℕ). IsHonestYes s.rules.ontology s.rules.set s.query n r.axioms) (sym f) (honest_yes r is_set c) in
       record {
@@ -72,7 +72,7 @@ module _ (s : SearchState) (reached : IsReachedBy s) where
       }
 
   pub found_spent : MayGoOn s → (t : TrailLists) → t ≡ record { items = trail_of s; table = s.rules.table } → (k : ℕ) → k ≡ s.steps
-      → (fuel : ℕ) → s.steps ≡ fuel → IsFoundBy s fuel (record { answer = Spent; steps = k; ended = E.Spent t })
+      → (fuel : ℕ) → s.steps ≡ fuel → IsFoundBy s fuel (record { answer = Answered.Undecided; steps = k; ended = E.Spent t })
   found_spent h t e k f fuel whole =
       let honest : GoesOn s.rules.ontology s.rules.set s.query k (record { items = trail_of s; table = s.rules.table }) =
       subst (λ (n : ℕ). GoesOn s.rules.ontology s.rules.set s.query n (record { items = trail_of s; table = s.rules.table })) (sym f) (honest_spent h) in

@@ -4,12 +4,12 @@ use Rattle.lane_sieve.specs.Sets.{IsPart}
 use Rattle.axiom_sets.specs.Sets.{Limited, member_list}
 use Rattle.shq_terms.specs.Listed.{Listed}
 use Rattle.shq_terms.specs.declared.axioms.Query.{Query}
-use Rattle.refutation_specs.specs.Valid.{IsRefutation}
+use Rattle.calculus_specs.specs.Valid.{IsRefutation}
 use Rattle.refutation_tree.specs.RefutationLists.{RefutationLists}
 use Rattle.refutation_tree.specs.ReadBack.{IsWritable}
 use Rattle.finite_model.specs.ModelLists.{ModelLists, meaning}
 use Rattle.finite_model.specs.Written.{uses_listed_names}
-use Rattle.counter_models.specs.Laws.{IsCounterModel}
+use Rattle.tableau.specs.CounterModelLaws.{IsCounterModel}
 use Rattle.tableau_specs.specs.declared.Item.{Item}
 use Rattle.tableau_specs.specs.Steps.{IsLegal}
 use Rattle.tableau.specs.declared.search.End.{End}
@@ -23,7 +23,7 @@ use Rattle.run_log.specs.declared.entry.TestEnd.TheVariants as E
 use Rattle.run_log.specs.Entries.{spent_of}
 use Rattle.run_log.specs.HonestLog.{theory_in, IsHonestEnd, IsHonestEntry}
 use Rattle.shq_oracle.specs.declared.answer.Answer.{Answer}
-use Rattle.shq_oracle.specs.declared.answer.Answer.TheVariants.{Refuted, Model, Spent}
+use Rattle.shq_oracle.specs.declared.answer.Answer.TheVariants as Answered
 use Rattle.shq_oracle.specs.declared.found.Found.{Found}
 use Rattle.shq_oracle.specs.OracleLists.{OracleLists}
 
@@ -40,15 +40,15 @@ pub record IsRefuting (o : Listed) (s : Limited) (q : Query) (m : ModelLists) : 
 
 -- the evidence of an answer shows whether the query follows from the set
 abbrev pub IsAnswer : Listed → Limited → Query → Answer → Type 0
-IsAnswer o s q (Refuted r) = IsProof o s q r
-IsAnswer o s q (Model m) = IsRefuting o s q m
-IsAnswer o s q Spent = Unit {0}
+IsAnswer o s q (Answered.Entailed r) = IsProof o s q r
+IsAnswer o s q (Answered.NotEntailed m) = IsRefuting o s q m
+IsAnswer o s q Answered.Undecided = Unit {0}
 
 -- the end of a test is that of its answer; a yes has the axioms that the refutation names
 abbrev pub Matches : Answer → TestEnd → Type 0
-Matches (Refuted r) (E.Yes u) = u ≡ r.axioms
-Matches (Model m) E.No = Unit {0}
-Matches Spent (E.Spent t) = Unit {0}
+Matches (Answered.Entailed r) (E.Yes u) = u ≡ r.axioms
+Matches (Answered.NotEntailed m) E.No = Unit {0}
+Matches Answered.Undecided (E.Spent t) = Unit {0}
 Matches a e = ⊥
 
 -- one entry more: an honest test of the set and the query, which ended as it was answered
@@ -61,14 +61,14 @@ pub record AppendsTest (o : Listed) (s : Limited) (q : Query) (before after : Li
 
 -- where the budget is the answer, nothing of it is left
 abbrev pub LeavesNothing : OracleLists → Answer → Type 0
-LeavesNothing l Spent = spent_of l.log ≡ l.budget
+LeavesNothing l Answered.Undecided = spent_of l.log ≡ l.budget
 LeavesNothing l _ = Unit {0}
 
 -- ---- one search
 
 -- whether so many steps are those that such an answer may take, of as many as there are
 abbrev pub IsFueled : ℕ → ℕ → Answer → Type 0
-IsFueled fuel steps Spent = steps ≡ fuel
+IsFueled fuel steps Answered.Undecided = steps ≡ fuel
 IsFueled fuel steps _ = steps ≤ fuel
 
 -- what a search finds, with so much fuel

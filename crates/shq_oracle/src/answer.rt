@@ -7,9 +7,9 @@ use refutation_tree::Refutation;
 #[derive(Drop)]
 pub enum Answer {
     /// It follows: this refutes that something is in the query's subclass and not in its superclass.
-    Refuted(Refutation),
+    Entailed(Refutation),
     /// It does not follow: this interpretation meets the axioms, and has such an element.
-    Model(Interp),
+    NotEntailed(Interp),
     /// The budget was spent.
-    Spent,
+    Undecided,
 }

@@ -2,7 +2,7 @@
 ghost use Rattle.std.specs.Prelude.{◌≡◌, ◌≤◌, ℕ, false, IfOk};
 ghost use Rattle.ontology_limits.specs.Limits.{IsInLimit};
 ghost use Rattle.completion_tree.specs.Trail.{items_of};
-ghost use Rattle.search_rules.specs.RuleLists.{AreNumbersOf};
+ghost use Rattle.tableau.specs.RuleLists.{AreNumbersOf};
 ghost use Rattle.tableau.specs.Steps.{IsAtModel, IsAtRefutation};
 ghost use Rattle.run_log.specs.HonestLog.{IsAxiomSet};
 ghost use Rattle.shq_oracle.specs.Decided.{IsFound, IsFoundBy, MayGoOn, HasEnded};
@@ -12,10 +12,9 @@ use bumpalo::Bump;
 use completion_tree::Tree;
 use model_builder::build;
 use refutation_tree::Refutation;
-use search_rules::SearchRules;
 use shq_terms::Query;
 use std::alloc::{Allocator, Global};
-use tableau::{End, Search};
+use tableau::{End, Search, SearchRules};
 use tableau_specs::Item;
 
 /// What a search answers, in how many steps, and how its test ended.
@@ -103,7 +102,7 @@ fn with_model<A: Allocator + Copy>(
     let steps = search.steps();
     let model = build(alloc, search.tree(), search.prints(), search.rules(), query)?;
     Ok(Found {
-        answer: Answer::Model(model),
+        answer: Answer::NotEntailed(model),
         steps,
         ended: TestEnd::No,
     })
@@ -122,7 +121,7 @@ fn with_refutation<A: Allocator + Copy>(
     let steps = search.steps();
     let used = refutation.axioms_used().try_clone()?;
     Ok(Found {
-        answer: Answer::Refuted(refutation),
+        answer: Answer::Entailed(refutation),
         steps,
         ended: TestEnd::Yes(used),
     })
@@ -138,7 +137,7 @@ fn with_trail<A: Allocator + Copy>(alloc: Global, search: &Search<'_, A>) -> Res
     let items = items(alloc, search.tree())?;
     let trail = KeptTrail::new(alloc, items, search.rules().concepts())?;
     Ok(Found {
-        answer: Answer::Spent,
+        answer: Answer::Undecided,
         steps,
         ended: TestEnd::Spent(trail),
     })

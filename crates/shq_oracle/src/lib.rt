@@ -15,4 +15,4 @@ mod oracle;
 pub use answer::Answer;
 pub use oracle::Oracle;
 pub use run_log::{Entry, KeptTrail, RunLog, TestEnd};
-pub use shq_base::NoMemory;
+pub use shq_terms::NoMemory;

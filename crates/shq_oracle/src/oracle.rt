@@ -11,10 +11,10 @@ ghost use Rattle.shq_oracle.specs.Decided.{IsAnswer, AppendsTest, LeavesNothing,
 use crate::found::{Found, search};
 use crate::{Answer, Entry, NoMemory, RunLog};
 use axiom_sets::AxiomSet;
-use search_rules::SearchRules;
 use shq_terms::{Ontology, Query};
 use std::alloc::Global;
 use std::marker::Model;
+use tableau::SearchRules;
 
 /// Answers whether queries follow from sets of an ontology's axioms, within a budget of steps, and keeps the log of it.
 ///
@@ -31,7 +31,7 @@ pub struct Oracle<'a> {
 impl<'a> Model for Oracle<'a> {
     ghost use Rattle.std.specs.Prelude.{◌≡◌, ◌≤◌, IfSome};
     ghost use Rattle.std.specs.Coded.{codes};
-    ghost use Rattle.shq_base.specs.Code.{concept_code};
+    ghost use Rattle.shq_terms.specs.Code.{concept_code};
     ghost use Rattle.axiom_sets.specs.Sets.{limited_code};
     ghost use Rattle.run_log.specs.Entries.{spent_of};
     ghost use Rattle.shq_oracle.specs.OracleLists.{OracleLists};

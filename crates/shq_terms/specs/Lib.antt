@@ -4,3 +4,7 @@ pub mod Listed
 pub mod Names
 pub mod Distinct
 pub mod Uses
+pub use Rattle.shq_base.specs.Concept
+pub use Rattle.shq_base.specs.Code
+pub use Rattle.shq_base.specs.Depth
+pub use Rattle.shq_base.specs.declared.memory.NoMemory

@@ -2,8 +2,8 @@
 ghost use Rattle.std.specs.Prelude.{◌≡◌, ◌<◌, IfSome};
 ghost use Rattle.step_finders.specs.Reasons.{IsAddition};
 
+use calculus_specs::Fact;
 use completion_tree::{Item, Tree};
-use fact_specs::Fact;
 use shq_nnf::Shape;
 use std::alloc::Allocator;
 use step_finders::{

@@ -3,8 +3,8 @@ ghost use Rattle.std.specs.Prelude.{◌≡◌, ◌<◌, IfOk, IfSome};
 ghost use Rattle.step_finders.specs.Choosing.{IsChoosable};
 
 use crate::NoMemory;
+use calculus_specs::Fact;
 use completion_tree::{Item, Tree};
-use fact_specs::Fact;
 use shq_nnf::Shape;
 use std::alloc::{Allocator, Global};
 use step_finders::{Choosing, Rules, State, find_most_at, find_most_by, find_union_by};

@@ -7,12 +7,17 @@
 //! which all parts but one clash at once comes first, as in unit propagation. What is found can be done. That nothing is found
 //! says nothing, since a join or a block that goes can make an old fact count again: then `step_finders::find_step` looks
 //! through everything.
+//!
+//! [`TreeState`] is a completion tree with the blocks of its nodes, as the state that finders look through.
 #![tactic(auto)]
 
 mod additions;
 mod agenda;
 mod branchings;
 mod makings;
+mod tree_state;
 
 pub use agenda::Agenda;
+pub use blocking::{Blocks, blocks_stay, current_before, still_current};
 pub use step_finders::NoMemory;
+pub use tree_state::TreeState;

@@ -3,8 +3,8 @@ ghost use Rattle.std.specs.Prelude.{◌≡◌, ◌<◌, IfOk, IfSome};
 ghost use Rattle.step_finders.specs.Making.{IsMaking};
 
 use crate::NoMemory;
+use calculus_specs::Fact;
 use completion_tree::{Item, Tree};
-use fact_specs::Fact;
 use std::alloc::{Allocator, Global};
 use step_finders::{NewNodes, Rules, State, find_making_by};
 

@@ -3,13 +3,13 @@ use Rattle.std.proofs.Common.{◌≡◌, ℕ, ◌<◌, eqb, true, false, List, l
 use Rattle.std.specs.List.{Contains}
 use Rattle.std.proofs.lemmas.Bool.{eqb-true}
 use Rattle.std.proofs.lemmas.List.Elements.{All-contains}
-use Rattle.shape_specs.specs.Shape.{Shape, shape_of}
-use Rattle.shape_specs.specs.Shape.Shape.{intersection, all_of}
-use Rattle.fact_specs.specs.declared.Fact.{Fact}
-use Rattle.fact_specs.specs.State.{node_count, has, is_successor}
+use Rattle.calculus_specs.specs.Shape.{Shape, shape_of}
+use Rattle.calculus_specs.specs.Shape.Shape.{intersection, all_of}
+use Rattle.calculus_specs.specs.declared.facts.Fact.{Fact}
+use Rattle.calculus_specs.specs.State.{node_count, has, is_successor}
 use Rattle.tableau_specs.specs.Steps.{SearchContext, below_of}
 use Rattle.tableau_specs.specs.Steps.Adds.{by_and, by_all, by_carry}
-use Rattle.fact_specs.specs.Listed.{IsLabel}
+use Rattle.calculus_specs.specs.Listed.{IsLabel}
 use Rattle.step_finders.specs.declared.reason.Addition.{Addition}
 use Rattle.step_finders.specs.declared.reason.Reason.{Reason}
 use Rattle.step_finders.specs.declared.reason.Reason.TheVariants as R

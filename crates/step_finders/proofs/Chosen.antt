@@ -4,12 +4,12 @@ use Rattle.std.specs.Prelude.{slice_get}
 use Rattle.std.specs.List.{list_any, All}
 use Rattle.std.proofs.lemmas.Bool.{eqb-true, cases_Bool, and_parts}
 use Rattle.std.proofs.lemmas.List.Elements.{All-nil, All-cons, All-head, All-tail, All-contains}
-use Rattle.shape_specs.specs.Shape.{Shape, shape_of, is_normal, IsTable}
-use Rattle.shape_specs.specs.Shape.Shape.{top, bottom, name, not_name, intersection, union, some_of, all_of, at_least, at_most}
-use Rattle.shape_specs.specs.Tree.{IsComplement}
-use Rattle.shape_specs.proofs.Unique.{numbers_unique}
-use Rattle.fact_specs.specs.declared.Fact.{Fact}
-use Rattle.fact_specs.specs.State.{node_count, has, is_successor, all_apart}
+use Rattle.calculus_specs.specs.Shape.{Shape, shape_of, is_normal, IsTable}
+use Rattle.calculus_specs.specs.Shape.Shape.{top, bottom, name, not_name, intersection, union, some_of, all_of, at_least, at_most}
+use Rattle.calculus_specs.specs.Tree.{IsComplement}
+use Rattle.calculus_specs.proofs.Unique.{numbers_unique}
+use Rattle.calculus_specs.specs.declared.facts.Fact.{Fact}
+use Rattle.calculus_specs.specs.State.{node_count, has, is_successor, all_apart}
 use Rattle.tableau_specs.specs.declared.Branch.{Branch}
 use Rattle.tableau_specs.specs.Clash.{filled_successors}
 use Rattle.tableau_specs.specs.Steps.{SearchContext, below_of, MayBranch}
@@ -17,15 +17,15 @@ use Rattle.tableau_specs.specs.Steps.MayBranch.{on_union, on_filler, on_pair}
 use Rattle.tableau_specs.specs.Steps.IsAlternative.{of_union, of_filler, of_joining}
 use Rattle.tableau_specs.proofs.Listed.{listed}
 use Rattle.tableau_specs.proofs.PlainClash.{filled_are_successors, filled_have_filler}
-use Rattle.fact_specs.specs.Listed.{AreEdges, IsLabel}
+use Rattle.calculus_specs.specs.Listed.{AreEdges, IsLabel}
 use Rattle.step_finders.specs.Filled.{AreFilled, AreUnapart}
 use Rattle.step_finders.specs.declared.choosing.Choosing.TheVariants as C
 use Rattle.step_finders.specs.Choosing.{IsChoosable, LacksComplement, IsDecided, IsUndecided, AllDecided, UndecidedAtEnd, NoPair, IsPair, IsRoleTo, NoUnionByShape, NoMostByShape, NoUnionAt, NoMostAt, NoUnion, NoMost, NothingToChoose}
 use Rattle.step_finders.proofs.Edges.{where_any, next_at, has_rep, rep_twice, next_of_kind, edge_to_next}
 use Rattle.step_finders.proofs.Members.{same_length, same_apart, same_unapart, pair_apart, contains_member}
-use Rattle.fact_specs.specs.Joins.{rep}
-use Rattle.fact_specs.proofs.Joined.{rep-le}
-use Rattle.clash_specs.proofs.Moved.{has_at, edge_from, filled_at}
+use Rattle.calculus_specs.specs.Joins.{rep}
+use Rattle.calculus_specs.proofs.Joined.{rep-le}
+use Rattle.tableau_specs.proofs.Moved.{has_at, edge_from, filled_at}
 use Rattle.step_finders.specs.Choosing.IsDecided.{by_filler, by_complement}
 
 -- ---- complements

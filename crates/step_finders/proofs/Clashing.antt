@@ -1,25 +1,25 @@
 -- Why there is a plain clash, and why there is none.
 use Rattle.step_finders.specs.Clashing.{IsMost, AreMosts, IsOfParent, HasMost, AnswersOverrun, NotOverrun, NoneByShape, NoneAbove, NoClashBy, NoneOver, NoClashByNew, NoClashByApart, NoClashByJoin, ShownClashesArePlain}
 use Rattle.step_finders.specs.declared.clash.Clash.TheVariants as C
-use Rattle.clash_specs.specs.Near.{IsOverrun, ClashesBy, ClashesByNew, ClashesByApart, ClashesByJoin}
-use Rattle.clash_specs.specs.Near.ClashesByNew.{new_bottom, new_overrun}
-use Rattle.clash_specs.specs.Near.ClashesByApart.{apart_overrun}
-use Rattle.clash_specs.specs.Near.ClashesByJoin.{join_names, join_most, join_filler}
+use Rattle.tableau_specs.specs.Near.{IsOverrun, ClashesBy, ClashesByNew, ClashesByApart, ClashesByJoin}
+use Rattle.tableau_specs.specs.Near.ClashesByNew.{new_bottom, new_overrun}
+use Rattle.tableau_specs.specs.Near.ClashesByApart.{apart_overrun}
+use Rattle.tableau_specs.specs.Near.ClashesByJoin.{join_names, join_most, join_filler}
 use Rattle.tableau_specs.specs.Clash.IsPlainClash.{plain_bottom, plain_names, plain_most}
-use Rattle.fact_specs.specs.Listed.{IsLabel}
-use Rattle.clash_specs.specs.Near.ClashesBy.{by_bottom, by_name, by_complement, by_most, by_filler}
-use Rattle.shape_specs.specs.Shape.Shape.{bottom, name, not_name, at_most}
-use Rattle.fact_specs.specs.State.{node_count, first_origin, parent, has, all_apart}
-use Rattle.fact_specs.specs.Joins.{rep}
+use Rattle.calculus_specs.specs.Listed.{IsLabel}
+use Rattle.tableau_specs.specs.Near.ClashesBy.{by_bottom, by_name, by_complement, by_most, by_filler}
+use Rattle.calculus_specs.specs.Shape.Shape.{bottom, name, not_name, at_most}
+use Rattle.calculus_specs.specs.State.{node_count, first_origin, parent, has, all_apart}
+use Rattle.calculus_specs.specs.Joins.{rep}
 use Rattle.step_finders.proofs.Edges.{where_any, rep_twice}
-use Rattle.clash_specs.proofs.Moved.{overrun_at}
+use Rattle.tableau_specs.proofs.Moved.{overrun_at}
 use Rattle.std.proofs.lemmas.Bool.{cases_Bool, eqb-true, ltb-true, and_parts}
 use Rattle.std.specs.List.{All, list_all}
-use Rattle.clash_specs.specs.Near.{speaks_below, speak_of_nodes}
-use Rattle.fact_specs.specs.declared.Fact.TheVariants.{Has, Edge, Apart, Same}
+use Rattle.tableau_specs.specs.Near.{speaks_below, speak_of_nodes}
+use Rattle.calculus_specs.specs.declared.facts.Fact.TheVariants.{Has, Edge, Apart, Same}
 use Rattle.std.proofs.Common.{ltb, ◌&&◌, [], ◌∷◌, ◌≡◌, ℕ, ◌<◌, ◌≤◌, Bool, true, false, List, length, ap, ◌∙◌, sym, subst, arith, inl, inr, eqb, get_or, Some, None}
-use Rattle.shape_specs.specs.Shape.{Shape, shape_of}
-use Rattle.fact_specs.specs.declared.Fact.{Fact}
+use Rattle.calculus_specs.specs.Shape.{Shape, shape_of}
+use Rattle.calculus_specs.specs.declared.facts.Fact.{Fact}
 use Rattle.tableau_specs.specs.Clash.{filled_successors}
 use Rattle.tableau_specs.specs.Steps.{SearchContext, below_of}
 use Rattle.step_finders.specs.Filled.{AreFilled, AreUnapart}

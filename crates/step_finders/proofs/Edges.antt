@@ -3,15 +3,15 @@ use Rattle.std.proofs.Common.{◌≡◌, ℕ, zero, suc, ◌+◌, ◌<◌, ◌�
 use Rattle.std.specs.List.{list_any, range_with_len}
 use Rattle.std.proofs.lemmas.Bool.{eqb-true, or_cases, and_parts, cases_Bool, or_right}
 use Rattle.std.proofs.lemmas.Bool.Decides.{nat_tests}
-use Rattle.fact_specs.specs.declared.Fact.{Fact}
-use Rattle.fact_specs.specs.declared.Fact.TheVariants.{Has, Edge, Apart, Same}
-use Rattle.fact_specs.specs.State.{node_count, gives_edge, has, has_edge, is_successor}
+use Rattle.calculus_specs.specs.declared.facts.Fact.{Fact}
+use Rattle.calculus_specs.specs.declared.facts.Fact.TheVariants.{Has, Edge, Apart, Same}
+use Rattle.calculus_specs.specs.State.{node_count, gives_edge, has, has_edge, is_successor}
 use Rattle.tableau_specs.proofs.PlainClash.{successor_is_node, successor_has_edge}
 use Rattle.tableau_specs.specs.Steps.{SearchContext, below_of}
-use Rattle.fact_specs.specs.Joins.{rep}
-use Rattle.fact_specs.proofs.Joined.{rep-joined, joined-rep}
-use Rattle.clash_specs.proofs.Moved.{has_at}
-use Rattle.fact_specs.specs.Listed.{AreEdges}
+use Rattle.calculus_specs.specs.Joins.{rep}
+use Rattle.calculus_specs.proofs.Joined.{rep-joined, joined-rep}
+use Rattle.tableau_specs.proofs.Moved.{has_at}
+use Rattle.calculus_specs.specs.Listed.{AreEdges}
 use Rattle.step_finders.specs.Found.{AllEndsHave, LacksAtEnd}
 use Rattle.step_finders.specs.Reasons.{IsEdge}
 

@@ -5,18 +5,18 @@ use Rattle.std.specs.List.{list_all, range_with_len, All, Contains}
 use Rattle.std.proofs.lemmas.Bool.{eqb-true, ltb-true, and_parts}
 use Rattle.std.proofs.lemmas.List.Elements.{All-contains}
 use Rattle.std.proofs.lemmas.Option.{get_or_from_slice_get, slice_get_within, cond_some, same_Some}
-use Rattle.shq_base.specs.Concept.{Concept, top, bottom, name, complement, intersection, union, some_of, all_of, at_least, at_most, exactly}
-use Rattle.shape_specs.specs.Shape.{shape_of, IsTable}
-use Rattle.shape_specs.specs.Shape.Shape.{name as name_shape}
-use Rattle.shape_specs.specs.Tree.{tree_of}
-use Rattle.shape_specs.specs.Rows.{Part, Trigger, Row, IsRowOf, IsChoice, part_at, conjunct_at, is_name, is_ascending, are_name_positions, row_concept, row_of}
-use Rattle.shape_specs.specs.Rows.Part.{inclusion}
-use Rattle.shape_specs.specs.Rows.Trigger.{always, names, edge, end_of}
-use Rattle.fact_specs.specs.declared.Fact.{Fact}
-use Rattle.fact_specs.specs.Joins.{rep}
-use Rattle.fact_specs.specs.State.{node_count, has, has_edge, is_successor, label}
-use Rattle.fact_specs.specs.Listed.{IsLabel, AreEdges}
-use Rattle.fact_specs.proofs.State.{any-label}
+use Rattle.shq_terms.specs.Concept.{Concept, top, bottom, name, complement, intersection, union, some_of, all_of, at_least, at_most, exactly}
+use Rattle.calculus_specs.specs.Shape.{shape_of, IsTable}
+use Rattle.calculus_specs.specs.Shape.Shape.{name as name_shape}
+use Rattle.calculus_specs.specs.Tree.{tree_of}
+use Rattle.calculus_specs.specs.Rows.{Part, Trigger, Row, IsRowOf, IsChoice, part_at, conjunct_at, is_name, is_ascending, are_name_positions, row_concept, row_of}
+use Rattle.calculus_specs.specs.Rows.Part.{inclusion}
+use Rattle.calculus_specs.specs.Rows.Trigger.{always, names, edge, end_of}
+use Rattle.calculus_specs.specs.declared.facts.Fact.{Fact}
+use Rattle.calculus_specs.specs.Joins.{rep}
+use Rattle.calculus_specs.specs.State.{node_count, has, has_edge, is_successor, label}
+use Rattle.calculus_specs.specs.Listed.{IsLabel, AreEdges}
+use Rattle.calculus_specs.proofs.State.{any-label}
 use Rattle.tableau_specs.specs.Steps.{SearchContext, below_of, is_named, has_name, has_names, is_triggered, is_used_at, Adds}
 use Rattle.tableau_specs.specs.Steps.Adds.{by_row}
 use Rattle.step_finders.specs.declared.state.PlainRow.{PlainRow}

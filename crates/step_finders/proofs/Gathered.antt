@@ -5,14 +5,14 @@ use Rattle.std.proofs.lemmas.Bool.{eqb-true}
 use Rattle.std.proofs.lemmas.Cmp.{nat_eq_equiv}
 use Rattle.std.proofs.lemmas.List.{take_more, take_all, get_or_default}
 use Rattle.std.proofs.lemmas.Map.Keys.{IsDistinct-push, apart_from_distinct}
-use Rattle.shq_base.proofs.Bools.{or_absorbs}
-use Rattle.fact_specs.specs.declared.Fact.{Fact}
-use Rattle.fact_specs.specs.State.{has}
-use Rattle.fact_specs.proofs.State.{eqb-comm}
-use Rattle.clash_specs.proofs.After.{any-snoc}
-use Rattle.fact_specs.specs.Joins.{rep}
+use Rattle.shq_terms.proofs.Bools.{or_absorbs}
+use Rattle.calculus_specs.specs.declared.facts.Fact.{Fact}
+use Rattle.calculus_specs.specs.State.{has}
+use Rattle.calculus_specs.proofs.State.{eqb-comm}
+use Rattle.tableau_specs.proofs.After.{any-snoc}
+use Rattle.calculus_specs.specs.Joins.{rep}
 use Rattle.step_finders.proofs.Edges.{has_rep}
-use Rattle.fact_specs.specs.Listed.{AreEdges}
+use Rattle.calculus_specs.specs.Listed.{AreEdges}
 use Rattle.step_finders.specs.Filled.{AreFilled, IsLater, AreUnapart}
 
 -- ---- a number more

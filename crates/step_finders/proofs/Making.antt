@@ -2,22 +2,22 @@
 use Rattle.std.proofs.Common.{◌≡◌, ℕ, zero, suc, ◌+◌, ◌-◌, ◌<◌, ◌≤◌, ◌&&◌, eqb, leb, ltb, Bool, true, false, List, [], ◌∷◌, length, get_or, refl, ap, ◌∙◌, sym, subst, arith, inl, inr, eq-eqb}
 use Rattle.std.specs.List.{list_any, list_all, range_with_len}
 use Rattle.std.proofs.lemmas.Bool.{eqb-true, leb-true, ltb-true, lt-ltb, cases_Bool, cases_lt, and_parts, and_right}
-use Rattle.fact_specs.specs.declared.Fact.{Fact}
-use Rattle.fact_specs.specs.Joins.{rep}
-use Rattle.fact_specs.specs.State.{node_count, has, has_edge, is_successor, all_apart}
+use Rattle.calculus_specs.specs.declared.facts.Fact.{Fact}
+use Rattle.calculus_specs.specs.Joins.{rep}
+use Rattle.calculus_specs.specs.State.{node_count, has, has_edge, is_successor, all_apart}
 use Rattle.tableau_specs.specs.Clash.{filled_successors}
 use Rattle.tableau_specs.specs.Steps.{SearchContext, below_of, IsOpen, Generates, is_run}
 use Rattle.tableau_specs.specs.Clash.{is_filled_successor}
 use Rattle.tableau_specs.specs.Steps.Generates.{by_some, by_least}
-use Rattle.fact_specs.specs.Listed.{AreEdges, IsLabel}
+use Rattle.calculus_specs.specs.Listed.{AreEdges, IsLabel}
 use Rattle.step_finders.specs.declared.make.NewNodes.{NewNodes}
 use Rattle.step_finders.specs.Filled.{AreFilled}
 use Rattle.step_finders.specs.Making.{is_among, runs_among, AnswersAmong, Asks, IsMaking, HasFiller, HasRun, AnswersRun, NoMakingByShape, NoMakingAt, NothingToMake}
-use Rattle.shape_specs.specs.Shape.{Shape, shape_of, is_normal, IsTable}
-use Rattle.shape_specs.specs.Shape.Shape.{some_of, at_least}
+use Rattle.calculus_specs.specs.Shape.{Shape, shape_of, is_normal, IsTable}
+use Rattle.calculus_specs.specs.Shape.Shape.{some_of, at_least}
 use Rattle.tableau_specs.proofs.Listed.{listed}
-use Rattle.fact_specs.proofs.State.{eqb-comm}
-use Rattle.clash_specs.proofs.Moved.{edge_to}
+use Rattle.calculus_specs.proofs.State.{eqb-comm}
+use Rattle.tableau_specs.proofs.Moved.{edge_to}
 use Rattle.step_finders.proofs.Edges.{where_any, next_at, rep_twice, has_rep}
 use Rattle.step_finders.proofs.Members.{member_filled}
 

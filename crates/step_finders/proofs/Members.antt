@@ -9,9 +9,9 @@ use Rattle.std.proofs.lemmas.List.Kept.{AllPairs-filter}
 use Rattle.std.proofs.lemmas.Map.Keys.{IsDistinct-from_apart, IsDistinct-head, IsDistinct-tail}
 use Rattle.std.proofs.lemmas.Map.Made.{length-from_same_keys}
 use Rattle.std.proofs.Math.Bool.{and-false}
-use Rattle.fact_specs.specs.declared.Fact.{Fact}
-use Rattle.fact_specs.specs.State.{node_count, has, is_successor, successors, are_apart, all_apart}
-use Rattle.fact_specs.proofs.State.{apart_back}
+use Rattle.calculus_specs.specs.declared.facts.Fact.{Fact}
+use Rattle.calculus_specs.specs.State.{node_count, has, is_successor, successors, are_apart, all_apart}
+use Rattle.calculus_specs.proofs.State.{apart_back}
 use Rattle.tableau_specs.specs.Clash.{filled_successors}
 use Rattle.tableau_specs.proofs.PlainClash.{successor_is_node}
 use Rattle.step_finders.specs.Filled.{AreFilled, AreUnapart}

@@ -2,16 +2,16 @@
 use Rattle.std.proofs.Common.{◌≡◌, ℕ, ◌<◌, ◌&&◌, eqb, Bool, true, List, get_or, ap, ◌∙◌, sym, subst, arith, eq-eqb}
 use Rattle.std.specs.List.{list_all}
 use Rattle.std.proofs.lemmas.List.Elements.{All-contains}
-use Rattle.shape_specs.specs.Shape.{Shape, shape_of, IsTable}
-use Rattle.shape_specs.specs.Shape.Shape.{top, bottom, name, not_name, intersection, union, some_of, all_of, at_least, at_most}
-use Rattle.fact_specs.specs.declared.Fact.{Fact}
-use Rattle.fact_specs.specs.Joins.{rep}
-use Rattle.fact_specs.specs.State.{node_count, has, has_edge, is_successor}
-use Rattle.fact_specs.proofs.Joined.{rep-le}
+use Rattle.calculus_specs.specs.Shape.{Shape, shape_of, IsTable}
+use Rattle.calculus_specs.specs.Shape.Shape.{top, bottom, name, not_name, intersection, union, some_of, all_of, at_least, at_most}
+use Rattle.calculus_specs.specs.declared.facts.Fact.{Fact}
+use Rattle.calculus_specs.specs.Joins.{rep}
+use Rattle.calculus_specs.specs.State.{node_count, has, has_edge, is_successor}
+use Rattle.calculus_specs.proofs.Joined.{rep-le}
 use Rattle.tableau_specs.specs.Steps.{SearchContext, below_of, Adds, IsCarried}
 use Rattle.tableau_specs.specs.Steps.Adds.{by_and, by_all, by_carry, by_row}
 use Rattle.tableau_specs.proofs.Listed.{listed}
-use Rattle.clash_specs.proofs.Moved.{has_at, edge_from, edge_to}
+use Rattle.tableau_specs.proofs.Moved.{has_at, edge_from, edge_to}
 use Rattle.step_finders.specs.Found.{Files, AreFiled, HoldsRows, NoneByShape, NothingFrom, NothingToAdd}
 use Rattle.step_finders.proofs.Edges.{rep_twice}
 

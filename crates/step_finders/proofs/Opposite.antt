@@ -1,14 +1,14 @@
 -- Complements of classes.
 use Rattle.std.proofs.Common.{◌≡◌, ℕ, ◌<◌, true, List, length, ap, ◌∙◌, sym}
-use Rattle.shq_base.specs.Concept.{Concept, complement as not_concept, name as name_concept}
-use Rattle.shape_specs.specs.Normal.{negated_form}
-use Rattle.shape_specs.specs.Shape.{Shape, shape_of, IsTable}
-use Rattle.shape_specs.specs.Shape.Shape.{top, bottom, name, not_name, intersection, union, some_of, all_of, at_least, at_most}
-use Rattle.shape_specs.specs.Tree.{tree_of, trees_of, tree_over, IsComplement}
-use Rattle.shape_specs.proofs.Unique.{tree_of_shape}
+use Rattle.shq_terms.specs.Concept.{Concept, complement as not_concept, name as name_concept}
+use Rattle.calculus_specs.specs.Normal.{negated_form}
+use Rattle.calculus_specs.specs.Shape.{Shape, shape_of, IsTable}
+use Rattle.calculus_specs.specs.Shape.Shape.{top, bottom, name, not_name, intersection, union, some_of, all_of, at_least, at_most}
+use Rattle.calculus_specs.specs.Tree.{tree_of, trees_of, tree_over, IsComplement}
+use Rattle.calculus_specs.proofs.Unique.{tree_of_shape}
 use Rattle.tableau_specs.proofs.Listed.{listed}
-use Rattle.fact_specs.specs.declared.Fact.{Fact}
-use Rattle.fact_specs.specs.State.{has, node_count}
+use Rattle.calculus_specs.specs.declared.facts.Fact.{Fact}
+use Rattle.calculus_specs.specs.State.{has, node_count}
 use Rattle.tableau_specs.specs.Steps.{SearchContext}
 use Rattle.step_finders.specs.Choosing.{LacksComplement}
 use Rattle.step_finders.specs.Clashing.{HasBoth, NoneByShape}

@@ -1,11 +1,11 @@
 -- What there is to choose, and what it means that there is nothing.
 use Rattle.std.specs.Prelude.{◌≡◌, ℕ, ◌<◌, ◌==◌, true, false, List, length}
 use Rattle.std.specs.List.{list_any}
-use Rattle.shape_specs.specs.Shape.{Shape, shape_of}
-use Rattle.shape_specs.specs.Shape.Shape.{union, at_most}
-use Rattle.shape_specs.specs.Tree.{IsComplement}
-use Rattle.fact_specs.specs.declared.Fact.{Fact}
-use Rattle.fact_specs.specs.State.{node_count, has, is_successor, all_apart}
+use Rattle.calculus_specs.specs.Shape.{Shape, shape_of}
+use Rattle.calculus_specs.specs.Shape.Shape.{union, at_most}
+use Rattle.calculus_specs.specs.Tree.{IsComplement}
+use Rattle.calculus_specs.specs.declared.facts.Fact.{Fact}
+use Rattle.calculus_specs.specs.State.{node_count, has, is_successor, all_apart}
 use Rattle.tableau_specs.specs.declared.Branch.{Branch}
 use Rattle.tableau_specs.specs.declared.Branch.TheVariants.{Or, Choose, Pair}
 use Rattle.tableau_specs.specs.Clash.{filled_successors}

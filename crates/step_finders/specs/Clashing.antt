@@ -1,14 +1,14 @@
 -- A plain clash that a step makes, and what it means that there is none.
 use Rattle.std.specs.Prelude.{◌≡◌, ℕ, ◌<◌, ◌==◌, Bool, true, false, List, All, length}
 use Rattle.std.specs.List.{list_any}
-use Rattle.shape_specs.specs.Shape.{Shape, shape_of}
-use Rattle.shape_specs.specs.Shape.Shape.{bottom, name, not_name, at_most}
-use Rattle.fact_specs.specs.declared.Fact.{Fact}
-use Rattle.fact_specs.specs.State.{node_count, has, has_edge, all_apart}
+use Rattle.calculus_specs.specs.Shape.{Shape, shape_of}
+use Rattle.calculus_specs.specs.Shape.Shape.{bottom, name, not_name, at_most}
+use Rattle.calculus_specs.specs.declared.facts.Fact.{Fact}
+use Rattle.calculus_specs.specs.State.{node_count, has, has_edge, all_apart}
 use Rattle.tableau_specs.specs.Clash.{filled_successors, IsPlainClash}
 use Rattle.tableau_specs.specs.Steps.{SearchContext, below_of}
 use Rattle.tableau_specs.specs.StepLaws.{IsChild}
-use Rattle.clash_specs.specs.Near.{IsOverrun, ClashesBy, ClashesByNew, ClashesByApart, ClashesByJoin}
+use Rattle.tableau_specs.specs.Near.{IsOverrun, ClashesBy, ClashesByNew, ClashesByApart, ClashesByJoin}
 use Rattle.step_finders.specs.declared.clash.Clash.{Clash}
 use Rattle.step_finders.specs.declared.clash.Clash.TheVariants.{Bottom, Both, Most}
 

@@ -1,8 +1,8 @@
 -- The successors that an 'at most' counts, as a list in any order.
 use Rattle.std.specs.Prelude.{◌≡◌, ℕ, ◌==◌, ◌&&◌, ◌<◌, Bool, false, List, Contains, length, get_or, slice_index}
 use Rattle.std.specs.List.{list_any, IsDistinct}
-use Rattle.fact_specs.specs.declared.Fact.{Fact}
-use Rattle.fact_specs.specs.State.{has, is_successor, are_apart}
+use Rattle.calculus_specs.specs.declared.facts.Fact.{Fact}
+use Rattle.calculus_specs.specs.State.{has, is_successor, are_apart}
 
 -- the list has each successor of x by a role below s that has e, once
 pub record AreFilled (below : ℕ → ℕ → Bool) (fs : List (Fact ℕ)) (x s e : ℕ) (ys : List ℕ) : Type 0 where

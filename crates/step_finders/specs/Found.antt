@@ -1,17 +1,17 @@
 -- What a full look through a state finds, and what it means that it finds nothing.
 use Rattle.std.specs.Prelude.{◌≡◌, ℕ, ◌<◌, ◌==◌, true, false, List, All, Contains, map, Some, slice_get}
 use Rattle.std.specs.List.{list_any, list_all}
-use Rattle.shq_base.specs.Concept.{Concept}
-use Rattle.shape_specs.specs.Rows.{Row, Trigger, part_at, conjunct_at}
-use Rattle.shape_specs.specs.Rows.Part.{inclusion}
-use Rattle.shape_specs.specs.Rows.Trigger.{always, names, edge, end_of}
+use Rattle.shq_terms.specs.Concept.{Concept}
+use Rattle.calculus_specs.specs.Rows.{Row, Trigger, part_at, conjunct_at}
+use Rattle.calculus_specs.specs.Rows.Part.{inclusion}
+use Rattle.calculus_specs.specs.Rows.Trigger.{always, names, edge, end_of}
 use Rattle.shq_nnf.specs.Numbers.{AreNumbers}
 use Rattle.step_finders.specs.declared.state.PlainRow.{PlainRow}
 use Rattle.step_finders.specs.declared.state.NamedRow.{NamedRow}
-use Rattle.shape_specs.specs.Shape.{Shape, shape_of}
-use Rattle.shape_specs.specs.Shape.Shape.{intersection, all_of}
-use Rattle.fact_specs.specs.declared.Fact.{Fact}
-use Rattle.fact_specs.specs.State.{node_count, has, is_successor}
+use Rattle.calculus_specs.specs.Shape.{Shape, shape_of}
+use Rattle.calculus_specs.specs.Shape.Shape.{intersection, all_of}
+use Rattle.calculus_specs.specs.declared.facts.Fact.{Fact}
+use Rattle.calculus_specs.specs.State.{node_count, has, is_successor}
 use Rattle.tableau_specs.specs.Steps.{SearchContext, below_of, Adds, IsCarried, is_used_at}
 
 -- a pair of a transitive role t below s and a concept 'all t e'

@@ -1,11 +1,11 @@
 -- Why a node gets a concept: what the rule line of the step asks.
 use Rattle.std.specs.Prelude.{◌≡◌, ℕ, ◌<◌, ◌==◌, true, false, List, Some, Contains, slice_get}
 use Rattle.std.specs.List.{list_all}
-use Rattle.shape_specs.specs.Rows.Trigger.{always, edge, end_of}
-use Rattle.shape_specs.specs.Shape.{shape_of}
-use Rattle.shape_specs.specs.Shape.Shape.{intersection, all_of}
-use Rattle.fact_specs.specs.declared.Fact.{Fact}
-use Rattle.fact_specs.specs.State.{node_count, has, has_edge}
+use Rattle.calculus_specs.specs.Rows.Trigger.{always, edge, end_of}
+use Rattle.calculus_specs.specs.Shape.{shape_of}
+use Rattle.calculus_specs.specs.Shape.Shape.{intersection, all_of}
+use Rattle.calculus_specs.specs.declared.facts.Fact.{Fact}
+use Rattle.calculus_specs.specs.State.{node_count, has, has_edge}
 use Rattle.tableau_specs.specs.Steps.{SearchContext, Adds}
 use Rattle.step_finders.specs.declared.state.PlainRow.{PlainRow}
 use Rattle.step_finders.specs.declared.state.NamedRow.{NamedRow}

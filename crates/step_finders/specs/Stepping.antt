@@ -1,6 +1,6 @@
 -- The next step of a search, and when there is none.
 use Rattle.std.specs.Prelude.{ℕ, List}
-use Rattle.fact_specs.specs.declared.Fact.{Fact}
+use Rattle.calculus_specs.specs.declared.facts.Fact.{Fact}
 use Rattle.tableau_specs.specs.declared.Item.{Item}
 use Rattle.tableau_specs.specs.Items.{facts_of}
 use Rattle.tableau_specs.specs.Steps.{SearchContext, IsSaturated, HasPlainClash}

@@ -1,7 +1,7 @@
 // Add: a concept that a rule without branches gives a node.
 ghost use Rattle.std.specs.Prelude.{◌≡◌, ◌<◌, MatchOption};
-ghost use Rattle.fact_specs.specs.Joins.{rep};
-ghost use Rattle.fact_specs.specs.State.{node_count};
+ghost use Rattle.calculus_specs.specs.Joins.{rep};
+ghost use Rattle.calculus_specs.specs.State.{node_count};
 ghost use Rattle.step_finders.specs.Found.{NothingToAdd, NothingFrom};
 ghost use Rattle.step_finders.specs.Reasons.{IsAddition};
 

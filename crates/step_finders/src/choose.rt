@@ -1,10 +1,10 @@
 // Choose: the parts of a union, a filler or its complement, or whether two nodes are one.
 ghost use Rattle.std.specs.Prelude.{◌≡◌, ◌<◌, true, false, MatchOption, IfOk, IsTrue};
 ghost use Rattle.std.specs.List.{list_any};
-ghost use Rattle.shape_specs.specs.Shape.{shape_of};
-ghost use Rattle.shape_specs.specs.Shape.Shape.{union, at_most};
-ghost use Rattle.fact_specs.specs.Joins.{rep};
-ghost use Rattle.fact_specs.specs.State.{node_count, has as holds, is_successor};
+ghost use Rattle.calculus_specs.specs.Shape.{shape_of};
+ghost use Rattle.calculus_specs.specs.Shape.Shape.{union, at_most};
+ghost use Rattle.calculus_specs.specs.Joins.{rep};
+ghost use Rattle.calculus_specs.specs.State.{node_count, has as holds, is_successor};
 ghost use Rattle.tableau_specs.specs.Steps.{below_of};
 ghost use Rattle.step_finders.specs.Choosing.{IsChoosable, HasComplement, LacksComplement, IsDecided, IsUndecided, AllDecided, UndecidedAtEnd, NoPair, IsPair, IsRoleTo, NoUnionByShape, NoMostByShape, NoUnionAt, NoMostAt, NoUnion, NoMost, NothingToChoose};
 

@@ -1,11 +1,11 @@
 // A plain clash that a step makes.
 ghost use Rattle.std.specs.Prelude.{◌≡◌, ℕ, ◌<◌, ◌↔◌, true, MatchOption, IfOk, IsTrue};
 ghost use Rattle.std.specs.List.{All};
-ghost use Rattle.shape_specs.specs.Shape.{shape_of};
-ghost use Rattle.shape_specs.specs.Shape.Shape.{bottom};
-ghost use Rattle.fact_specs.specs.State.{node_count, has as holds};
-ghost use Rattle.shape_specs.specs.Tree.{IsComplement};
-ghost use Rattle.clash_specs.specs.Near.{speak_of_nodes};
+ghost use Rattle.calculus_specs.specs.Shape.{shape_of};
+ghost use Rattle.calculus_specs.specs.Shape.Shape.{bottom};
+ghost use Rattle.calculus_specs.specs.State.{node_count, has as holds};
+ghost use Rattle.calculus_specs.specs.Tree.{IsComplement};
+ghost use Rattle.tableau_specs.specs.Near.{speak_of_nodes};
 ghost use Rattle.step_finders.specs.Choosing.{LacksComplement};
 ghost use Rattle.step_finders.specs.Clashing.{IsShown, AnswersOverrun, NotOverrun, IsMost, NoneByShape, NoneAbove, NoClashBy, IsOfParent, NoneOver, NoClashByNew, NoClashByApart, NoClashByJoin, ShownClashesArePlain};
 

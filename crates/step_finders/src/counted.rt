@@ -1,7 +1,7 @@
 // The successors that an 'at most' counts.
 ghost use Rattle.std.specs.Prelude.{◌≡◌, ℕ, ◌==◌, ◌&&◌, ◌||◌, IfOk, OnOk, IsTrue};
 ghost use Rattle.std.specs.List.{list_any, IsDistinct};
-ghost use Rattle.fact_specs.specs.State.{has as holds};
+ghost use Rattle.calculus_specs.specs.State.{has as holds};
 ghost use Rattle.tableau_specs.specs.Steps.{below_of};
 ghost use Rattle.step_finders.specs.Filled.{AreFilled};
 

@@ -1,10 +1,10 @@
 // Generate: new nodes at the ends of edges.
 ghost use Rattle.std.specs.Prelude.{◌≡◌, ◌<◌, ◌≤◌, ◌+◌, ◌^◌, [], true, false, MatchOption, IfOk, IsTrue};
 ghost use Rattle.std.specs.List.{list_all, range_with_len};
-ghost use Rattle.shape_specs.specs.Shape.{shape_of};
-ghost use Rattle.shape_specs.specs.Shape.Shape.{at_least, some_of};
-ghost use Rattle.fact_specs.specs.Joins.{rep};
-ghost use Rattle.fact_specs.specs.State.{node_count, has as holds, are_apart, all_apart};
+ghost use Rattle.calculus_specs.specs.Shape.{shape_of};
+ghost use Rattle.calculus_specs.specs.Shape.Shape.{at_least, some_of};
+ghost use Rattle.calculus_specs.specs.Joins.{rep};
+ghost use Rattle.calculus_specs.specs.State.{node_count, has as holds, are_apart, all_apart};
 ghost use Rattle.tableau_specs.specs.Clash.{filled_successors as all_filled};
 ghost use Rattle.tableau_specs.specs.Steps.{below_of, IsOpen};
 ghost use Rattle.step_finders.specs.Making.{IsMaking, HasFiller, AnswersRun, AnswersAmong, NoMakingByShape, NoMakingAt, NothingToMake};

@@ -1,9 +1,9 @@
 // What the concepts of a node add.
 ghost use Rattle.std.specs.Prelude.{◌≡◌, ℕ, ◌<◌, true, false, MatchOption, List};
 ghost use Rattle.std.specs.List.{All, Contains};
-ghost use Rattle.shape_specs.specs.Shape.{shape_of};
-ghost use Rattle.shape_specs.specs.Shape.Shape.{all_of, intersection};
-ghost use Rattle.fact_specs.specs.State.{node_count, has as holds};
+ghost use Rattle.calculus_specs.specs.Shape.{shape_of};
+ghost use Rattle.calculus_specs.specs.Shape.Shape.{all_of, intersection};
+ghost use Rattle.calculus_specs.specs.State.{node_count, has as holds};
 ghost use Rattle.step_finders.specs.Found.{NoneByShape, NoneByConcepts, AllEndsHave, LacksAtEnd, AllCarried, AreCarries};
 ghost use Rattle.step_finders.specs.Reasons.{IsAddition};
 

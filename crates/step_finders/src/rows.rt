@@ -1,7 +1,7 @@
 // What the rows add.
 ghost use Rattle.std.specs.Prelude.{◌≡◌, ℕ, ◌<◌, ◌==◌, true, false, MatchOption, IsTrue};
 ghost use Rattle.std.specs.List.{All, list_all};
-ghost use Rattle.fact_specs.specs.State.{node_count, has as holds, is_successor};
+ghost use Rattle.calculus_specs.specs.State.{node_count, has as holds, is_successor};
 ghost use Rattle.step_finders.specs.Found.{PlainHolds, PlainDue, NamedHold, NamedLacks, NamedDue, NamesHold, EdgeHolds, EdgesHold, HoldsRows};
 ghost use Rattle.step_finders.specs.Reasons.{IsAddition};
 

@@ -1,18 +1,18 @@
 // What finders read.
 ghost use Rattle.std.specs.Prelude.{◌≡◌, ℕ, ◌+◌, ◌<◌, ◌==◌, ◌^◌, ◌↔◌, true, List, MatchOption, IsTrue, IsNone, IfSome};
-ghost use Rattle.fact_specs.specs.declared.Fact.{Fact as PlainFact};
-ghost use Rattle.fact_specs.specs.Joins.{rep};
-ghost use Rattle.fact_specs.specs.State.{node_count, parent as parent_of, has as holds, has_edge, are_apart as kept_apart};
-ghost use Rattle.shape_specs.specs.Shape.{shape_of, IsTable};
-ghost use Rattle.shape_specs.specs.Tree.{IsComplement};
-ghost use Rattle.shape_specs.specs.Rows.{IsChoice};
+ghost use Rattle.calculus_specs.specs.declared.facts.Fact.{Fact as PlainFact};
+ghost use Rattle.calculus_specs.specs.Joins.{rep};
+ghost use Rattle.calculus_specs.specs.State.{node_count, parent as parent_of, has as holds, has_edge, are_apart as kept_apart};
+ghost use Rattle.calculus_specs.specs.Shape.{shape_of, IsTable};
+ghost use Rattle.calculus_specs.specs.Tree.{IsComplement};
+ghost use Rattle.calculus_specs.specs.Rows.{IsChoice};
 ghost use Rattle.shq_nnf.specs.Shapes.{form_of};
 ghost use Rattle.tableau_specs.specs.declared.Block.TheVariants.{Clear};
 ghost use Rattle.tableau_specs.specs.Blocked.{block_of};
 ghost use Rattle.tableau_specs.specs.Steps.{SearchContext, below_of};
 ghost use Rattle.tableau_specs.specs.LineLaws.{RangesAreFirst};
 ghost use Rattle.step_finders.specs.Clashing.{AreMosts};
-ghost use Rattle.fact_specs.specs.Listed.{IsLabel, AreEdges};
+ghost use Rattle.calculus_specs.specs.Listed.{IsLabel, AreEdges};
 ghost use Rattle.step_finders.specs.Found.{AreCarriesOf, Files, AreFiled};
 
 use shq_nnf::Shape;

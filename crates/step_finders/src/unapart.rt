@@ -1,7 +1,7 @@
 // Two of some nodes that are not apart.
 ghost use Rattle.std.specs.Prelude.{◌≡◌, ℕ, ◌+◌, ◌<◌, ◌==◌, MatchOption, true, drop, slice_index, length};
 ghost use Rattle.std.specs.List.{list_all, All, IsDistinct};
-ghost use Rattle.fact_specs.specs.State.{node_count, are_apart, all_apart};
+ghost use Rattle.calculus_specs.specs.State.{node_count, are_apart, all_apart};
 ghost use Rattle.step_finders.specs.Filled.{AreUnapart, IsLater};
 
 use crate::State;

@@ -4,28 +4,28 @@ use Rattle.std.specs.Prelude.{slice_get}
 use Rattle.std.specs.List.{list_all}
 use Rattle.std.proofs.lemmas.List.{length-map}
 use Rattle.std.proofs.lemmas.Option.{same_Some}
-use Rattle.shq_base.specs.Concept.{Concept, bottom as bottom_tree, at_most as most_tree}
+use Rattle.shq_terms.specs.Concept.{Concept, bottom as bottom_tree, at_most as most_tree}
 use Rattle.lane_sieve.specs.Sets.{NumberSet}
-use Rattle.shape_specs.specs.Normal.{negated_form}
-use Rattle.shape_specs.specs.Shape.{IsTable}
-use Rattle.shape_specs.specs.Shape.Shape.{bottom, name, not_name, union, at_most}
-use Rattle.shape_specs.specs.Tree.{tree_of}
-use Rattle.fact_specs.specs.declared.Fact.{Fact}
-use Rattle.fact_specs.specs.declared.Fact.TheVariants.{Has, Edge, Same, Apart}
-use Rattle.fact_specs.specs.State.{has, is_so}
-use Rattle.refutation_specs.specs.Line.Line.{or_line, choose_line, pair_line, bottom_line, clash_line}
+use Rattle.calculus_specs.specs.Normal.{negated_form}
+use Rattle.calculus_specs.specs.Shape.{IsTable}
+use Rattle.calculus_specs.specs.Shape.Shape.{bottom, name, not_name, union, at_most}
+use Rattle.calculus_specs.specs.Tree.{tree_of}
+use Rattle.calculus_specs.specs.declared.facts.Fact.{Fact}
+use Rattle.calculus_specs.specs.declared.facts.Fact.TheVariants.{Has, Edge, Same, Apart}
+use Rattle.calculus_specs.specs.State.{has, is_so}
+use Rattle.calculus_specs.specs.Line.Line.{or_line, choose_line, pair_line, bottom_line, clash_line}
 use Rattle.tableau_specs.specs.declared.Branch.{Branch}
 use Rattle.tableau_specs.specs.declared.Branch.TheVariants.{Or, Choose, Pair}
 use Rattle.tableau_specs.specs.Steps.{SearchContext, IsAlternative}
 use Rattle.tableau_specs.proofs.Listed.{most_listed}
-use Rattle.closing_specs.specs.Alternatives.{branch_line, IsListed}
-use Rattle.closing_specs.specs.ByShape.{IsRule}
-use Rattle.closing_specs.specs.Premises.{Premise, is_node, has_concept, holds, Added, more_facts, Rule}
-use Rattle.closing_specs.specs.Noted.{within}
-use Rattle.closing_specs.specs.Trail.{MarkedFact, trail_within, is_next}
-use Rattle.closing_specs.specs.Grounded.{is_known_within, AreGrounded}
-use Rattle.closing_specs.proofs.Alternatives.{alternative_put}
-use Rattle.closing_specs.proofs.ByShape.{rules_by_shape}
+use Rattle.search_trace.specs.Alternatives.{branch_line, HasShape}
+use Rattle.search_trace.specs.ByShape.{IsRule}
+use Rattle.search_trace.specs.Premises.{Premise, is_node, has_concept, holds, Added, more_facts, Rule}
+use Rattle.search_trace.specs.Noted.{within}
+use Rattle.search_trace.specs.Trail.{MarkedFact, trail_within, is_next}
+use Rattle.search_trace.specs.Grounded.{is_known_within, AreGrounded}
+use Rattle.search_trace.proofs.Alternatives.{alternative_put}
+use Rattle.search_trace.proofs.ByShape.{rules_by_shape}
 use Rattle.step_finders.specs.Choosing.{IsByUnion, IsByFiller, IsByPair}
 use Rattle.step_finders.specs.Clashing.{HasBottom, HasBoth}
 use Rattle.step_lines.specs.Kinds.{IsChild, part_count, ServesChoice, ServesClash}
@@ -37,7 +37,7 @@ module _ (w : SearchContext) (fs : List (Fact ℕ)) (good : IsTable w.table) whe
   asks u ms = holds w.theory (trail_within w.table u ms)
 
   -- the children of a branch's line are its alternatives
-  each_child : (b : Branch) → IsListed w.table b → (premises : List Premise) (children : List Added) → IsRule w.theory w.table (branch_line b) premises children
+  each_child : (b : Branch) → HasShape w.table b → (premises : List Premise) (children : List Added) → IsRule w.theory w.table (branch_line b) premises children
       → (k : ℕ) (f : Fact ℕ) → IsAlternative w.table b (k + 1) f → IsChild w fs children k f
   each_child b listed premises children rule k f alt =
       let p = alternative_put w.theory w.table good b listed (k + 1) f alt k refl in

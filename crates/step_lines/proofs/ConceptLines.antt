@@ -5,24 +5,24 @@ use Rattle.std.proofs.lemmas.Bool.{lt-ltb, or_cases}
 use Rattle.std.proofs.lemmas.List.{length-map}
 use Rattle.std.proofs.lemmas.List.Folds.{list_any_at}
 use Rattle.std.proofs.Math.ListN.{get_or-map}
-use Rattle.shq_base.specs.Concept.{Concept}
+use Rattle.shq_terms.specs.Concept.{Concept}
 use Rattle.lane_sieve.specs.Sets.{NumberSet}
-use Rattle.shape_specs.specs.Shape.{Shape, shape_of, IsTable}
-use Rattle.shape_specs.specs.Shape.Shape.{top, bottom, name, not_name, intersection, union, some_of, all_of, at_least, at_most}
-use Rattle.shape_specs.specs.Tree.{tree_of}
-use Rattle.fact_specs.specs.declared.Fact.{Fact}
-use Rattle.fact_specs.specs.declared.Fact.TheVariants.{Has, Edge}
-use Rattle.fact_specs.specs.State.{node_count, has, has_edge, is_so}
-use Rattle.refutation_specs.specs.Line.{Line}
-use Rattle.refutation_specs.specs.Line.Line.{and_line, all_line, carry_line, some_line, least_line}
+use Rattle.calculus_specs.specs.Shape.{Shape, shape_of, IsTable}
+use Rattle.calculus_specs.specs.Shape.Shape.{top, bottom, name, not_name, intersection, union, some_of, all_of, at_least, at_most}
+use Rattle.calculus_specs.specs.Tree.{tree_of}
+use Rattle.calculus_specs.specs.declared.facts.Fact.{Fact}
+use Rattle.calculus_specs.specs.declared.facts.Fact.TheVariants.{Has, Edge}
+use Rattle.calculus_specs.specs.State.{node_count, has, has_edge, is_so}
+use Rattle.calculus_specs.specs.Line.{Line}
+use Rattle.calculus_specs.specs.Line.Line.{and_line, all_line, carry_line, some_line, least_line}
 use Rattle.refutation_tree.specs.RuleLine.{concept_numbers}
 use Rattle.tableau_specs.specs.Steps.{SearchContext}
-use Rattle.closing_specs.specs.Premises.{Premise, is_node, has_concept, has_edge_below, holds, Added, more_facts, more_nodes}
-use Rattle.closing_specs.specs.Noted.{within, items}
-use Rattle.closing_specs.specs.Trail.{MarkedFact, trail_within, is_next, some_facts, all_nodes}
-use Rattle.closing_specs.specs.Grounded.{is_known_within}
-use Rattle.closing_specs.specs.ByShape.{IsRule}
-use Rattle.closing_specs.proofs.ByShape.{rules_by_shape}
+use Rattle.search_trace.specs.Premises.{Premise, is_node, has_concept, has_edge_below, holds, Added, more_facts, more_nodes}
+use Rattle.search_trace.specs.Noted.{within, items}
+use Rattle.search_trace.specs.Trail.{MarkedFact, trail_within, is_next, some_facts, all_nodes}
+use Rattle.search_trace.specs.Grounded.{is_known_within}
+use Rattle.search_trace.specs.ByShape.{IsRule}
+use Rattle.search_trace.proofs.ByShape.{rules_by_shape}
 use Rattle.step_finders.specs.declared.make.NewNodes.{NewNodes}
 use Rattle.step_finders.specs.Making.{Asks}
 use Rattle.step_finders.specs.Reasons.{IsByAnd, IsByAll, IsByCarry}

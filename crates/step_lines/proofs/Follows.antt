@@ -2,28 +2,28 @@
 use Rattle.std.proofs.Common.{◌≡◌, ℕ, ◌<◌, ◌&&◌, eqb, Bool, true, List, [], ◌∷◌, length, ap, ◌∙◌, sym, inl, inr}
 use Rattle.std.specs.List.{list_any, list_all}
 use Rattle.std.proofs.lemmas.Bool.{and_parts, and_from, or_cases, or_left, or_right, eqb-true}
-use Rattle.shq_base.specs.Concept.{Concept, top}
+use Rattle.shq_terms.specs.Concept.{Concept, top}
 use Rattle.lane_sieve.specs.Sets.{NumberSet}
-use Rattle.shape_specs.specs.Normal.{is_top}
-use Rattle.shape_specs.specs.Same.{is_same}
-use Rattle.shape_specs.specs.Shape.{Shape, shape_of, IsTable}
-use Rattle.shape_specs.specs.Shape.Shape.{top as top_shape}
-use Rattle.shape_specs.specs.Tree.{tree_of, trees_of, tree_over}
-use Rattle.shape_specs.proofs.Same.{eq_to_same}
-use Rattle.shape_specs.proofs.Unique.{tree_of_shape}
-use Rattle.fact_specs.specs.declared.Fact.{Fact}
-use Rattle.fact_specs.specs.declared.Fact.TheVariants.{Has, Edge, Apart, Same}
-use Rattle.fact_specs.specs.Joins.{rep}
-use Rattle.fact_specs.specs.State.{gives_concept, is_given, has, has_tree, has_edge, are_apart}
-use Rattle.fact_specs.specs.Reading.{read_facts}
-use Rattle.fact_specs.proofs.Reading.{reps-read, keeps_state}
+use Rattle.calculus_specs.specs.Normal.{is_top}
+use Rattle.calculus_specs.specs.Same.{is_same}
+use Rattle.calculus_specs.specs.Shape.{Shape, shape_of, IsTable}
+use Rattle.calculus_specs.specs.Shape.Shape.{top as top_shape}
+use Rattle.calculus_specs.specs.Tree.{tree_of, trees_of, tree_over}
+use Rattle.calculus_specs.proofs.Same.{eq_to_same}
+use Rattle.calculus_specs.proofs.Unique.{tree_of_shape}
+use Rattle.calculus_specs.specs.declared.facts.Fact.{Fact}
+use Rattle.calculus_specs.specs.declared.facts.Fact.TheVariants.{Has, Edge, Apart, Same}
+use Rattle.calculus_specs.specs.Joins.{rep}
+use Rattle.calculus_specs.specs.State.{gives_concept, is_given, has, has_tree, has_edge, are_apart}
+use Rattle.calculus_specs.specs.Reading.{read_facts}
+use Rattle.calculus_specs.proofs.Reading.{reps-read, keeps_state}
 use Rattle.tableau_specs.proofs.Listed.{listed}
 use Rattle.tableau_specs.specs.Steps.{SearchContext}
-use Rattle.closing_specs.specs.Premises.{has_concept, has_edge_below, is_apart, holds}
-use Rattle.closing_specs.specs.Noted.{within}
-use Rattle.closing_specs.specs.Trail.{MarkedFact, trail_within}
-use Rattle.closing_specs.specs.Grounded.{is_known_within, AreGrounded}
-use Rattle.closing_specs.proofs.Grounded.{given_is_known, edge_is_known}
+use Rattle.search_trace.specs.Premises.{has_concept, has_edge_below, is_apart, holds}
+use Rattle.search_trace.specs.Noted.{within}
+use Rattle.search_trace.specs.Trail.{MarkedFact, trail_within}
+use Rattle.search_trace.specs.Grounded.{is_known_within, AreGrounded}
+use Rattle.search_trace.proofs.Grounded.{given_is_known, edge_is_known}
 use Rattle.step_finders.proofs.Edges.{edge_of_kind}
 
 pub all_cons : {X : Type 0} (p : X → Bool) (x : X) (xs : List X) → p x ≡ true → list_all p xs ≡ true → list_all p (x ∷ xs) ≡ true

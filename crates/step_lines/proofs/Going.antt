@@ -6,15 +6,15 @@ use Rattle.std.proofs.lemmas.Cmp.{nat_cmp_total}
 use Rattle.std.proofs.lemmas.Bool.{and_from, or_left, or_right, cases_Bool}
 use Rattle.std.proofs.lemmas.List.Folds.{list_any-append}
 use Rattle.lane_sieve.specs.Sets.{NumberSet}
-use Rattle.fact_specs.specs.declared.Fact.{Fact}
-use Rattle.fact_specs.specs.declared.Fact.TheVariants.{Has, Edge, Apart}
-use Rattle.fact_specs.specs.State.{new_nodes, apart_from, pairwise_apart, fresh_facts}
-use Rattle.closing_specs.specs.Noted.{Marked, marked, is_within}
-use Rattle.closing_specs.specs.Trail.{MarkedFact, nodes_of, ends_of}
-use Rattle.closing_specs.specs.Grounded.{named, is_known_within, is_grounded}
-use Rattle.closing_specs.proofs.Among.{any_within}
-use Rattle.closing_specs.proofs.Trail.{wider_part, ends-append}
-use Rattle.closing_specs.proofs.Grounded.{grounded_more}
+use Rattle.calculus_specs.specs.declared.facts.Fact.{Fact}
+use Rattle.calculus_specs.specs.declared.facts.Fact.TheVariants.{Has, Edge, Apart}
+use Rattle.calculus_specs.specs.State.{new_nodes, apart_from, pairwise_apart, fresh_facts}
+use Rattle.search_trace.specs.Noted.{Marked, marked, is_within}
+use Rattle.search_trace.specs.Trail.{MarkedFact, nodes_of, ends_of}
+use Rattle.search_trace.specs.Grounded.{named, is_known_within, is_grounded}
+use Rattle.search_trace.proofs.Among.{any_within}
+use Rattle.search_trace.proofs.Trail.{wider_part, ends-append}
+use Rattle.search_trace.proofs.Grounded.{grounded_more}
 use Rattle.step_lines.specs.Serving.{FactsStayGrounded, NewNodesStayGrounded}
 use Rattle.step_lines.proofs.Follows.{all_cons, all_first, all_rest}
 

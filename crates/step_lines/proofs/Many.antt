@@ -6,22 +6,22 @@ use Rattle.std.proofs.lemmas.List.{length-take-le, map-append, drop_more, append
 use Rattle.std.proofs.lemmas.List.Elements.{All-head, All-tail, All-take, All-push}
 use Rattle.std.proofs.lemmas.List.Folds.{list_all-append}
 use Rattle.lane_sieve.specs.Sets.{NumberSet}
-use Rattle.shape_specs.specs.Shape.{IsTable}
-use Rattle.shape_specs.specs.Shape.Shape.{at_most}
-use Rattle.shape_specs.specs.Tree.{tree_of}
-use Rattle.fact_specs.specs.declared.Fact.{Fact}
-use Rattle.fact_specs.specs.declared.Fact.TheVariants.{Has, Edge, Apart}
-use Rattle.fact_specs.specs.State.{has, has_edge, is_successor, are_apart, all_apart, is_so}
-use Rattle.refutation_specs.specs.Line.Line.{most_line}
+use Rattle.calculus_specs.specs.Shape.{IsTable}
+use Rattle.calculus_specs.specs.Shape.Shape.{at_most}
+use Rattle.calculus_specs.specs.Tree.{tree_of}
+use Rattle.calculus_specs.specs.declared.facts.Fact.{Fact}
+use Rattle.calculus_specs.specs.declared.facts.Fact.TheVariants.{Has, Edge, Apart}
+use Rattle.calculus_specs.specs.State.{has, has_edge, is_successor, are_apart, all_apart, is_so}
+use Rattle.calculus_specs.specs.Line.Line.{most_line}
 use Rattle.tableau_specs.specs.Clash.{filled_successors}
 use Rattle.tableau_specs.specs.Steps.{SearchContext, below_of}
 use Rattle.tableau_specs.proofs.PlainClash.{successor_has_edge}
-use Rattle.clash_specs.specs.Near.{IsOverrun}
-use Rattle.closing_specs.specs.Premises.{Premise, is_node, has_concept, has_edge_below, is_apart, holds, filler_premises, apart_premises}
-use Rattle.closing_specs.specs.Noted.{within}
-use Rattle.closing_specs.specs.Trail.{MarkedFact, trail_within}
-use Rattle.closing_specs.specs.Grounded.{AreGrounded}
-use Rattle.closing_specs.proofs.ByShape.{rules_by_shape}
+use Rattle.tableau_specs.specs.Near.{IsOverrun}
+use Rattle.search_trace.specs.Premises.{Premise, is_node, has_concept, has_edge_below, is_apart, holds, filler_premises, apart_premises}
+use Rattle.search_trace.specs.Noted.{within}
+use Rattle.search_trace.specs.Trail.{MarkedFact, trail_within}
+use Rattle.search_trace.specs.Grounded.{AreGrounded}
+use Rattle.search_trace.proofs.ByShape.{rules_by_shape}
 use Rattle.step_finders.specs.Choosing.{IsRoleTo}
 use Rattle.step_finders.specs.Filled.{AreFilled}
 use Rattle.step_finders.proofs.Edges.{any_at}

@@ -9,26 +9,26 @@ use Rattle.std.proofs.lemmas.Option.{cond_some, same_Some}
 use Rattle.std.specs.Ordering.{nat_cmp}
 use Rattle.std.proofs.lemmas.Cmp.{nat_cmp_total}
 use Rattle.lane_sieve.specs.Sets.{NumberSet}
-use Rattle.shq_base.specs.Concept.{Concept, top}
-use Rattle.shape_specs.specs.Shape.{IsTable}
-use Rattle.shape_specs.specs.Tree.{tree_of, trees_of, tree_over}
-use Rattle.shape_specs.specs.Rows.{Part, Trigger, IsRowOf, IsChoice, part_at, conjunct_at, is_name, is_ascending, are_name_positions, is_some_of, row_concept, row_of}
-use Rattle.shape_specs.specs.Rows.Part.{inclusion, range}
-use Rattle.shape_specs.specs.Rows.Trigger.{always, names, edge, end_of}
-use Rattle.shape_specs.proofs.Unique.{tree_of_shape}
-use Rattle.fact_specs.specs.declared.Fact.{Fact}
-use Rattle.fact_specs.specs.declared.Fact.TheVariants.{Has, Edge}
-use Rattle.fact_specs.specs.State.{node_count, has, has_edge, is_so}
-use Rattle.refutation_specs.specs.Line.Line.{row_line, range_line}
-use Rattle.refutation_specs.specs.Rules.{when}
+use Rattle.shq_terms.specs.Concept.{Concept, top}
+use Rattle.calculus_specs.specs.Shape.{IsTable}
+use Rattle.calculus_specs.specs.Tree.{tree_of, trees_of, tree_over}
+use Rattle.calculus_specs.specs.Rows.{Part, Trigger, IsRowOf, IsChoice, part_at, conjunct_at, is_name, is_ascending, are_name_positions, is_some_of, row_concept, row_of}
+use Rattle.calculus_specs.specs.Rows.Part.{inclusion, range}
+use Rattle.calculus_specs.specs.Rows.Trigger.{always, names, edge, end_of}
+use Rattle.calculus_specs.proofs.Unique.{tree_of_shape}
+use Rattle.calculus_specs.specs.declared.facts.Fact.{Fact}
+use Rattle.calculus_specs.specs.declared.facts.Fact.TheVariants.{Has, Edge}
+use Rattle.calculus_specs.specs.State.{node_count, has, has_edge, is_so}
+use Rattle.calculus_specs.specs.Line.Line.{row_line, range_line}
+use Rattle.calculus_specs.specs.Rules.{when}
 use Rattle.tableau_specs.specs.Steps.{SearchContext}
 use Rattle.tableau_specs.specs.Lines.{concept_in}
 use Rattle.tableau_specs.specs.LineLaws.{RangesAreFirst}
-use Rattle.closing_specs.specs.Premises.{Premise, is_node, has_concept, has_edge_below, holds, Added, more_facts, row_rule, range_rule, rule_of}
-use Rattle.closing_specs.specs.Noted.{is_within, within}
-use Rattle.closing_specs.proofs.Among.{any_within}
-use Rattle.closing_specs.specs.Trail.{MarkedFact, nodes_of, ends_of, trail_within, some_facts}
-use Rattle.closing_specs.specs.Grounded.{is_known_within, AreGrounded}
+use Rattle.search_trace.specs.Premises.{Premise, is_node, has_concept, has_edge_below, holds, Added, more_facts, row_rule, range_rule, rule_of}
+use Rattle.search_trace.specs.Noted.{is_within, within}
+use Rattle.search_trace.proofs.Among.{any_within}
+use Rattle.search_trace.specs.Trail.{MarkedFact, nodes_of, ends_of, trail_within, some_facts}
+use Rattle.search_trace.specs.Grounded.{is_known_within, AreGrounded}
 use Rattle.step_finders.specs.declared.state.PlainRow.{PlainRow}
 use Rattle.step_finders.specs.declared.state.NamedRow.{NamedRow}
 use Rattle.step_finders.specs.Found.{IsPlain, IsNamed}

@@ -2,12 +2,12 @@
 use Rattle.std.specs.Prelude.{◌≡◌, ℕ, ◌+◌, ◌==◌, true, List, [], ◌∷◌, ◌++◌, map, length, All}
 use Rattle.std.specs.List.{list_all}
 use Rattle.lane_sieve.specs.Sets.{NumberSet}
-use Rattle.fact_specs.specs.declared.Fact.{Fact}
-use Rattle.fact_specs.specs.declared.Fact.TheVariants.{Has, Edge, Apart}
-use Rattle.fact_specs.specs.State.{has, is_so, is_successor, all_apart}
+use Rattle.calculus_specs.specs.declared.facts.Fact.{Fact}
+use Rattle.calculus_specs.specs.declared.facts.Fact.TheVariants.{Has, Edge, Apart}
+use Rattle.calculus_specs.specs.State.{has, is_so, is_successor, all_apart}
 use Rattle.tableau_specs.specs.Steps.{SearchContext, below_of}
-use Rattle.closing_specs.specs.Grounded.{is_known_within, AreGrounded}
-use Rattle.closing_specs.specs.Trail.{MarkedFact}
+use Rattle.search_trace.specs.Grounded.{is_known_within, AreGrounded}
+use Rattle.search_trace.specs.Trail.{MarkedFact}
 use Rattle.step_lines.specs.Serving.{HoldWithin}
 
 -- the grounds are so, and x is known by the marks by which they hold

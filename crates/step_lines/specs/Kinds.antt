@@ -1,17 +1,17 @@
 -- What the lines of each kind of step serve.
 use Rattle.std.specs.Prelude.{◌≡◌, ℕ, ◌+◌, true, List, [], ◌∷◌, length, Some, slice_get}
-use Rattle.shape_specs.specs.Shape.{Shape, shape_of}
-use Rattle.shape_specs.specs.Shape.Shape.{union, at_least}
-use Rattle.fact_specs.specs.declared.Fact.{Fact}
-use Rattle.fact_specs.specs.declared.Fact.TheVariants.{Has}
-use Rattle.fact_specs.specs.State.{node_count, fresh_facts}
-use Rattle.refutation_specs.specs.Line.{Line}
-use Rattle.refutation_specs.specs.Line.Line.{some_line, least_line}
+use Rattle.calculus_specs.specs.Shape.{Shape, shape_of}
+use Rattle.calculus_specs.specs.Shape.Shape.{union, at_least}
+use Rattle.calculus_specs.specs.declared.facts.Fact.{Fact}
+use Rattle.calculus_specs.specs.declared.facts.Fact.TheVariants.{Has}
+use Rattle.calculus_specs.specs.State.{node_count, fresh_facts}
+use Rattle.calculus_specs.specs.Line.{Line}
+use Rattle.calculus_specs.specs.Line.Line.{some_line, least_line}
 use Rattle.tableau_specs.specs.Steps.{SearchContext, IsAlternative}
 use Rattle.tableau_specs.specs.declared.Branch.{Branch}
 use Rattle.tableau_specs.specs.declared.Branch.TheVariants.{Or, Choose, Pair}
-use Rattle.closing_specs.specs.Premises.{Added, is_single, is_branching, is_clash}
-use Rattle.closing_specs.specs.Trail.{Puts}
+use Rattle.search_trace.specs.Premises.{Added, is_single, is_branching, is_clash}
+use Rattle.search_trace.specs.Trail.{Puts}
 use Rattle.step_finders.specs.declared.make.NewNodes.{NewNodes}
 use Rattle.step_lines.specs.Serving.{Serves, branch_nodes}
 

@@ -2,25 +2,25 @@
 use Rattle.std.specs.Prelude.{◌≡◌, ℕ, nat_lt, Bool, true, List, [], ◌∷◌, ◌++◌, map, length, Some}
 use Rattle.std.specs.List.{list_all}
 use Rattle.std.specs.FinSet as sets
-use Rattle.shq_base.specs.Concept.{Concept}
+use Rattle.shq_terms.specs.Concept.{Concept}
 use Rattle.lane_sieve.specs.Sets.{NumberSet}
-use Rattle.shape_specs.specs.Rows.{Part, Theory, part_at}
-use Rattle.shape_specs.specs.Shape.{Shape}
-use Rattle.shape_specs.specs.Tree.{tree_of}
-use Rattle.fact_specs.specs.declared.Fact.{Fact}
-use Rattle.fact_specs.specs.State.{is_so, fresh_facts}
-use Rattle.refutation_specs.specs.Line.{Line}
-use Rattle.refutation_specs.specs.Line.Line.{row_line, range_line}
+use Rattle.calculus_specs.specs.Rows.{Part, Theory, part_at}
+use Rattle.calculus_specs.specs.Shape.{Shape}
+use Rattle.calculus_specs.specs.Tree.{tree_of}
+use Rattle.calculus_specs.specs.declared.facts.Fact.{Fact}
+use Rattle.calculus_specs.specs.State.{is_so, fresh_facts}
+use Rattle.calculus_specs.specs.Line.{Line}
+use Rattle.calculus_specs.specs.Line.Line.{row_line, range_line}
 use Rattle.refutation_tree.specs.RuleLine.{concept_numbers}
 use Rattle.tableau_specs.specs.KeptKinds.{IsKept}
 use Rattle.tableau_specs.specs.StepLaws.{AreOfKind}
 use Rattle.tableau_specs.specs.Steps.{SearchContext, IsAlternative}
 use Rattle.tableau_specs.specs.declared.Branch.{Branch}
 use Rattle.tableau_specs.specs.declared.Branch.TheVariants.{Or, Choose, Pair}
-use Rattle.closing_specs.specs.Grounded.{named, is_known_within, AreGrounded}
-use Rattle.closing_specs.specs.Noted.{marked, within, items, NotedLine}
-use Rattle.closing_specs.specs.Premises.{Added, Rule}
-use Rattle.closing_specs.specs.Trail.{MarkedFact, RuleHolds}
+use Rattle.search_trace.specs.Grounded.{named, is_known_within, AreGrounded}
+use Rattle.search_trace.specs.Noted.{marked, within, items, NotedLine}
+use Rattle.search_trace.specs.Premises.{Added, Rule}
+use Rattle.search_trace.specs.Trail.{MarkedFact, RuleHolds}
 
 -- what the line asks holds by facts that rest on its marks alone, and its children add that
 pub record HoldsAt (w : SearchContext) (ms : List MarkedFact) (l : NotedLine) (children : List Added) : Type 0 where

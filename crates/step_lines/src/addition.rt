@@ -7,7 +7,7 @@ ghost use Rattle.step_lines.specs.Kinds.{ServesAddition};
 use crate::grounded::{one_ground, two_grounds};
 use crate::rows::{line_of_begin, line_of_end, line_of_general, line_of_named};
 use crate::{GroundedLine, NoMemory};
-use fact_specs::Fact;
+use calculus_specs::Fact;
 use refutation_tree::Line;
 use std::alloc::Global;
 use step_finders::{Addition, Reason, Rules, State};

@@ -7,7 +7,7 @@ ghost use Rattle.step_lines.specs.Kinds.{ServesChoice};
 
 use crate::grounded::{one_ground, two_grounds};
 use crate::{GroundedLine, NoMemory};
-use fact_specs::Fact;
+use calculus_specs::Fact;
 use refutation_tree::Line;
 use std::alloc::Global;
 use step_finders::{Choosing, Rules, State};

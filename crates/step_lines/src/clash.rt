@@ -7,7 +7,7 @@ ghost use Rattle.step_lines.specs.Kinds.{ServesClash};
 use crate::grounded::{one_ground, two_grounds};
 use crate::most::line_of_most;
 use crate::{GroundedLine, NoMemory};
-use fact_specs::Fact;
+use calculus_specs::Fact;
 use refutation_tree::Line;
 use std::alloc::Global;
 use step_finders::{Clash, Rules, State};

@@ -1,11 +1,11 @@
 // Lines with the facts that they rest on.
 ghost use Rattle.std.specs.Prelude.{◌≡◌, [], ◌∷◌, ◌<◌, IfOk};
-ghost use Rattle.fact_specs.specs.State.{node_count};
+ghost use Rattle.calculus_specs.specs.State.{node_count};
 ghost use Rattle.step_lines.specs.Serving.{FactsStayGrounded, NewNodesStayGrounded, AlternativesSpeakOfNodes};
 ghost use Rattle.step_lines.specs.Grounds.{GroundsNode};
 
 use crate::NoMemory;
-use fact_specs::Fact;
+use calculus_specs::Fact;
 use refutation_tree::Line;
 use shq_terms::NumberList;
 use std::alloc::Global;

@@ -19,4 +19,4 @@ pub use grounded::{
     GroundedLine, alternatives_speak_of_nodes, facts_stay_grounded, new_nodes_stay_grounded,
 };
 pub use nodes::line_of_new_nodes;
-pub use shq_base::NoMemory;
+pub use shq_terms::NoMemory;

@@ -1,10 +1,10 @@
 // The line of too many successors.
 ghost use Rattle.std.specs.Prelude.{◌≡◌, ◌∷◌, ◌<◌, ◌++◌, true, map, All, IfOk, OnOk};
-ghost use Rattle.fact_specs.specs.declared.Fact.TheVariants.{Has as has_fact, Apart as apart_fact};
-ghost use Rattle.fact_specs.specs.State.{node_count, is_successor};
+ghost use Rattle.calculus_specs.specs.declared.facts.Fact.TheVariants.{Has as has_fact, Apart as apart_fact};
+ghost use Rattle.calculus_specs.specs.State.{node_count, is_successor};
 ghost use Rattle.refutation_tree.specs.RuleLine.{line_of};
 ghost use Rattle.tableau_specs.specs.Steps.{below_of};
-ghost use Rattle.clash_specs.specs.Near.{IsOverrun};
+ghost use Rattle.tableau_specs.specs.Near.{IsOverrun};
 ghost use Rattle.step_finders.specs.Choosing.{IsRoleTo};
 ghost use Rattle.step_finders.specs.Clashing.{HasMost};
 ghost use Rattle.step_lines.specs.Grounds.{IsFilledEnd, AreMany, AreLinks, link_facts, apart_facts};
@@ -12,7 +12,7 @@ ghost use Rattle.step_lines.specs.Kinds.{ServesClash};
 
 use crate::grounded::list_of;
 use crate::{GroundedLine, NoMemory};
-use fact_specs::Fact;
+use calculus_specs::Fact;
 use refutation_tree::Line;
 use shq_nnf::Shape;
 use std::alloc::Global;

@@ -1,13 +1,13 @@
 // The line of new nodes.
 ghost use Rattle.std.specs.Prelude.{◌≡◌, IfOk};
 ghost use Rattle.refutation_tree.specs.RuleLine.{line_of};
-ghost use Rattle.shape_specs.specs.Shape.{shape_of};
+ghost use Rattle.calculus_specs.specs.Shape.{shape_of};
 ghost use Rattle.step_finders.specs.Making.{IsMaking};
 ghost use Rattle.step_lines.specs.Kinds.{making_line, ServesNewNodes};
 
 use crate::grounded::one_ground;
 use crate::{GroundedLine, NoMemory};
-use fact_specs::Fact;
+use calculus_specs::Fact;
 use refutation_tree::Line;
 use shq_nnf::Shape;
 use std::alloc::Global;

@@ -1,8 +1,8 @@
 // The lines of rows.
 ghost use Rattle.std.specs.Prelude.{◌≡◌, ◌++◌, ◌<◌, true, map, IfOk, OnOk};
 ghost use Rattle.std.specs.List.{list_all};
-ghost use Rattle.fact_specs.specs.declared.Fact.TheVariants.{Has as has_fact};
-ghost use Rattle.fact_specs.specs.State.{node_count, has as holds};
+ghost use Rattle.calculus_specs.specs.declared.facts.Fact.TheVariants.{Has as has_fact};
+ghost use Rattle.calculus_specs.specs.State.{node_count, has as holds};
 ghost use Rattle.refutation_tree.specs.RuleLine.{line_of};
 ghost use Rattle.step_finders.specs.Found.{IsNamed};
 ghost use Rattle.step_finders.specs.Reasons.{IsByNamed, IsByGeneral, IsByBegin, IsByEnd};
@@ -11,7 +11,7 @@ ghost use Rattle.step_lines.specs.Kinds.{ServesAddition};
 
 use crate::grounded::{list_of, node_grounds, one_ground};
 use crate::{GroundedLine, NoMemory};
-use fact_specs::Fact;
+use calculus_specs::Fact;
 use refutation_tree::Line;
 use shq_terms::NumberList;
 use std::alloc::Global;

@@ -7,7 +7,7 @@ use Rattle.tableau_specs.specs.Reached.{IsReached, Follows}
 use Rattle.tableau_specs.specs.Steps.{IsLegal}
 use Rattle.tableau_specs.specs.declared.Item.{Item}
 use Rattle.completion_tree.specs.Trail.{items_of, facts_in}
-use Rattle.blocking.specs.Followed.{IsCurrent}
+use Rattle.search_state.specs.Followed.{IsCurrent}
 use Rattle.search_trace.specs.Trace.{begun}
 use Rattle.search_rules.specs.RuleLists.{RuleLists, context_in}
 use Rattle.search_state.specs.Progress.{ProgressLists, IsStanding, IsSearching}

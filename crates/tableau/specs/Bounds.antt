@@ -1,10 +1,10 @@
 -- How long a search is, by the nodes that it has and the concepts that it can give them.
 use Rattle.std.specs.Prelude.{ℕ, ◌+◌, ◌*◌, ◌≤◌, List, length}
-use Rattle.shq_base.specs.Concept.{Concept}
-use Rattle.fact_specs.specs.State.{node_count}
+use Rattle.shq_terms.specs.Concept.{Concept}
+use Rattle.calculus_specs.specs.State.{node_count}
 use Rattle.tableau_specs.specs.Items.{facts_of}
-use Rattle.search_bounds.specs.Closure.{IsClosure}
-use Rattle.search_bounds.specs.Laws.{AreAtFirst, mark_count}
+use Rattle.search_laws.specs.Closure.{IsClosure}
+use Rattle.search_laws.specs.BoundLaws.{AreAtFirst, mark_count}
 use Rattle.tableau.specs.SearchState.{SearchState, context_of, trail_of}
 
 -- the concepts are those that the search can give to nodes, each once

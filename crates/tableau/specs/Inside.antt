@@ -5,9 +5,9 @@ use Rattle.refutation_tree.specs.RefutationLists.{RefutationLists}
 use Rattle.tableau_specs.specs.declared.Item.{Item}
 use Rattle.tableau_specs.specs.Steps.{IsLegal, IsSaturated, HasClash}
 use Rattle.completion_tree.specs.Trail.{items_of}
-use Rattle.closing_specs.specs.Leaves.{leaves}
-use Rattle.closing_specs.specs.Noted.{noted_start}
-use Rattle.closing_specs.specs.Back.{step_of}
+use Rattle.search_trace.specs.Leaves.{leaves}
+use Rattle.search_trace.specs.Noted.{noted_start}
+use Rattle.search_trace.specs.Back.{step_of}
 use Rattle.search_rules.specs.RuleLists.{RuleLists, context_in, theory_in}
 use Rattle.search_state.specs.Progress.{ProgressLists, IsAsked, IsFitLine, IsSearching, HasMoved}
 use Rattle.search_state.specs.Stepping.{HasNext}

@@ -6,7 +6,7 @@ use Rattle.tableau_specs.specs.Steps.{SearchContext}
 use Rattle.tableau_specs.specs.Reached.{start, IsReached}
 use Rattle.completion_tree.specs.declared.tree.Entry.{Entry}
 use Rattle.completion_tree.specs.Trail.{items_of}
-use Rattle.blocking.specs.Followed.{Printed}
+use Rattle.search_state.specs.Followed.{Printed}
 use Rattle.search_rules.specs.RuleLists.{RuleLists, context_in}
 
 -- the rules and the query, the numbers of what the query asks, the entries of the trail, what is known of blocked nodes, how many

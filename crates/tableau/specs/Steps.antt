@@ -3,7 +3,7 @@ use Rattle.std.specs.Prelude.{◌≡◌, ℕ, ◌+◌, true, false, List, length
 use Rattle.shq_terms.specs.declared.axioms.Query.{Query}
 use Rattle.lane_sieve.specs.Sets.{IsPart}
 use Rattle.axiom_sets.specs.Sets.{member_list}
-use Rattle.refutation_specs.specs.Valid.{IsRefutation}
+use Rattle.calculus_specs.specs.Valid.{IsRefutation}
 use Rattle.refutation_tree.specs.RefutationLists.{RefutationLists}
 use Rattle.refutation_tree.specs.ReadBack.{IsWritable}
 use Rattle.refutation_truth.specs.Theory.{theory_of}
@@ -11,7 +11,7 @@ use Rattle.tableau_specs.specs.declared.Item.{Item}
 use Rattle.tableau_specs.specs.Steps.{IsLegal, IsSaturated, HasClash}
 use Rattle.tableau_specs.specs.Reached.{Follows}
 use Rattle.completion_tree.specs.Trail.{facts_in}
-use Rattle.blocking.specs.Followed.{IsCurrent}
+use Rattle.search_state.specs.Followed.{IsCurrent}
 use Rattle.search_rules.specs.RuleLists.{RuleLists}
 use Rattle.tableau.specs.declared.search.Event.{Event}
 use Rattle.tableau.specs.declared.search.Event.TheVariants.{Moved, Saturated, Closed}

@@ -7,5 +7,6 @@ mod search;
 
 pub use refutation_tree::Refutation;
 pub use search::{End, Event, Search};
+pub use search_rules::SearchRules;
 pub use search_state::Effort;
-pub use shq_base::NoMemory;
+pub use shq_terms::NoMemory;

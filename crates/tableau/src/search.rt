@@ -9,11 +9,10 @@ ghost use Rattle.tableau.specs.Inside.{goes_on as event_goes_on, is_spent, IsHal
 
 use crate::advancing::{advance, settle};
 use crate::{NoMemory, Refutation};
-use blocking::Prints;
 use completion_tree::Tree;
-use search_bounds::{few_marks, few_steps_without_going_back};
+use search_laws::{few_marks, few_steps_without_going_back};
 use search_rules::SearchRules;
-use search_state::{Effort, Progress};
+use search_state::{Blocks, Effort, Progress};
 use shq_terms::Query;
 use std::alloc::{Allocator, Global};
 use std::marker::Model;
@@ -57,9 +56,9 @@ pub struct Search<'b, A: Allocator> {
 
 impl<'b, A: Allocator> Model for Search<'b, A> {
     ghost use Rattle.std.specs.Coded.{codes};
-    ghost use Rattle.shq_base.specs.Code.{concept_code};
+    ghost use Rattle.shq_terms.specs.Code.{concept_code};
     ghost use Rattle.axiom_sets.specs.Sets.{limited_code};
-    ghost use Rattle.dependency_sets.specs.contracts.deps.Deps as deps;
+    ghost use Rattle.axiom_sets.specs.contracts.deps.Deps as deps;
     ghost use Rattle.search_trace.specs.contracts.trace.Trace as traces;
     ghost use Rattle.tableau.specs.SearchState.{SearchState};
 
@@ -248,7 +247,7 @@ impl<'b, A: Allocator + Copy> Search<'b, A> {
     }
 
     /// The blocks of the tree, as far as they were found.
-    pub fn prints(&self) -> &Prints
+    pub fn prints(&self) -> &Blocks
         ensures { result.now ≡ self.now.prints }
     {
         self.progress.prints()

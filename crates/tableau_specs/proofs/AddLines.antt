@@ -5,27 +5,27 @@ use Rattle.std.proofs.lemmas.Bool.{cases_Bool, or_cases, eqb-true, and_parts, or
 use Rattle.std.proofs.lemmas.List.{length-map}
 use Rattle.std.proofs.lemmas.List.Elements.{All-contains}
 use Rattle.std.proofs.Math.ListN.{get_or-map}
-use Rattle.shq_base.specs.Concept.{Concept, top, name, all_of}
-use Rattle.shape_specs.specs.Shape.{Shape, shape_of}
-use Rattle.shape_specs.specs.Shape.Shape.{name as name_shape, intersection as and_shape, all_of as all_shape}
-use Rattle.shape_specs.specs.Tree.{tree_of, trees_of}
-use Rattle.shape_specs.specs.Rows.{Part, Trigger, IsRowOf, IsChoice, part_at, conjunct_at, are_name_positions, is_some_of, row_concept, row_of}
-use Rattle.shape_specs.specs.Rows.Part.{inclusion, range}
-use Rattle.shape_specs.specs.Rows.Trigger.{always, names, edge, end_of}
-use Rattle.fact_specs.specs.declared.Fact.{Fact}
-use Rattle.fact_specs.specs.declared.Fact.TheVariants.{Has}
-use Rattle.fact_specs.specs.State.{node_count, has, has_tree, has_edge, label}
-use Rattle.fact_specs.specs.Reading.{read_fact}
-use Rattle.fact_specs.proofs.State.{any-label}
-use Rattle.refutation_specs.specs.Line.Line.{row_line}
-use Rattle.refutation_specs.specs.Rules.{Known, knows, when, with_facts, and_children, all_children, carry_children, row_children, range_children}
+use Rattle.calculus_specs.specs.Concept.{Concept, top, name, all_of}
+use Rattle.calculus_specs.specs.Shape.{Shape, shape_of}
+use Rattle.calculus_specs.specs.Shape.Shape.{name as name_shape, intersection as and_shape, all_of as all_shape}
+use Rattle.calculus_specs.specs.Tree.{tree_of, trees_of}
+use Rattle.calculus_specs.specs.Rows.{Part, Trigger, IsRowOf, IsChoice, part_at, conjunct_at, are_name_positions, is_some_of, row_concept, row_of}
+use Rattle.calculus_specs.specs.Rows.Part.{inclusion, range}
+use Rattle.calculus_specs.specs.Rows.Trigger.{always, names, edge, end_of}
+use Rattle.calculus_specs.specs.declared.facts.Fact.{Fact}
+use Rattle.calculus_specs.specs.declared.facts.Fact.TheVariants.{Has}
+use Rattle.calculus_specs.specs.State.{node_count, has, has_tree, has_edge, label}
+use Rattle.calculus_specs.specs.Reading.{read_fact}
+use Rattle.calculus_specs.proofs.State.{any-label}
+use Rattle.calculus_specs.specs.Line.Line.{row_line}
+use Rattle.calculus_specs.specs.Rules.{Known, knows, when, with_facts, and_children, all_children, carry_children, row_children, range_children}
 use Rattle.tableau_specs.specs.Steps.{SearchContext, below_of, Adds, IsCarried, is_named, has_name, is_triggered, ends_edge}
 use Rattle.tableau_specs.specs.Steps.Adds.{by_and, by_all, by_carry, by_row}
 use Rattle.tableau_specs.proofs.Listed.{listed}
 use Rattle.tableau_specs.specs.Lines.{known_by, children_in, first_passing, first_begin, line_of_row}
 use Rattle.tableau_specs.specs.LineLaws.{IsOver, RangesAreFirst, AddIsLine}
 use Rattle.tableau_specs.proofs.KnownFacts.{is_known, reads, holds, edge_reads, at_shape}
-use Rattle.shape_specs.proofs.Unique.{part_list-parts_of}
+use Rattle.calculus_specs.proofs.Unique.{part_list-parts_of}
 
 contains_map : {X Y : Type 0} (f : X → Y) (xs : List X) (v : X) → Contains xs v → Contains (map f xs) (f v)
 contains_map f xs v c = (c.0, omega (arith, c.1, length-map xs f), get_or-map f xs c.0 v ∙ ap f c.2)

@@ -2,10 +2,10 @@
 use Rattle.std.proofs.Common.{◌≡◌, ℕ, zero, suc, ◌+◌, ◌<◌, ◌&&◌, cond, eqb, Bool, true, false, List, [], ◌∷◌, length, get_or, Option, Some, None, refl, ap, ◌∙◌, sym, subst, arith, inl, inr, eq-eqb, length-append}
 use Rattle.std.proofs.lemmas.List.{get_or_append_left, get_or_push}
 use Rattle.std.proofs.lemmas.Bool.{eqb-true, cases_Bool, cases_lt, and_parts}
-use Rattle.fact_specs.specs.declared.Fact.{Fact}
-use Rattle.fact_specs.specs.Joins.{rep}
-use Rattle.fact_specs.specs.State.{parent, is_label_part}
-use Rattle.fact_specs.proofs.Joined.{rep-le}
+use Rattle.calculus_specs.specs.declared.facts.Fact.{Fact}
+use Rattle.calculus_specs.specs.Joins.{rep}
+use Rattle.calculus_specs.specs.State.{parent, is_label_part}
+use Rattle.calculus_specs.proofs.Joined.{rep-le}
 use Rattle.tableau_specs.specs.declared.Block.{Block}
 use Rattle.tableau_specs.specs.declared.Block.TheVariants.{Clear, By, Under}
 use Rattle.tableau_specs.specs.Blocked.{is_clear, is_parent_clear, may_block, blocked_from, block_at, blocks_to, block_of}

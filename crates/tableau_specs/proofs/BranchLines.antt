@@ -5,17 +5,17 @@ use Rattle.std.specs.Option.{option_map}
 use Rattle.std.proofs.lemmas.Option.{slice_get-map, slice_get_within}
 use Rattle.std.proofs.lemmas.List.{length-map}
 use Rattle.std.proofs.lemmas.List.Elements.{All-contains}
-use Rattle.shq_base.specs.Concept.{Concept, top}
-use Rattle.shape_specs.specs.Normal.{negated_form}
-use Rattle.shape_specs.specs.Shape.{Shape, shape_of}
-use Rattle.shape_specs.specs.Shape.Shape.{union as or_shape}
-use Rattle.shape_specs.specs.Tree.{tree_of, trees_of}
-use Rattle.shape_specs.proofs.Unique.{part_list-parts_of}
-use Rattle.fact_specs.specs.declared.Fact.{Fact}
-use Rattle.fact_specs.specs.declared.Fact.TheVariants.{Has, Apart, Same}
-use Rattle.fact_specs.specs.State.{node_count, has, is_successor}
-use Rattle.fact_specs.specs.Reading.{read_fact}
-use Rattle.refutation_specs.specs.Rules.{Known, when, with_facts, or_children, choose_children, knows}
+use Rattle.calculus_specs.specs.Concept.{Concept, top}
+use Rattle.calculus_specs.specs.Normal.{negated_form}
+use Rattle.calculus_specs.specs.Shape.{Shape, shape_of}
+use Rattle.calculus_specs.specs.Shape.Shape.{union as or_shape}
+use Rattle.calculus_specs.specs.Tree.{tree_of, trees_of}
+use Rattle.calculus_specs.proofs.Unique.{part_list-parts_of}
+use Rattle.calculus_specs.specs.declared.facts.Fact.{Fact}
+use Rattle.calculus_specs.specs.declared.facts.Fact.TheVariants.{Has, Apart, Same}
+use Rattle.calculus_specs.specs.State.{node_count, has, is_successor}
+use Rattle.calculus_specs.specs.Reading.{read_fact}
+use Rattle.calculus_specs.specs.Rules.{Known, when, with_facts, or_children, choose_children, knows}
 use Rattle.tableau_specs.specs.declared.Branch.{Branch}
 use Rattle.tableau_specs.specs.declared.Branch.TheVariants.{Or, Choose, Pair}
 use Rattle.tableau_specs.specs.Clash.{filled_successors}

@@ -3,24 +3,24 @@ use Rattle.std.proofs.Common.{◌≡◌, ℕ, zero, suc, ◌+◌, ◌<◌, ◌&&
 use Rattle.std.specs.List.{list_any, range_with_len, All}
 use Rattle.std.proofs.lemmas.Bool.{cases_Bool, or_cases, eqb-true, ltb-true, and_parts, or_right}
 use Rattle.std.proofs.lemmas.List.Elements.{All-nil, All-cons}
-use Rattle.shq_base.specs.Concept.{Concept, top, bottom, name, complement, intersection, union, some_of, all_of, at_least, at_most, Parts, parts_of, part_list}
-use Rattle.shape_specs.specs.Same.{is_same}
-use Rattle.shape_specs.specs.Shape.{Shape, shape_of, is_normal}
-use Rattle.shape_specs.specs.Shape.Shape.{bottom as bottom_shape, name as name_shape, not_name, union as or_shape, at_most as most_shape}
-use Rattle.shape_specs.specs.Tree.{tree_of, trees_of, tree_over}
-use Rattle.shape_specs.specs.Rows.{Part, part_at}
-use Rattle.shape_specs.specs.Rows.Part.{inclusion, range}
-use Rattle.shape_specs.proofs.Same.{same_to_eq}
-use Rattle.shape_specs.proofs.Unique.{tree_of_shape}
-use Rattle.fact_specs.specs.declared.Fact.{Fact}
-use Rattle.fact_specs.specs.declared.Fact.TheVariants.{Has, Edge, Apart, Same}
-use Rattle.fact_specs.specs.Joins.{rep}
-use Rattle.fact_specs.specs.State.{node_count, gives_concept, has, has_tree, has_edge, all_apart}
-use Rattle.fact_specs.specs.Reading.{read_facts, are_listed}
-use Rattle.fact_specs.proofs.Reading.{reps-read, has-read}
-use Rattle.refutation_specs.specs.Line.{Line}
-use Rattle.refutation_specs.specs.Line.Line.{start_line, and_line, or_line, all_line, carry_line, row_line, range_line, some_line, least_line, choose_line, pair_line, bottom_line, clash_line, most_line}
-use Rattle.refutation_specs.specs.Rules.{Known, knows, with_facts, when, at_concept, start_children, and_children, or_children, all_children, carry_children, row_children, range_children, some_children, least_children, choose_children, clash_children, most_children, are_fillers}
+use Rattle.calculus_specs.specs.Concept.{Concept, top, bottom, name, complement, intersection, union, some_of, all_of, at_least, at_most, Parts, parts_of, part_list}
+use Rattle.calculus_specs.specs.Same.{is_same}
+use Rattle.calculus_specs.specs.Shape.{Shape, shape_of, is_normal}
+use Rattle.calculus_specs.specs.Shape.Shape.{bottom as bottom_shape, name as name_shape, not_name, union as or_shape, at_most as most_shape}
+use Rattle.calculus_specs.specs.Tree.{tree_of, trees_of, tree_over}
+use Rattle.calculus_specs.specs.Rows.{Part, part_at}
+use Rattle.calculus_specs.specs.Rows.Part.{inclusion, range}
+use Rattle.calculus_specs.proofs.Same.{same_to_eq}
+use Rattle.calculus_specs.proofs.Unique.{tree_of_shape}
+use Rattle.calculus_specs.specs.declared.facts.Fact.{Fact}
+use Rattle.calculus_specs.specs.declared.facts.Fact.TheVariants.{Has, Edge, Apart, Same}
+use Rattle.calculus_specs.specs.Joins.{rep}
+use Rattle.calculus_specs.specs.State.{node_count, gives_concept, has, has_tree, has_edge, all_apart}
+use Rattle.calculus_specs.specs.Reading.{read_facts, are_listed}
+use Rattle.calculus_specs.proofs.Reading.{reps-read, has-read}
+use Rattle.calculus_specs.specs.Line.{Line}
+use Rattle.calculus_specs.specs.Line.Line.{start_line, and_line, or_line, all_line, carry_line, row_line, range_line, some_line, least_line, choose_line, pair_line, bottom_line, clash_line, most_line}
+use Rattle.calculus_specs.specs.Rules.{Known, knows, with_facts, when, at_concept, start_children, and_children, or_children, all_children, carry_children, row_children, range_children, some_children, least_children, choose_children, clash_children, most_children, are_fillers}
 use Rattle.tableau_specs.specs.Clash.{IsClash}
 use Rattle.tableau_specs.specs.Clash.IsClash.{of_bottom, of_names, of_most}
 use Rattle.tableau_specs.specs.Steps.{SearchContext, below_of}

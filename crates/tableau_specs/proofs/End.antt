@@ -1,10 +1,10 @@
 -- From a saturated trail no step is legal.
 use Rattle.std.proofs.Common.{◌≡◌, ℕ, true, List, [], ◌∷◌, ◌++◌, refl, inl, inr}
 use Rattle.std.proofs.lemmas.Bool.{cases_Bool}
-use Rattle.shape_specs.specs.Shape.{shape_of}
-use Rattle.shape_specs.specs.Shape.Shape.{all_of}
-use Rattle.fact_specs.specs.declared.Fact.TheVariants.{Has}
-use Rattle.fact_specs.specs.State.{has}
+use Rattle.calculus_specs.specs.Shape.{shape_of}
+use Rattle.calculus_specs.specs.Shape.Shape.{all_of}
+use Rattle.calculus_specs.specs.declared.facts.Fact.TheVariants.{Has}
+use Rattle.calculus_specs.specs.State.{has}
 use Rattle.tableau_specs.specs.declared.Branch.{Branch}
 use Rattle.tableau_specs.specs.declared.Choice.{Choice}
 use Rattle.tableau_specs.specs.declared.Item.{Item}

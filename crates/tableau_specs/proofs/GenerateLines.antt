@@ -4,14 +4,14 @@ use Rattle.std.specs.List.{list_any, range_with_len}
 use Rattle.std.proofs.lemmas.Bool.{cases_Bool, eqb-true}
 use Rattle.std.proofs.lemmas.Bool.Decides.{nat_tests}
 use Rattle.std.proofs.lemmas.List.{map-append}
-use Rattle.shq_base.specs.Concept.{Concept}
-use Rattle.shape_specs.specs.Shape.Shape.{some_of as some_shape, at_least as least_shape}
-use Rattle.shape_specs.specs.Tree.{tree_of}
-use Rattle.fact_specs.specs.declared.Fact.{Fact}
-use Rattle.fact_specs.specs.declared.Fact.TheVariants.{Has, Edge, Apart, Same}
-use Rattle.fact_specs.specs.State.{node_count, new_nodes, apart_from, pairwise_apart, fresh_facts}
-use Rattle.fact_specs.specs.Reading.{read_fact, read_facts}
-use Rattle.refutation_specs.specs.Rules.{Known, knows, knows_some_from, when, with_nodes, some_children, least_children}
+use Rattle.calculus_specs.specs.Concept.{Concept}
+use Rattle.calculus_specs.specs.Shape.Shape.{some_of as some_shape, at_least as least_shape}
+use Rattle.calculus_specs.specs.Tree.{tree_of}
+use Rattle.calculus_specs.specs.declared.facts.Fact.{Fact}
+use Rattle.calculus_specs.specs.declared.facts.Fact.TheVariants.{Has, Edge, Apart, Same}
+use Rattle.calculus_specs.specs.State.{node_count, new_nodes, apart_from, pairwise_apart, fresh_facts}
+use Rattle.calculus_specs.specs.Reading.{read_fact, read_facts}
+use Rattle.calculus_specs.specs.Rules.{Known, knows, knows_some_from, when, with_nodes, some_children, least_children}
 use Rattle.tableau_specs.specs.Steps.{SearchContext, Generates}
 use Rattle.tableau_specs.specs.Steps.Generates.{by_some, by_least}
 use Rattle.tableau_specs.proofs.TreeShaped.{count_pos}

@@ -4,17 +4,17 @@ use Rattle.std.specs.List.{list_any, All, Contains}
 use Rattle.std.proofs.lemmas.List.Elements.{All-nil, All-cons, All-head, All-tail, All-append, All-push, All-take, All-contains, All-get_or}
 use Rattle.std.proofs.lemmas.Bool.{and_parts, or_cases, eqb-true}
 use Rattle.std.proofs.lemmas.Option.{slice_get_within, get_or_from_slice_get}
-use Rattle.shq_base.specs.Concept.{Concept}
-use Rattle.shape_specs.specs.Normal.{negated_form}
-use Rattle.shape_specs.specs.Shape.{Shape, shape_of, IsTable}
-use Rattle.shape_specs.specs.Shape.Shape.{top as top_shape, intersection as intersection_shape, union as union_shape, some_of as some_shape, all_of as all_shape, at_least as least_shape, at_most as most_shape}
-use Rattle.shape_specs.specs.Tree.{tree_over, trees_of, tree_of}
-use Rattle.shape_specs.specs.Rows.{Theory, Row, IsRowOf, IsChoice}
-use Rattle.shape_specs.proofs.Unique.{tree_of_shape}
-use Rattle.fact_specs.specs.declared.Fact.{Fact}
-use Rattle.fact_specs.specs.declared.Fact.TheVariants.{Has, Edge, Apart, Same}
-use Rattle.fact_specs.specs.Joins.{rep}
-use Rattle.fact_specs.specs.State.{node_count, gives_concept, has, gives_edge, has_edge, new_nodes, apart_from, pairwise_apart, fresh_facts}
+use Rattle.calculus_specs.specs.Concept.{Concept}
+use Rattle.calculus_specs.specs.Normal.{negated_form}
+use Rattle.calculus_specs.specs.Shape.{Shape, shape_of, IsTable}
+use Rattle.calculus_specs.specs.Shape.Shape.{top as top_shape, intersection as intersection_shape, union as union_shape, some_of as some_shape, all_of as all_shape, at_least as least_shape, at_most as most_shape}
+use Rattle.calculus_specs.specs.Tree.{tree_over, trees_of, tree_of}
+use Rattle.calculus_specs.specs.Rows.{Theory, Row, IsRowOf, IsChoice}
+use Rattle.calculus_specs.proofs.Unique.{tree_of_shape}
+use Rattle.calculus_specs.specs.declared.facts.Fact.{Fact}
+use Rattle.calculus_specs.specs.declared.facts.Fact.TheVariants.{Has, Edge, Apart, Same}
+use Rattle.calculus_specs.specs.Joins.{rep}
+use Rattle.calculus_specs.specs.State.{node_count, gives_concept, has, gives_edge, has_edge, new_nodes, apart_from, pairwise_apart, fresh_facts}
 use Rattle.tableau_specs.specs.declared.Branch.{Branch}
 use Rattle.tableau_specs.specs.declared.Branch.TheVariants.{Or, Choose, Pair}
 use Rattle.tableau_specs.specs.declared.Choice.{Choice}

@@ -4,15 +4,15 @@ use Rattle.std.specs.List.{list_any, list_all, range_with_len, All}
 use Rattle.std.proofs.lemmas.List.Elements.{All-head, All-tail}
 use Rattle.std.proofs.lemmas.Bool.{lt-ltb, cases_Bool}
 use Rattle.std.proofs.lemmas.Bool.Decides.{nat_tests}
-use Rattle.shq_base.specs.Concept.{Concept}
-use Rattle.shape_specs.specs.Shape.{Shape, shape_of}
-use Rattle.shape_specs.specs.Shape.Shape.{top as top_shape}
-use Rattle.shape_specs.specs.Tree.{tree_of, trees_of, tree_over}
-use Rattle.shape_specs.proofs.Unique.{tree_of_shape}
-use Rattle.fact_specs.specs.declared.Fact.{Fact}
-use Rattle.fact_specs.specs.State.{node_count, has, has_tree, has_edge, are_apart, all_apart}
-use Rattle.fact_specs.proofs.Reading.{keeps_state, has-read}
-use Rattle.refutation_specs.specs.Rules.{Known, knows, when, at_concept, are_fillers}
+use Rattle.calculus_specs.specs.Concept.{Concept}
+use Rattle.calculus_specs.specs.Shape.{Shape, shape_of}
+use Rattle.calculus_specs.specs.Shape.Shape.{top as top_shape}
+use Rattle.calculus_specs.specs.Tree.{tree_of, trees_of, tree_over}
+use Rattle.calculus_specs.proofs.Unique.{tree_of_shape}
+use Rattle.calculus_specs.specs.declared.facts.Fact.{Fact}
+use Rattle.calculus_specs.specs.State.{node_count, has, has_tree, has_edge, are_apart, all_apart}
+use Rattle.calculus_specs.proofs.Reading.{keeps_state, has-read}
+use Rattle.calculus_specs.specs.Rules.{Known, knows, when, at_concept, are_fillers}
 use Rattle.tableau_specs.specs.Steps.{SearchContext, below_of}
 use Rattle.tableau_specs.proofs.Listed.{listed}
 use Rattle.tableau_specs.specs.Lines.{known_by, concept_in}

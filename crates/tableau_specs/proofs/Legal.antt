@@ -5,12 +5,12 @@ use Rattle.std.proofs.lemmas.List.{append-nil}
 use Rattle.std.proofs.lemmas.List.Elements.{All-contains}
 use Rattle.std.proofs.lemmas.Bool.{or_cases, and_parts, or_right}
 use Rattle.std.proofs.lemmas.Option.{slice_get_within, get_or_from_slice_get}
-use Rattle.shape_specs.specs.Shape.{Shape}
-use Rattle.fact_specs.specs.declared.Fact.{Fact}
-use Rattle.fact_specs.specs.declared.Fact.TheVariants.{Has, Edge, Apart, Same}
-use Rattle.fact_specs.specs.Joins.{rep, rep_after}
-use Rattle.fact_specs.specs.State.{node_count, gives_edge, has_edge, is_successor, new_nodes, apart_from, pairwise_apart, fresh_facts}
-use Rattle.fact_specs.proofs.Joined.{rep-snoc}
+use Rattle.calculus_specs.specs.Shape.{Shape}
+use Rattle.calculus_specs.specs.declared.facts.Fact.{Fact}
+use Rattle.calculus_specs.specs.declared.facts.Fact.TheVariants.{Has, Edge, Apart, Same}
+use Rattle.calculus_specs.specs.Joins.{rep, rep_after}
+use Rattle.calculus_specs.specs.State.{node_count, gives_edge, has_edge, is_successor, new_nodes, apart_from, pairwise_apart, fresh_facts}
+use Rattle.calculus_specs.proofs.Joined.{rep-snoc}
 use Rattle.tableau_specs.specs.declared.Branch.{Branch}
 use Rattle.tableau_specs.specs.declared.Choice.{Choice}
 use Rattle.tableau_specs.specs.declared.Item.{Item}

@@ -15,3 +15,14 @@ pub mod BranchLines
 pub mod GenerateLines
 pub mod AddLines
 pub mod ClashLines
+pub mod Agreeing
+pub mod Moved
+pub mod After
+pub mod Concept
+pub mod Bare
+pub mod Grown
+pub mod ClashBlock
+pub mod Parted
+pub mod Marks
+pub mod Merged
+pub mod Join

@@ -5,14 +5,14 @@ use Rattle.std.proofs.lemmas.List.{get_or_past}
 use Rattle.std.proofs.lemmas.List.Elements.{All-nil, All-cons, All-head, All-tail, All-append, All-push, All-take, All-contains, All-get_or}
 use Rattle.std.proofs.lemmas.Bool.{cases_lt, ltb-true, lt-ltb, and_parts}
 use Rattle.std.proofs.lemmas.Option.{slice_get_within, get_or_from_slice_get}
-use Rattle.shq_base.specs.Concept.{Concept}
-use Rattle.shape_specs.specs.Shape.{Shape, shape_of, has_parts_below, IsTable}
-use Rattle.shape_specs.specs.Shape.Shape.{top, intersection, union, some_of, all_of, at_least, at_most}
-use Rattle.shape_specs.specs.Rows.{Theory, Row, IsRowOf, IsChoice}
-use Rattle.fact_specs.specs.declared.Fact.{Fact}
-use Rattle.fact_specs.specs.declared.Fact.TheVariants.{Has}
-use Rattle.fact_specs.specs.State.{new_nodes, apart_from, pairwise_apart, fresh_facts, node_count}
-use Rattle.fact_specs.specs.Reading.{is_fact_listed, are_listed}
+use Rattle.calculus_specs.specs.Concept.{Concept}
+use Rattle.calculus_specs.specs.Shape.{Shape, shape_of, has_parts_below, IsTable}
+use Rattle.calculus_specs.specs.Shape.Shape.{top, intersection, union, some_of, all_of, at_least, at_most}
+use Rattle.calculus_specs.specs.Rows.{Theory, Row, IsRowOf, IsChoice}
+use Rattle.calculus_specs.specs.declared.facts.Fact.{Fact}
+use Rattle.calculus_specs.specs.declared.facts.Fact.TheVariants.{Has}
+use Rattle.calculus_specs.specs.State.{new_nodes, apart_from, pairwise_apart, fresh_facts, node_count}
+use Rattle.calculus_specs.specs.Reading.{is_fact_listed, are_listed}
 use Rattle.tableau_specs.specs.declared.Branch.{Branch}
 use Rattle.tableau_specs.specs.declared.Branch.TheVariants.{Or, Choose, Pair}
 use Rattle.tableau_specs.specs.declared.Choice.{Choice}

@@ -5,20 +5,20 @@ use Rattle.std.proofs.lemmas.List.{get_or_append_left}
 use Rattle.std.proofs.lemmas.List.Elements.{All-nil, All-cons, All-head, All-tail, All-weaker, All-get_or}
 use Rattle.std.proofs.lemmas.Bool.{or_cases, eqb-true, ltb-true, cases_Bool, and_parts}
 use Rattle.std.proofs.lemmas.Option.{slice_get_within, get_or_from_slice_get}
-use Rattle.shq_base.specs.Concept.{Concept, name}
-use Rattle.shape_specs.specs.Normal.{negated_form}
-use Rattle.shape_specs.specs.Shape.{Shape, shape_of, IsTable}
-use Rattle.shape_specs.specs.Shape.Shape.{top}
-use Rattle.shape_specs.specs.Tree.{IsComplement}
-use Rattle.shape_specs.specs.Rows.{Theory, Part, Row, Trigger, IsRowOf, IsChoice, part_at, conjunct_at}
-use Rattle.shape_specs.specs.Rows.Part.{inclusion, range}
-use Rattle.shape_specs.specs.Rows.Trigger.{always, names, edge, end_of}
-use Rattle.shape_specs.proofs.Tree.{tree_of-append}
-use Rattle.fact_specs.specs.declared.Fact.{Fact}
-use Rattle.fact_specs.specs.declared.Fact.TheVariants.{Has, Edge, Apart, Same}
-use Rattle.fact_specs.specs.Joins.{rep}
-use Rattle.fact_specs.specs.State.{gives_concept, has, concepts_at, label}
-use Rattle.fact_specs.specs.Reading.{are_listed}
+use Rattle.calculus_specs.specs.Concept.{Concept, name}
+use Rattle.calculus_specs.specs.Normal.{negated_form}
+use Rattle.calculus_specs.specs.Shape.{Shape, shape_of, IsTable}
+use Rattle.calculus_specs.specs.Shape.Shape.{top}
+use Rattle.calculus_specs.specs.Tree.{IsComplement}
+use Rattle.calculus_specs.specs.Rows.{Theory, Part, Row, Trigger, IsRowOf, IsChoice, part_at, conjunct_at}
+use Rattle.calculus_specs.specs.Rows.Part.{inclusion, range}
+use Rattle.calculus_specs.specs.Rows.Trigger.{always, names, edge, end_of}
+use Rattle.calculus_specs.proofs.Tree.{tree_of-append}
+use Rattle.calculus_specs.specs.declared.facts.Fact.{Fact}
+use Rattle.calculus_specs.specs.declared.facts.Fact.TheVariants.{Has, Edge, Apart, Same}
+use Rattle.calculus_specs.specs.Joins.{rep}
+use Rattle.calculus_specs.specs.State.{gives_concept, has, concepts_at, label}
+use Rattle.calculus_specs.specs.Reading.{are_listed}
 use Rattle.tableau_specs.specs.declared.Branch.{Branch}
 use Rattle.tableau_specs.specs.declared.Item.{Item}
 use Rattle.tableau_specs.specs.declared.Item.TheVariants.{Mark}

@@ -4,12 +4,12 @@ use Rattle.std.specs.List.{list_any, list_all, range_with_len, All}
 use Rattle.std.proofs.lemmas.Bool.{eqb-true, ltb-true, lt-ltb, or_cases, and_parts}
 use Rattle.std.proofs.lemmas.List.{length-take-le}
 use Rattle.std.proofs.lemmas.List.Elements.{All-nil, All-cons, All-head, All-tail, All-filter, All-take, filter_passes}
-use Rattle.shape_specs.specs.Shape.{Shape}
-use Rattle.fact_specs.specs.declared.Fact.{Fact}
-use Rattle.fact_specs.specs.declared.Fact.TheVariants.{Has, Edge, Apart, Same}
-use Rattle.fact_specs.specs.Joins.{rep}
-use Rattle.fact_specs.specs.State.{node_count, gives_edge, has, has_edge, is_successor, successors, are_apart, all_apart}
-use Rattle.fact_specs.proofs.Joined.{rep-le}
+use Rattle.calculus_specs.specs.Shape.{Shape}
+use Rattle.calculus_specs.specs.declared.facts.Fact.{Fact}
+use Rattle.calculus_specs.specs.declared.facts.Fact.TheVariants.{Has, Edge, Apart, Same}
+use Rattle.calculus_specs.specs.Joins.{rep}
+use Rattle.calculus_specs.specs.State.{node_count, gives_edge, has, has_edge, is_successor, successors, are_apart, all_apart}
+use Rattle.calculus_specs.proofs.Joined.{rep-le}
 use Rattle.tableau_specs.specs.Clash.{is_filled_successor, filled_successors, IsClash, IsPlainClash}
 use Rattle.tableau_specs.specs.Clash.IsClash.{of_bottom, of_names, of_most}
 use Rattle.tableau_specs.specs.Clash.IsPlainClash.{plain_bottom, plain_names, plain_most}

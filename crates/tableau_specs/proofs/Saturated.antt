@@ -10,11 +10,11 @@ use Rattle.std.proofs.lemmas.List.Elements.{All-head, All-tail}
 use Rattle.std.proofs.lemmas.List.Kept.{AllPairs-filter}
 use Rattle.std.proofs.lemmas.Map.Made.{length-le_from_is_member}
 use Rattle.std.proofs.lemmas.Map.Views.{any-filter_same}
-use Rattle.fact_specs.specs.declared.Fact.{Fact}
-use Rattle.fact_specs.specs.declared.Fact.TheVariants.{Same}
-use Rattle.fact_specs.specs.Joins.{rep}
-use Rattle.fact_specs.specs.State.{node_count, gives_concept, gives_edge, gives_apart, has, has_edge, is_successor, successors, are_apart, all_apart}
-use Rattle.fact_specs.proofs.Joined.{rep-le, rep-joined, joined-rep}
+use Rattle.calculus_specs.specs.declared.facts.Fact.{Fact}
+use Rattle.calculus_specs.specs.declared.facts.Fact.TheVariants.{Same}
+use Rattle.calculus_specs.specs.Joins.{rep}
+use Rattle.calculus_specs.specs.State.{node_count, gives_concept, gives_edge, gives_apart, has, has_edge, is_successor, successors, are_apart, all_apart}
+use Rattle.calculus_specs.proofs.Joined.{rep-le, rep-joined, joined-rep}
 use Rattle.tableau_specs.specs.declared.Branch.TheVariants.{Pair}
 use Rattle.tableau_specs.specs.declared.Item.{Item}
 use Rattle.tableau_specs.specs.Items.{facts_of}

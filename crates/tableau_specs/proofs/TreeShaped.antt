@@ -4,11 +4,11 @@ use Rattle.std.specs.List.{list_any}
 use Rattle.std.proofs.lemmas.Bool.{eqb-true, or_cases, cases_Bool, cases_lt, and_parts, or_right, or_parts}
 use Rattle.std.proofs.lemmas.Bool.Decides.{nat_tests}
 use Rattle.std.proofs.Math.Bool.{or-false}
-use Rattle.fact_specs.specs.declared.Fact.{Fact}
-use Rattle.fact_specs.specs.declared.Fact.TheVariants.{Has, Edge, Apart, Same}
-use Rattle.fact_specs.specs.Joins.{rep, rep_after, merged}
-use Rattle.fact_specs.specs.State.{node_count, first_origin, parent, gives_edge, gives_apart}
-use Rattle.fact_specs.proofs.Joined.{any-snoc, rep-snoc, rep-le}
+use Rattle.calculus_specs.specs.declared.facts.Fact.{Fact}
+use Rattle.calculus_specs.specs.declared.facts.Fact.TheVariants.{Has, Edge, Apart, Same}
+use Rattle.calculus_specs.specs.Joins.{rep, rep_after, merged}
+use Rattle.calculus_specs.specs.State.{node_count, first_origin, parent, gives_edge, gives_apart}
+use Rattle.calculus_specs.proofs.Joined.{any-snoc, rep-snoc, rep-le}
 use Rattle.tableau_specs.proofs.PlainClash.{successor_is_node, successor_has_edge}
 use Rattle.tableau_specs.specs.declared.Item.{Item}
 use Rattle.tableau_specs.specs.declared.Item.TheVariants.{Fact as Says}

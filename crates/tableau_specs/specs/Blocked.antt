@@ -1,8 +1,8 @@
 -- Which representatives are blocked, by recursion on the number of the node.
 use Rattle.std.specs.Prelude.{ℕ, zero, suc, ◌+◌, ◌==◌, ◌&&◌, Bool, true, false, List, [], ◌∷◌, ◌++◌, Option, Some, None, if◌then◌else◌, slice_index_or}
-use Rattle.fact_specs.specs.declared.Fact.{Fact}
-use Rattle.fact_specs.specs.Joins.{rep}
-use Rattle.fact_specs.specs.State.{parent, is_label_part}
+use Rattle.calculus_specs.specs.declared.facts.Fact.{Fact}
+use Rattle.calculus_specs.specs.Joins.{rep}
+use Rattle.calculus_specs.specs.State.{parent, is_label_part}
 use Rattle.tableau_specs.specs.declared.Block.{Block}
 use Rattle.tableau_specs.specs.declared.Block.TheVariants.{Clear, By, Under}
 

@@ -1,10 +1,10 @@
 -- Clashes: what shuts a branch by itself.
 use Rattle.std.specs.Prelude.{◌≡◌, ℕ, ◌+◌, ◌<◌, nat_lt, ◌&&◌, Bool, true, List, length, filter}
 use Rattle.std.specs.List.{list_all}
-use Rattle.shape_specs.specs.Shape.{Shape, shape_of}
-use Rattle.shape_specs.specs.Shape.Shape.{bottom, name, not_name, at_most}
-use Rattle.fact_specs.specs.declared.Fact.{Fact}
-use Rattle.fact_specs.specs.State.{node_count, has, has_edge, successors, all_apart}
+use Rattle.calculus_specs.specs.Shape.{Shape, shape_of}
+use Rattle.calculus_specs.specs.Shape.Shape.{bottom, name, not_name, at_most}
+use Rattle.calculus_specs.specs.declared.facts.Fact.{Fact}
+use Rattle.calculus_specs.specs.State.{node_count, has, has_edge, successors, all_apart}
 
 -- whether y is a successor of x with the filler e: a node at the end of an edge below s from x that has e. It may have been
 -- joined to another node, since facts are read through joins

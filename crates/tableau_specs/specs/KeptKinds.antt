@@ -1,9 +1,9 @@
 -- Kinds of concepts and of roles that the rules of a search keep: from concepts of the kind they make such concepts alone, and
 -- edges by such roles.
 use Rattle.std.specs.Prelude.{◌≡◌, ℕ, true, List, Some, Contains}
-use Rattle.shq_base.specs.Concept.{Concept, top, intersection, union, some_of, all_of, at_least, at_most, parts_of}
-use Rattle.shape_specs.specs.Normal.{negated_form}
-use Rattle.shape_specs.specs.Rows.{Part, Theory, part_at, row_of, Trigger}
+use Rattle.calculus_specs.specs.Concept.{Concept, top, intersection, union, some_of, all_of, at_least, at_most, parts_of}
+use Rattle.calculus_specs.specs.Normal.{negated_form}
+use Rattle.calculus_specs.specs.Rows.{Part, Theory, part_at, row_of, Trigger}
 
 -- each rule that has a concept of the kind gives concepts of the kind, and edges by the roles; so does each row
 pub record IsKept (theory : Theory) (P : Concept → Type 0) (E : ℕ → Type 0) : Type 0 where

@@ -11,3 +11,6 @@ pub mod StepExamples
 pub mod SearchExample
 pub mod Lines
 pub mod LineLaws
+pub mod BlockLaws
+pub mod Near
+pub mod ClashLaws

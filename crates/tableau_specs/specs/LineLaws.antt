@@ -1,17 +1,17 @@
 -- Each clash and each step of a search is a rule line of a refutation: its premises hold, and its children know what the step
 -- adds.
 use Rattle.std.specs.Prelude.{◌≡◌, ℕ, ◌+◌, ◌^◌, ◌<◌, ◌≤◌, true, List, [], ◌∷◌, ◌++◌, length, Some, slice_get, Contains}
-use Rattle.shq_base.specs.Concept.{Concept}
-use Rattle.shape_specs.specs.Shape.{Shape, IsTable}
-use Rattle.shape_specs.specs.Tree.{tree_of, IsComplement}
-use Rattle.shape_specs.specs.Rows.{Theory, part_at, IsChoice}
-use Rattle.shape_specs.specs.Rows.Part.{range}
-use Rattle.fact_specs.specs.declared.Fact.{Fact}
-use Rattle.fact_specs.specs.declared.Fact.TheVariants.{Has}
-use Rattle.fact_specs.specs.State.{node_count}
-use Rattle.fact_specs.specs.Reading.{read_fact, read_facts, are_listed}
-use Rattle.refutation_specs.specs.Line.{Line}
-use Rattle.refutation_specs.specs.Rules.{Known, with_facts}
+use Rattle.calculus_specs.specs.Concept.{Concept}
+use Rattle.calculus_specs.specs.Shape.{Shape, IsTable}
+use Rattle.calculus_specs.specs.Tree.{tree_of, IsComplement}
+use Rattle.calculus_specs.specs.Rows.{Theory, part_at, IsChoice}
+use Rattle.calculus_specs.specs.Rows.Part.{range}
+use Rattle.calculus_specs.specs.declared.facts.Fact.{Fact}
+use Rattle.calculus_specs.specs.declared.facts.Fact.TheVariants.{Has}
+use Rattle.calculus_specs.specs.State.{node_count}
+use Rattle.calculus_specs.specs.Reading.{read_fact, read_facts, are_listed}
+use Rattle.calculus_specs.specs.Line.{Line}
+use Rattle.calculus_specs.specs.Rules.{Known, with_facts}
 use Rattle.tableau_specs.specs.declared.Branch.{Branch}
 use Rattle.tableau_specs.specs.declared.Branch.TheVariants.{Or, Choose, Pair}
 use Rattle.tableau_specs.specs.Clash.{IsClash}

@@ -4,13 +4,13 @@ use Rattle.std.specs.Prelude.{◌≡◌, ℕ, zero, suc, ◌<◌, true, false, �
 use Rattle.std.proofs.Common.{lit<, ap, sym, subst, ◌∙◌, arith, inr}
 use Rattle.std.specs.List.{count_by}
 use Rattle.std.proofs.lemmas.List.Elements.{All-nil, All-cons}
-use Rattle.shq_base.specs.Concept.{name}
-use Rattle.shape_specs.specs.Shape.{Shape, shape_of, has_parts_below, is_normal, IsTable}
-use Rattle.shape_specs.specs.Shape.Shape.{top, name as name_shape, not_name}
-use Rattle.shape_specs.specs.Rows.{Theory, Row, IsRowOf, IsChoice, is_row_of, inclusion_of}
-use Rattle.shape_specs.specs.Rows.Trigger.{names}
-use Rattle.fact_specs.specs.declared.Fact.TheVariants.{Has}
-use Rattle.fact_specs.specs.State.{has}
+use Rattle.calculus_specs.specs.Concept.{name}
+use Rattle.calculus_specs.specs.Shape.{Shape, shape_of, has_parts_below, is_normal, IsTable}
+use Rattle.calculus_specs.specs.Shape.Shape.{top, name as name_shape, not_name}
+use Rattle.calculus_specs.specs.Rows.{Theory, Row, IsRowOf, IsChoice, is_row_of, inclusion_of}
+use Rattle.calculus_specs.specs.Rows.Trigger.{names}
+use Rattle.calculus_specs.specs.declared.facts.Fact.TheVariants.{Has}
+use Rattle.calculus_specs.specs.State.{has}
 use Rattle.tableau_specs.specs.declared.Item.{Item}
 use Rattle.tableau_specs.specs.declared.Item.TheVariants.{Fact as Says}
 use Rattle.tableau_specs.specs.Items.{facts_of}

@@ -1,17 +1,17 @@
 -- The steps of a search. The table of legal steps fixes no strategy.
 use Rattle.std.specs.Prelude.{◌≡◌, ℕ, ◌+◌, ◌<◌, ◌==◌, ◌&&◌, Bool, true, false, List, [], ◌∷◌, ◌++◌, length, take, Option, Some, slice_get, All, Contains}
 use Rattle.std.specs.List.{list_any, list_all, range_with_len}
-use Rattle.shq_base.specs.Concept.{Concept, name}
-use Rattle.shape_specs.specs.Shape.{Shape, shape_of}
-use Rattle.shape_specs.specs.Shape.Shape.{name as name_shape, intersection, union, some_of, all_of, at_least, at_most}
-use Rattle.shape_specs.specs.Tree.{IsComplement}
-use Rattle.shape_specs.specs.Rows.{Part, Theory, part_at, conjunct_at, Trigger, Row}
-use Rattle.shape_specs.specs.Rows.Part.{inclusion}
-use Rattle.shape_specs.specs.Rows.Trigger.{always, names, edge, end_of}
-use Rattle.fact_specs.specs.declared.Fact.{Fact}
-use Rattle.fact_specs.specs.declared.Fact.TheVariants.{Has, Apart, Same}
-use Rattle.fact_specs.specs.Joins.{rep}
-use Rattle.fact_specs.specs.State.{node_count, has, label, has_edge, is_successor, are_apart, all_apart, fresh_facts}
+use Rattle.calculus_specs.specs.Concept.{Concept, name}
+use Rattle.calculus_specs.specs.Shape.{Shape, shape_of}
+use Rattle.calculus_specs.specs.Shape.Shape.{name as name_shape, intersection, union, some_of, all_of, at_least, at_most}
+use Rattle.calculus_specs.specs.Tree.{IsComplement}
+use Rattle.calculus_specs.specs.Rows.{Part, Theory, part_at, conjunct_at, Trigger, Row}
+use Rattle.calculus_specs.specs.Rows.Part.{inclusion}
+use Rattle.calculus_specs.specs.Rows.Trigger.{always, names, edge, end_of}
+use Rattle.calculus_specs.specs.declared.facts.Fact.{Fact}
+use Rattle.calculus_specs.specs.declared.facts.Fact.TheVariants.{Has, Apart, Same}
+use Rattle.calculus_specs.specs.Joins.{rep}
+use Rattle.calculus_specs.specs.State.{node_count, has, label, has_edge, is_successor, are_apart, all_apart, fresh_facts}
 use Rattle.tableau_specs.specs.declared.Branch.{Branch}
 use Rattle.tableau_specs.specs.declared.Branch.TheVariants.{Or, Choose, Pair}
 use Rattle.tableau_specs.specs.declared.Choice.{Choice}

@@ -19,13 +19,26 @@
 //!   edge of some role (absorption; Horrocks and Tobies, "Reasoning with Axioms: Theory and Practice", 2000).
 //! - The steps fix no strategy. Every order of steps is a legal search, and the laws hold for each.
 //! - Each clash and each step is a rule line of a refutation (`line_laws`), so that a closed search can be checked.
+//! - `clash_laws` say where a step can make a plain clash, so that a search looks near what has changed alone; `block_laws` which
+//!   nodes keep their blocks when a fact is put.
 #![tactic(auto)]
 
-use fact_specs::Fact;
-
+mod block_laws;
+mod clash_laws;
 pub mod line_laws;
 pub mod state_laws;
 pub mod step_laws;
+
+pub use block_laws::{
+    blocks_follow_what_stands_below, facts_leave_blocks_below, facts_leave_nodes_below,
+    new_nodes_leave_blocks, one_fact_leaves_blocks_below,
+};
+use calculus_specs::Fact;
+pub use clash_laws::{
+    a_concept_clashes_at_its_node, joined_nodes_clash_there_or_above,
+    new_nodes_clash_below_their_parent, no_plain_clash_stands_before_a_mark,
+    nodes_apart_clash_where_both_are_counted, reached_facts_speak_of_nodes,
+};
 
 /// What a mark chooses between.
 #[derive(Clone, Copy, Debug, PartialEq, Eq)]

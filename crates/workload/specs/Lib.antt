@@ -1,1 +1,3 @@
 pub mod WorkloadText
+pub mod WorkloadAxioms
+pub mod Laws

@@ -2,7 +2,7 @@
 ghost use Rattle.std.specs.Prelude.{◌≡◌, ◌++◌, OnOk, decimal};
 ghost use Rattle.workload.specs.WorkloadText.{line, with_two, with_three, some_text, two_text, all_text, either_text, group_text};
 
-use shq_base::NoMemory;
+use shq_terms::NoMemory;
 use std::alloc::Global;
 
 /// Puts bytes last.

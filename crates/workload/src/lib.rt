@@ -3,10 +3,14 @@
 //! The query [`QUERY`] has eight justifications, which take one axiom of each of three pairs, and three repairs, which are
 //! the pairs, in the text of any size: the axioms that make the text long have nothing to do with it. So the time for an
 //! answer tells what axioms cost that a query does not need.
+//!
+//! `document_laws` say what the text is: a document of known names and axioms for each size, and its query one on it.
 #![tactic(auto)]
 
+mod document_laws;
 mod groups;
 mod workload_text;
 
-pub use shq_base::NoMemory;
+pub use document_laws::{workload_queries_are_read, workloads_are_documents};
+pub use shq_terms::NoMemory;
 pub use workload_text::{QUERY, generate};

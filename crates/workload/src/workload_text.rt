@@ -3,7 +3,7 @@ ghost use Rattle.std.specs.Prelude.{◌≡◌, ◌≤◌, ◌++◌, OnOk, IfOk};
 ghost use Rattle.workload.specs.WorkloadText.{kernel_text, groups_text, workload_text};
 
 use crate::groups::{put_group, put_line};
-use shq_base::NoMemory;
+use shq_terms::NoMemory;
 use std::alloc::Global;
 
 /// The query of a workload, over the prefix of its text.

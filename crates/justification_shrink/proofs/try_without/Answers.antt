@@ -2,7 +2,7 @@ use Rattle.std.proofs.Common.{◌∙◌, ap, sym, subst, inl}
 use Rattle.std.specs.FinSet as set
 use Rattle.lane_sieve.specs.Sets.{NumberSet}
 use Rattle.set_questions.specs.Asked.{Answers}
-use Rattle.set_questions.specs.declared.entail.Ask.TheVariants.{No}
+use Rattle.set_questions.specs.declared.entail.Reply.TheVariants.{No}
 use Rattle.justification_shrink.proofs.Shrinking.{put_back}
 use Rattle.justification_shrink.proofs.try_without.Goals as goal
 

@@ -10,10 +10,10 @@ returns-then-not-has c = (λ _ member. absurd (true≢false (sym member ∙ sym 
 
 pub returns : goal.returns
 returns c =
-    let justs = c.args.justs.now in
+    let justifications = c.args.justifications.now in
     let s = c.args.set.now in
     let k = c.args.number in
     let others = c.take.new.self.members in
     let e : others ≡ set.remove s.members k = c.take.ensures.members ∙ ap (λ (t : Limited). set.remove t.members k) c.in_ok-others.ensures in
     let member : set.contains s.members k ≡ true = sym c.has.ensures ∙ c.if-not-has.false in
-    (λ beside _. to_alone justs s k others e (c.is_hit_beside.ensures.0 beside), λ need. c.is_hit_beside.ensures.1 (from_alone justs s k others e (need member)))
+    (λ beside _. to_alone justifications s k others e (c.is_hit_beside.ensures.0 beside), λ need. c.is_hit_beside.ensures.1 (from_alone justifications s k others e (need member)))

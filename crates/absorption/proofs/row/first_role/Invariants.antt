@@ -1,6 +1,6 @@
 use Rattle.std.proofs.Common.{◌≡◌, map, drop}
-use Rattle.shape_specs.specs.Tree.{tree_of}
-use Rattle.row_triggers.specs.Triggers.{first_role}
+use Rattle.calculus_specs.specs.Tree.{tree_of}
+use Rattle.absorption.specs.Triggers.{first_role}
 use Rattle.absorption.proofs.row.first_role.Given as goal
 
 abbrev pub invariant-loop-conjunct : goal.invariant-loop-conjunct

@@ -1,9 +1,9 @@
 use Rattle.std.proofs.Common.{◌≡◌, ℕ, List, Option, Some, map, subst, refl, ◌∙◌}
-use Rattle.shape_specs.specs.Rows.{inclusion}
-use Rattle.shape_specs.specs.Tree.{tree_of}
+use Rattle.calculus_specs.specs.Rows.{inclusion}
+use Rattle.calculus_specs.specs.Tree.{tree_of}
 use Rattle.row_cache.specs.declared.cached_row.CachedRow.{CachedRow}
 use Rattle.row_cache.specs.Rows.{IsRow, row_for}
-use Rattle.row_triggers.specs.Triggers.{name_positions, inclusion_trigger}
+use Rattle.absorption.specs.Triggers.{name_positions, inclusion_trigger}
 use Rattle.absorption.specs.declared.row.Row.{Row}
 use Rattle.absorption.proofs.Listed.{made_row, no_row}
 use Rattle.absorption.proofs.row.inclusion_row.Goals as goal

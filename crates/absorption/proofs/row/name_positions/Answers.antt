@@ -1,6 +1,6 @@
 use Rattle.std.proofs.Common.{◌+◌, ◌++◌, List, ℕ, map, drop, ap, sym, ◌∙◌}
-use Rattle.shape_specs.specs.Tree.{tree_of}
-use Rattle.row_triggers.specs.Triggers.{name_positions}
+use Rattle.calculus_specs.specs.Tree.{tree_of}
+use Rattle.absorption.specs.Triggers.{name_positions}
 use Rattle.absorption.proofs.Listed.{name_here, no_name_here}
 use Rattle.absorption.proofs.row.name_positions.Goals as goal
 use Rattle.absorption.proofs.row.name_positions.Goals.{then-is_name+in_ok-push, else-is_name}

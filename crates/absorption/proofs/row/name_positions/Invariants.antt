@@ -1,6 +1,6 @@
 use Rattle.std.proofs.Common.{◌≡◌, ◌+◌, ◌++◌, map, drop}
-use Rattle.shape_specs.specs.Tree.{tree_of}
-use Rattle.row_triggers.specs.Triggers.{name_positions}
+use Rattle.calculus_specs.specs.Tree.{tree_of}
+use Rattle.absorption.specs.Triggers.{name_positions}
 use Rattle.absorption.proofs.row.name_positions.Given as goal
 
 -- what is put is what stands before this place

@@ -1,6 +1,6 @@
 use Rattle.std.proofs.Common.{◌≡◌, ◌+◌, ◌-◌, ap, subst, ◌∙◌, arith}
 use Rattle.std.specs.Prelude.{IfOk}
-use Rattle.shape_specs.specs.Rows.{Part}
+use Rattle.calculus_specs.specs.Rows.{Part}
 use Rattle.shq_nnf.specs.Parts.{axiom_parts, part_in}
 use Rattle.absorption.specs.Rows.{IsRowOfPart}
 use Rattle.absorption.proofs.Listed.{part_listed, part_read}

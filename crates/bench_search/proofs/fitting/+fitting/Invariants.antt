@@ -1,6 +1,6 @@
 use Rattle.std.proofs.Common.{◌≡◌, ◌+◌, ◌*◌, drop}
-use Rattle.shq_base.specs.Concept.{parts_of}
-use Rattle.shq_base.specs.Depth.{depth, depth_parts}
+use Rattle.shq_terms.specs.Concept.{parts_of}
+use Rattle.shq_terms.specs.Depth.{depth, depth_parts}
 use Rattle.bench_search.specs.Small.{all_fit}
 use Rattle.bench_search.proofs.fitting.+fitting.Given as goal
 

@@ -1,6 +1,6 @@
 use Rattle.std.proofs.Common.{◌≡◌, drop}
-use Rattle.fact_specs.specs.Joins.{rep}
-use Rattle.fact_specs.specs.State.{node_count}
+use Rattle.calculus_specs.specs.Joins.{rep}
+use Rattle.calculus_specs.specs.State.{node_count}
 use Rattle.completion_tree.specs.Trail.{facts_in}
 use Rattle.blocking.specs.Changed.{least_touched}
 use Rattle.blocking.proofs.changed.least_changed.Given as goal

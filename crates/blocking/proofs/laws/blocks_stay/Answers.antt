@@ -1,4 +1,4 @@
-use Rattle.blocking.proofs.Blocks.{going_on, going_back, current_below, less_below, nothing_below}
+use Rattle.blocking.proofs.BlockLists.{going_on, going_back, current_below, less_below, nothing_below}
 use Rattle.blocking.proofs.laws.blocks_stay.Goals as goal
 
 pub returns : goal.returns

@@ -1,4 +1,4 @@
-use Rattle.read_limits.proofs.InLimit.{documents_in_limit}
+use Rattle.job_inputs.proofs.InLimit.{documents_in_limit}
 use Rattle.classification_jobs.proofs.answering.classified.Goals as goal
 
 pub classified_on-outcome-requires-clause-in_limit : goal.classified_on-outcome-requires-clause-in_limit

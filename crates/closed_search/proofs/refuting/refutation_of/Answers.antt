@@ -2,7 +2,7 @@ use Rattle.std.proofs.Common.{◌≡◌, true, ◌<◌, ◌^◌, List, map, ap, 
 use Rattle.axiom_sets.specs.Sets.{Limited, IsWithin}
 use Rattle.std.specs.List.{list_all}
 use Rattle.refutation_tree.specs.ReadBack.{is_small}
-use Rattle.refutation_specs.specs.Line.{Line}
+use Rattle.calculus_specs.specs.Line.{Line}
 use Rattle.refutation_tree.specs.declared.line.Line.{Line as Kept}
 use Rattle.refutation_tree.specs.RuleLine.{line_of}
 use Rattle.closed_search.specs.Named.{NamesAxioms}

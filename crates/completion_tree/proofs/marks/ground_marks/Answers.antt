@@ -1,5 +1,5 @@
 use Rattle.std.proofs.Common.{sym, ◌∙◌}
-use Rattle.fact_specs.specs.Joins.{rep}
+use Rattle.calculus_specs.specs.Joins.{rep}
 use Rattle.completion_tree.proofs.Resting.{joining_within}
 use Rattle.completion_tree.proofs.marks.ground_marks.Goals as goal
 

@@ -1,8 +1,8 @@
 use Rattle.std.proofs.Common.{◌≡◌, ℕ, true, List, sym, ap, subst, ◌∙◌}
 use Rattle.std.specs.FinSet as set
-use Rattle.fact_specs.specs.declared.Fact.{Fact}
-use Rattle.fact_specs.specs.Joins.{rep}
-use Rattle.fact_specs.specs.State.{is_so}
+use Rattle.calculus_specs.specs.declared.facts.Fact.{Fact}
+use Rattle.calculus_specs.specs.Joins.{rep}
+use Rattle.calculus_specs.specs.State.{is_so}
 use Rattle.fact_tree.specs.Told.{gives}
 use Rattle.completion_tree.specs.Trail.{facts_in}
 use Rattle.completion_tree.specs.Marks.{facts_within, first_node, second_node, is_join, AreWithin, SomeWithin}

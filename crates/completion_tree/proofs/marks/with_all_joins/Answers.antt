@@ -1,6 +1,6 @@
 use Rattle.std.proofs.Common.{◌≡◌, ◌<◌, ℕ, [], ◌∷◌, List, length, get_or, subst, ap, arith}
 use Rattle.std.specs.Prelude.{filter}
-use Rattle.fact_specs.specs.Joins.{rep}
+use Rattle.calculus_specs.specs.Joins.{rep}
 use Rattle.completion_tree.specs.declared.tree.Entry.{Entry}
 use Rattle.completion_tree.specs.Trail.{is_same, places}
 use Rattle.completion_tree.specs.Marks.{is_join, AreWithin}

@@ -1,7 +1,7 @@
 use Rattle.std.proofs.Common.{◌≡◌, take, true}
 use Rattle.std.specs.Prelude.{filter}
 use Rattle.std.specs.FinSet as set
-use Rattle.fact_specs.specs.Joins.{rep}
+use Rattle.calculus_specs.specs.Joins.{rep}
 use Rattle.completion_tree.specs.Trail.{is_same}
 use Rattle.completion_tree.specs.Marks.{is_join, AreWithin}
 use Rattle.completion_tree.proofs.marks.with_all_joins.Given as goal

@@ -1,6 +1,6 @@
 use Rattle.std.proofs.Common.{◌≡◌, true, sym, ap, ◌∙◌, [], ◌∷◌}
 use Rattle.std.specs.FinSet as set
-use Rattle.fact_specs.specs.Joins.{rep}
+use Rattle.calculus_specs.specs.Joins.{rep}
 use Rattle.completion_tree.specs.Marks.{is_join, AreWithin}
 use Rattle.completion_tree.proofs.Resting.{if_ok_by, part_itself, part_left, part_right, single}
 use Rattle.completion_tree.proofs.marks.with_join.Goals as goal

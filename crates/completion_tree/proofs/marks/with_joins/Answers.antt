@@ -1,6 +1,6 @@
 use Rattle.std.proofs.Common.{sym, subst, ap, ◌∙◌, List, ℕ}
-use Rattle.fact_specs.specs.declared.Fact.{Fact}
-use Rattle.fact_specs.specs.Joins.{rep}
+use Rattle.calculus_specs.specs.declared.facts.Fact.{Fact}
+use Rattle.calculus_specs.specs.Joins.{rep}
 use Rattle.fact_tree.specs.Told.{IsAlone}
 use Rattle.completion_tree.specs.Marks.{is_join, AreWithin}
 use Rattle.completion_tree.proofs.Resting.{part_itself, alone_within}

@@ -1,7 +1,8 @@
 use Rattle.std.proofs.lemmas.Result.{err_from_is_err_and}
-use Rattle.job_inputs.specs.Questions.{question_text}
-use Rattle.job_texts.specs.Answer.{text_bytes}
-use Rattle.decision_jobs.proofs.Answered.{question_in_limit, all_answer, unasked}
+use Rattle.certificate_check.specs.Questions.{question_text}
+use Rattle.certificate_check.specs.Answer.{text_bytes}
+use Rattle.certificate_check.proofs.ReadInLimit.{question_in_limit}
+use Rattle.decision_jobs.proofs.Answered.{all_answer, unasked}
 use Rattle.decision_jobs.proofs.answering.answered_on.Goals as goal
 
 pub decided-outcome-requires-clause-in_limit : goal.decided-outcome-requires-clause-in_limit

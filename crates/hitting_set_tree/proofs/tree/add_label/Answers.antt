@@ -5,7 +5,7 @@ pub returns : goal.returns
 returns c = record {
   frame = c.in_ok-frame.frame;
   stands = c.in_ok-frame.ensures;
-  justs = c.in_ok-push.ensures.items;
+  justifications = c.in_ok-push.ensures.items;
   leaves = refl;
   frames = c.in_ok-push-2.ensures.items;
   all = c.len-tree.ensures ∙ c.push-2.new.self.ok.0;

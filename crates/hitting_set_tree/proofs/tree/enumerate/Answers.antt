@@ -29,6 +29,6 @@ in_order-requires g c =
 pub returns-clause-found : goal.returns-clause-found
 returns-clause-found g c =
     let m = g.E.Entail.meaning c.grow.new.entail in
-    let f : Found = record { justs = c.in_ok-justs.justs; leaves = c.grow.new.tree.leaves; finished = c.in_ok-finished.finished } in
-    found_lists m (lists c.grow.new.tree) f (g.met.E.Entail.grows c.grow.new.entail) c.in_ok-justs.ensures.order
-    (λ s. subst (λ (xs : List Limited). Contains f.justs.items s ↔ Contains xs s) c.deref.ensures.value (c.in_ok-justs.ensures.members s)) refl c.in_ok-finished.ensures.closed c.in_ok-finished.ensures.grown
+    let f : Found = record { justifications = c.in_ok-justifications.justifications; leaves = c.grow.new.tree.leaves; finished = c.in_ok-finished.finished } in
+    found_lists m (lists c.grow.new.tree) f (g.met.E.Entail.grows c.grow.new.entail) c.in_ok-justifications.ensures.order
+    (λ s. subst (λ (xs : List Limited). Contains f.justifications.items s ↔ Contains xs s) c.deref.ensures.value (c.in_ok-justifications.ensures.members s)) refl c.in_ok-finished.ensures.closed c.in_ok-finished.ensures.grown

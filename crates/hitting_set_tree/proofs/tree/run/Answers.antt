@@ -1,8 +1,8 @@
 use Rattle.std.proofs.Common.{◌≡◌, ◌∙◌, ◌+◌, ◌≤◌, ◌++◌, ◌∷◌, [], List, true, false, ap, arith, subst}
 use Rattle.justification_shrink.proofs.Shrinking.{keeps_on}
-use Rattle.hitting_set_frames.specs.declared.frames.Frame.{Frame}
-use Rattle.hitting_set_frames.specs.Weight.{weight, frame_weight}
-use Rattle.hitting_set_tree.specs.Tree.{Lists, lists, with_frame, IsListed, IsCovered}
+use Rattle.hitting_set_tree.specs.declared.frames.Frame.{Frame}
+use Rattle.hitting_set_tree.specs.Weight.{weight, frame_weight}
+use Rattle.hitting_set_tree.specs.Tree.{Lists, lists, with_frame, HoldsLists, IsCovered}
 use Rattle.hitting_set_tree.specs.Open.{HasOpen, StaysOpen}
 use Rattle.hitting_set_tree.proofs.Opening.{few_on}
 use Rattle.hitting_set_tree.proofs.Stepping.{unlisted, last_frame, uncovered, weight_push}
@@ -13,18 +13,18 @@ pub look_on-requires-clause-frame : goal.look_on-requires-clause-frame
 look_on-requires-clause-frame g c =
     let m = g.E.Entail.meaning c.loop-frame.entail in
     let tree = c.loop-frame.tree in
-    let ls : Lists = record { justs = tree.justs.items; leaves = tree.leaves.items; frames = c.pop.new.self.items } in
+    let ls : Lists = record { justifications = tree.justifications.items; leaves = tree.leaves.items; frames = c.pop.new.self.items } in
     let popped : tree.frames.items ≡ c.pop.new.self.items ++ c.in-Some.frame ∷ [] = c.in-Some.ensures.items in
-    let listed : IsListed m (with_frame ls c.in-Some.frame) = subst (λ (fs : List Frame). IsListed m (record { justs = ls.justs; leaves = ls.leaves; frames = fs })) popped c.loop-frame.invariant.listed in
+    let listed : HoldsLists m (with_frame ls c.in-Some.frame) = subst (λ (fs : List Frame). HoldsLists m (record { justifications = ls.justifications; leaves = ls.leaves; frames = fs })) popped c.loop-frame.invariant.listed in
     last_frame m ls c.in-Some.frame listed
 
 pub look_on-requires-clause-listed : goal.look_on-requires-clause-listed
 look_on-requires-clause-listed g c =
     let m = g.E.Entail.meaning c.loop-frame.entail in
     let tree = c.loop-frame.tree in
-    let ls : Lists = record { justs = tree.justs.items; leaves = tree.leaves.items; frames = c.pop.new.self.items } in
+    let ls : Lists = record { justifications = tree.justifications.items; leaves = tree.leaves.items; frames = c.pop.new.self.items } in
     let popped : tree.frames.items ≡ c.pop.new.self.items ++ c.in-Some.frame ∷ [] = c.in-Some.ensures.items in
-    let listed : IsListed m (with_frame ls c.in-Some.frame) = subst (λ (fs : List Frame). IsListed m (record { justs = ls.justs; leaves = ls.leaves; frames = fs })) popped c.loop-frame.invariant.listed in
+    let listed : HoldsLists m (with_frame ls c.in-Some.frame) = subst (λ (fs : List Frame). HoldsLists m (record { justifications = ls.justifications; leaves = ls.leaves; frames = fs })) popped c.loop-frame.invariant.listed in
     unlisted m ls c.in-Some.frame listed
 
 pub look_on-requires-clause-open : goal.look_on-requires-clause-open
@@ -32,7 +32,7 @@ look_on-requires-clause-open g c =
     let m = g.E.Entail.meaning c.loop-frame.entail in
     let tree = c.loop-frame.tree in
     let popped : tree.frames.items ≡ c.pop.new.self.items ++ c.in-Some.frame ∷ [] = c.in-Some.ensures.items in
-    subst (λ (fs : List Frame). HasOpen m.taken (record { justs = tree.justs.items; leaves = tree.leaves.items; frames = fs }) tree.rooted) popped c.loop-frame.invariant.open'
+    subst (λ (fs : List Frame). HasOpen m.taken (record { justifications = tree.justifications.items; leaves = tree.leaves.items; frames = fs }) tree.rooted) popped c.loop-frame.invariant.open'
 
 pub loop-frame-smaller : goal.loop-frame-smaller
 loop-frame-smaller g c =
@@ -49,9 +49,9 @@ loop-frame-preserved g c =
     let m' = g.E.Entail.meaning c.look_on.new.entail in
     let tree = c.loop-frame.tree in
     let tree' = c.look_on.new.tree in
-    let ls : Lists = record { justs = tree.justs.items; leaves = tree.leaves.items; frames = c.pop.new.self.items } in
+    let ls : Lists = record { justifications = tree.justifications.items; leaves = tree.leaves.items; frames = c.pop.new.self.items } in
     let popped : tree.frames.items ≡ c.pop.new.self.items ++ c.in-Some.frame ∷ [] = c.in-Some.ensures.items in
-    let covered : IsCovered (with_frame ls c.in-Some.frame) (λ _. ⊥) = subst (λ (fs : List Frame). IsCovered (record { justs = ls.justs; leaves = ls.leaves; frames = fs }) (λ _. ⊥)) popped c.loop-frame.invariant.covered in
+    let covered : IsCovered (with_frame ls c.in-Some.frame) (λ _. ⊥) = subst (λ (fs : List Frame). IsCovered (record { justifications = ls.justifications; leaves = ls.leaves; frames = fs }) (λ _. ⊥)) popped c.loop-frame.invariant.covered in
     let open' : StaysOpen m'.taken (lists tree') tree'.rooted true = rw c.if-not-went_on.false at c.in_ok-went_on.ensures.open in
     let step = c.in_ok-went_on.ensures.step in
     record {

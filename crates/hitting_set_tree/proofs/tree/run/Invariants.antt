@@ -1,7 +1,7 @@
 use Rattle.std.proofs.Common.{◌≡◌}
 use Rattle.set_questions.specs.Meaning.{Keeps}
-use Rattle.hitting_set_frames.specs.Weight.{weight}
-use Rattle.hitting_set_tree.specs.Tree.{lists, IsListed, IsCovered}
+use Rattle.hitting_set_tree.specs.Weight.{weight}
+use Rattle.hitting_set_tree.specs.Tree.{lists, HoldsLists, IsCovered}
 use Rattle.hitting_set_tree.specs.Open.{HasOpen, AsksFew}
 use Rattle.hitting_set_tree.proofs.tree.run.Given as goal
 
@@ -11,7 +11,7 @@ invariant-loop-frame g l =
     let before = g.E.Entail.meaning l.fn.entail in
     record {
       keeps : Keeps before m;
-      listed : IsListed m (lists l.tree);
+      listed : HoldsLists m (lists l.tree);
       open' : HasOpen m.taken (lists l.tree) l.tree.rooted;
       covered : IsCovered (lists l.tree) (λ _. ⊥);
       asked : AsksFew before.size before m;

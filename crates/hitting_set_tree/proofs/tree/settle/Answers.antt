@@ -1,5 +1,5 @@
 use Rattle.set_questions.specs.Asked.{Answers}
-use Rattle.set_questions.specs.declared.entail.Ask.TheVariants.{No, Spent}
+use Rattle.set_questions.specs.declared.entail.Reply.TheVariants.{No, Spent}
 use Rattle.hitting_set_tree.specs.Tree.{lists, others}
 use Rattle.hitting_set_tree.proofs.Opening.{ended_pending}
 use Rattle.hitting_set_tree.proofs.Settling.{leaf_step, leaf_is_open}

@@ -2,7 +2,7 @@ use Rattle.std.proofs.Common.{◌≡◌, ◌∙◌, ◌<◌, length, get_or, tru
 use Rattle.std.specs.List.{Contains}
 use Rattle.set_questions.specs.Asked.{Takes}
 use Rattle.justification_shrink.proofs.Shrinking.{keeps_on}
-use Rattle.hitting_set_frames.specs.declared.frames.Frame.{Frame}
+use Rattle.hitting_set_tree.specs.declared.frames.Frame.{Frame}
 use Rattle.hitting_set_tree.specs.Tree.{lists}
 use Rattle.hitting_set_tree.proofs.Opening.{free, node_free}
 use Rattle.hitting_set_tree.proofs.Path.{nothing_left, path_open, path_beside, path_last, one_longer}

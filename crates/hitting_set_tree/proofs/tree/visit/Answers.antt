@@ -3,9 +3,9 @@ use Rattle.std.specs.List.{Contains, All}
 use Rattle.std.proofs.lemmas.List.Elements.{Contains-get_or}
 use Rattle.lane_sieve.specs.Sets.{IsPart}
 use Rattle.axiom_sets.specs.Sets.{Limited}
-use Rattle.hitting_set_frames.specs.declared.frames.Frame.{Frame}
-use Rattle.hitting_set_frames.specs.Territory.{InNode}
-use Rattle.hitting_set_frames.specs.Weight.{node_weight}
+use Rattle.hitting_set_tree.specs.declared.frames.Frame.{Frame}
+use Rattle.hitting_set_tree.specs.Territory.{InNode}
+use Rattle.hitting_set_tree.specs.Weight.{node_weight}
 use Rattle.hitting_set_tree.specs.Tree.{Lists, IsStep}
 use Rattle.hitting_set_tree.specs.Open.{HasOpen}
 use Rattle.hitting_set_tree.proofs.Opening.{frame_open}
@@ -21,7 +21,7 @@ pub returns-then-is_some-clause-step : goal.returns-then-is_some-clause-step
 returns-then-is_some-clause-step g c =
     let m = g.E.Entail.meaning c.args.entail.now in
     let tree = c.args.tree.now in
-    let ls : Lists = record { justs = tree.justs.items; leaves = tree.leaves.items; frames = tree.frames.items } in
+    let ls : Lists = record { justifications = tree.justifications.items; leaves = tree.leaves.items; frames = tree.frames.items } in
     let hit = c.args.node.hit in
     let found = some_of c.place_of_part.result (λ n. n < length c.deref-2.result.now) (λ n. IsPart (get_or c.deref-2.result.now n hit).members hit.members) (sym c.is_some.ensures ∙ c.if-is_some.true) c.place_of_part.ensures.some c.place_of_part.ensures.part in
     let leaf = get_or c.deref-2.result.now found.0 hit in
@@ -30,28 +30,28 @@ returns-then-is_some-clause-step g c =
 pub place_apart-requires : goal.place_apart-requires
 place_apart-requires g c =
     subst (λ (xs : List Limited). All (λ s. s.limit ≡ c.args.node.hit.limit) xs) (sym c.deref.ensures.value)
-    (all_limits c.args.tree.now.justs.items _ _ c.requires.listed.just_limits c.requires.node.hit_limit)
+    (all_limits c.args.tree.now.justifications.items _ _ c.requires.listed.just_limits c.requires.node.hit_limit)
 
 pub frame_by-requires-clause-limits : goal.frame_by-requires-clause-limits
 frame_by-requires-clause-limits g c =
     subst (λ (xs : List Limited). All (λ s. s.limit ≡ c.args.node.hit.limit) xs) (sym c.deref-in-Some.ensures.value)
-    (all_limits c.args.tree.now.justs.items _ _ c.requires.listed.just_limits c.requires.node.hit_limit)
+    (all_limits c.args.tree.now.justifications.items _ _ c.requires.listed.just_limits c.requires.node.hit_limit)
 
 pub returns-in-Some-clause-step : goal.returns-in-Some-clause-step
 returns-in-Some-clause-step g c =
     let m = g.E.Entail.meaning c.args.entail.now in
     let tree = c.args.tree.now in
-    let ls : Lists = record { justs = tree.justs.items; leaves = tree.leaves.items; frames = tree.frames.items } in
+    let ls : Lists = record { justifications = tree.justifications.items; leaves = tree.leaves.items; frames = tree.frames.items } in
     let found = c.in_ok-frame.ensures in
-    subst (λ (fs : List Frame). IsStep m ls (record { justs = ls.justs; leaves = ls.leaves; frames = fs }) (InNode c.args.node) (node_weight c.args.node) true) (sym c.in_ok-push.ensures.items)
+    subst (λ (fs : List Frame). IsStep m ls (record { justifications = ls.justifications; leaves = ls.leaves; frames = fs }) (InNode c.args.node) (node_weight c.args.node) true) (sym c.in_ok-push.ensures.items)
     (step_frame m ls c.args.node c.requires.listed found.0 c.in_ok-frame.frame c.requires.node.hit_limit (subst (λ (xs : List Limited). Contains xs found.0) c.deref-in-Some.ensures.value found.1) found.2)
 
 pub returns-in-Some-clause-open : goal.returns-in-Some-clause-open
 returns-in-Some-clause-open g c =
     let m = g.E.Entail.meaning c.args.entail.now in
     let tree = c.args.tree.now in
-    let ls : Lists = record { justs = tree.justs.items; leaves = tree.leaves.items; frames = tree.frames.items } in
+    let ls : Lists = record { justifications = tree.justifications.items; leaves = tree.leaves.items; frames = tree.frames.items } in
     let found = c.in_ok-frame.ensures in
     let state = c.requires.open in
-    subst (λ (fs : List Frame). HasOpen m.taken (record { justs = ls.justs; leaves = ls.leaves; frames = fs }) tree.rooted) (sym c.in_ok-push.ensures.items)
+    subst (λ (fs : List Frame). HasOpen m.taken (record { justifications = ls.justifications; leaves = ls.leaves; frames = fs }) tree.rooted) (sym c.in_ok-push.ensures.items)
     (state.0, frame_open m.taken ls tree.rooted state.0 c.args.node found.0 c.in_ok-frame.frame state.1 c.requires.beside (subst (λ (xs : List Limited). Contains xs found.0) c.deref-in-Some.ensures.value found.1) found.2)

@@ -1,11 +1,11 @@
 use Rattle.std.proofs.Common.{◌≡◌, ℕ, ◌<◌, length, refl, sym, subst}
 use Rattle.std.specs.Prelude.{All}
-use Rattle.fact_specs.specs.State.{node_count}
+use Rattle.calculus_specs.specs.State.{node_count}
 use Rattle.completion_tree.specs.Trail.{facts_in}
 use Rattle.finite_model.specs.ModelLists.{meaning}
-use Rattle.counter_models.specs.Elements.{elements}
-use Rattle.structure_model.specs.declared.structure.Edge.{Edge}
-use Rattle.structure_model.specs.Structure.{IsInterpretation}
+use Rattle.search_laws.specs.Elements.{elements}
+use Rattle.model_builder.specs.declared.structure_model.Edge.{Edge}
+use Rattle.model_builder.specs.Structure.{IsInterpretation}
 use Rattle.model_builder.specs.Numbered.{AreNumbered}
 use Rattle.model_builder.proofs.Numbers.{all_elements, numbered_same}
 use Rattle.model_builder.proofs.Members.{members_inside}

@@ -1,7 +1,7 @@
 use Rattle.std.proofs.Common.{◌≡◌, ℕ, List, length, sym, ap, ◌∙◌, subst}
 use Rattle.axiom_sets.specs.Sets.{Limited, IsWithin}
 use Rattle.shq_terms.specs.declared.axioms.Numbered.{Numbered}
-use Rattle.module_specs.specs.LocalModule.{IsLocalModule}
+use Rattle.pinpointing_specs.specs.LocalModule.{IsLocalModule}
 use Rattle.module_extract.proofs.Joined.{ends}
 use Rattle.module_extract.proofs.extraction.module.Goals as goal
 

@@ -1,6 +1,6 @@
 use Rattle.std.proofs.Common.{ap, arith}
-use Rattle.shq_base.specs.Depth.{depth}
-use Rattle.shq_base.proofs.Depth.{depth_at}
+use Rattle.shq_terms.specs.Depth.{depth}
+use Rattle.shq_terms.proofs.Depth.{depth_at}
 use Rattle.module_extract.proofs.locality.+locality.Goals as goal
 
 pub some_void-is_void-requires : goal.some_void-is_void-requires

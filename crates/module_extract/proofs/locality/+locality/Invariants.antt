@@ -1,7 +1,7 @@
 use Rattle.std.proofs.Common.{◌≡◌, ◌+◌, ◌*◌, drop}
-use Rattle.shq_base.specs.Concept.{parts_of}
-use Rattle.shq_base.specs.Depth.{depth, depth_parts}
-use Rattle.module_specs.specs.Local.{some_void, all_void, some_whole, all_whole}
+use Rattle.shq_terms.specs.Concept.{parts_of}
+use Rattle.shq_terms.specs.Depth.{depth, depth_parts}
+use Rattle.pinpointing_specs.specs.Local.{some_void, all_void, some_whole, all_whole}
 use Rattle.module_extract.specs.Marks.{is_marked}
 use Rattle.module_extract.proofs.locality.+locality.Given as goal
 

@@ -1,6 +1,6 @@
 use Rattle.std.proofs.Common.{ap, arith}
-use Rattle.shq_base.specs.Depth.{depth}
-use Rattle.shq_base.proofs.Depth.{depth_at}
+use Rattle.shq_terms.specs.Depth.{depth}
+use Rattle.shq_terms.proofs.Depth.{depth_at}
 use Rattle.module_extract.proofs.names.+names.Goals as goal
 
 pub push_concepts-push_concept-requires : goal.push_concepts-push_concept-requires

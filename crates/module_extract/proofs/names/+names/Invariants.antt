@@ -1,7 +1,7 @@
 use Rattle.std.proofs.Common.{◌≡◌, ◌+◌, ◌*◌, ◌++◌, drop}
-use Rattle.shq_base.specs.Concept.{parts_of}
-use Rattle.shq_base.specs.Depth.{depth, depth_parts}
-use Rattle.module_specs.specs.Signature.{parts_names}
+use Rattle.shq_terms.specs.Concept.{parts_of}
+use Rattle.shq_terms.specs.Depth.{depth, depth_parts}
+use Rattle.pinpointing_specs.specs.Signature.{parts_names}
 use Rattle.module_extract.proofs.names.+names.Given as goal
 
 abbrev pub decreases-push_concept : goal.decreases-push_concept

@@ -1,6 +1,6 @@
 use Rattle.std.proofs.Common.{◌≡◌, ◌++◌, take}
 use Rattle.std.specs.Prelude.{map}
-use Rattle.module_specs.specs.declared.Name.TheVariants as variants
+use Rattle.pinpointing_specs.specs.declared.module_laws.Name.TheVariants as variants
 use Rattle.module_extract.proofs.names.push_roles.Given as goal
 
 abbrev pub invariant-loop-role : goal.invariant-loop-role

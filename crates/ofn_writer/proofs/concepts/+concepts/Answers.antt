@@ -1,7 +1,7 @@
 use Rattle.std.proofs.Common.{◌≡◌, arith, ap, length}
-use Rattle.shq_base.specs.Concept.{some_of, all_of, at_least, exactly}
-use Rattle.shq_base.specs.Depth.{depth}
-use Rattle.shq_base.proofs.Depth.{depth_at}
+use Rattle.shq_terms.specs.Concept.{some_of, all_of, at_least, exactly}
+use Rattle.shq_terms.specs.Depth.{depth}
+use Rattle.shq_terms.proofs.Depth.{depth_at}
 use Rattle.ofn_writer.proofs.Listed.{listed_at}
 use Rattle.ofn_writer.proofs.concepts.+concepts.Goals as goal
 

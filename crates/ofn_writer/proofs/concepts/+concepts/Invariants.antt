@@ -1,6 +1,6 @@
 use Rattle.std.proofs.Common.{◌≡◌, ◌*◌, ◌+◌, ◌++◌, drop, length, true}
-use Rattle.shq_base.specs.Concept.{parts_of}
-use Rattle.shq_base.specs.Depth.{depth, depth_parts}
+use Rattle.shq_terms.specs.Concept.{parts_of}
+use Rattle.shq_terms.specs.Depth.{depth, depth_parts}
 use Rattle.shq_terms.specs.Uses.{parts_use_listed}
 use Rattle.ofn_writer.specs.Canonical.{spaced, part_texts}
 use Rattle.ofn_writer.proofs.concepts.+concepts.Given as goal

@@ -1,5 +1,5 @@
 use Rattle.std.proofs.Common.{Err, ap}
-use Rattle.job_texts.specs.Answer.{text_bytes}
+use Rattle.classification_jobs.specs.Answer.{text_bytes}
 use Rattle.ontology_jobs.specs.Words.{kept_job}
 use Rattle.ontology_jobs.proofs.Replies.{read_answers, whole_leaves, too_long_leaves, end_leaves}
 use Rattle.ontology_jobs.proofs.jobs.do_job.Goals as goal

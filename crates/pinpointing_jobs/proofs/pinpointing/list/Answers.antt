@@ -1,6 +1,6 @@
 use Rattle.std.proofs.Common.{}
-use Rattle.job_texts.specs.Answer.{text_bytes}
-use Rattle.pinpointing_lists.proofs.Listed.{of_axioms_found, all_listed}
+use Rattle.job_inputs.specs.Answer.{text_bytes}
+use Rattle.pinpointing_jobs.proofs.Listed.{of_axioms_found, all_listed}
 use Rattle.pinpointing_jobs.proofs.pinpointing.list.Goals as goal
 
 pub list_answer-outcome-requires : goal.list_answer-outcome-requires

@@ -1,5 +1,5 @@
 use Rattle.std.proofs.Common.{ap, arith, ◌∙◌, ◌<◌, ◌^◌}
-use Rattle.shq_oracle.specs.OracleLists.{OracleLists}
+use Rattle.query_asker.specs.OracleLists.{OracleLists}
 use Rattle.pinpointing_jobs.proofs.Searched.{made_fresh, module_keeps_answers, all_searched}
 use Rattle.pinpointing_jobs.proofs.searching.search.Goals as goal
 

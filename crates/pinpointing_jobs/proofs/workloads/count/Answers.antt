@@ -1,6 +1,6 @@
 use Rattle.std.proofs.Common.{}
-use Rattle.job_texts.specs.Answer.{text_bytes}
-use Rattle.pinpointing_lists.proofs.Listed.{of_axioms_found, all_counted}
+use Rattle.job_inputs.specs.Answer.{text_bytes}
+use Rattle.pinpointing_jobs.proofs.Listed.{of_axioms_found, all_counted}
 use Rattle.pinpointing_jobs.proofs.workloads.count.Goals as goal
 
 pub count_answer-outcome-requires : goal.count_answer-outcome-requires

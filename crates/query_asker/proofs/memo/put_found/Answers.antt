@@ -2,7 +2,7 @@ use Rattle.std.proofs.Common.{List, ap, sym, subst}
 use Rattle.std.specs.Prelude.{OnOk}
 use Rattle.std.specs.List.{Contains}
 use Rattle.axiom_sets.specs.Sets.{Limited}
-use Rattle.antichains.specs.Kept.{kind_of, kept_sets}
+use Rattle.set_questions.specs.Kept.{kind_of, kept_sets}
 use Rattle.query_asker.specs.Memory.{yes_of, no_of, KeepsWithAll}
 use Rattle.query_asker.proofs.memo.put_found.Goals as goal
 

@@ -1,5 +1,5 @@
 use Rattle.std.proofs.Common.{◌≡◌, ◌&&◌, drop}
-use Rattle.fact_specs.specs.State.{all_apart}
+use Rattle.calculus_specs.specs.State.{all_apart}
 use Rattle.refutation_rules.proofs.counts.are_all_apart.Given as goal
 
 abbrev pub invariant-loop-place : goal.invariant-loop-place

@@ -1,6 +1,6 @@
 use Rattle.std.proofs.Common.{arith, ap}
-use Rattle.shq_base.specs.Depth.{depth}
-use Rattle.shq_base.proofs.Depth.{depth_at}
+use Rattle.shq_terms.specs.Depth.{depth}
+use Rattle.shq_terms.proofs.Depth.{depth_at}
 use Rattle.role_box.proofs.counted_roles.+counted.Goals as goal
 
 pub all_count_simple-class_counts_simple-requires : goal.all_count_simple-class_counts_simple-requires

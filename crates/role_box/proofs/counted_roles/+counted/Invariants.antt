@@ -1,6 +1,6 @@
 use Rattle.std.proofs.Common.{◌≡◌, ◌+◌, ◌*◌, drop}
-use Rattle.shq_base.specs.Concept.{parts_of}
-use Rattle.shq_base.specs.Depth.{depth, depth_parts}
+use Rattle.shq_terms.specs.Concept.{parts_of}
+use Rattle.shq_terms.specs.Depth.{depth, depth_parts}
 use Rattle.role_box.specs.Counted.{counted_in}
 use Rattle.role_box.specs.Simple.{are_simple}
 use Rattle.role_box.proofs.counted_roles.+counted.Given as goal

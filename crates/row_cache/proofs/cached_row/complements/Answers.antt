@@ -1,6 +1,6 @@
 use Rattle.std.proofs.Common.{◌+◌, take, map, subst, sym, arith, length}
-use Rattle.shape_specs.specs.Normal.{negated_form}
-use Rattle.shape_specs.specs.Tree.{tree_of}
+use Rattle.calculus_specs.specs.Normal.{negated_form}
+use Rattle.calculus_specs.specs.Tree.{tree_of}
 use Rattle.shq_nnf.specs.Numbers.{AreNumbers}
 use Rattle.shq_nnf.proofs.Numbers.{extends_twice}
 use Rattle.shq_nnf.proofs.Stable.{complements_push}

@@ -1,6 +1,6 @@
 use Rattle.std.proofs.Common.{map, take}
-use Rattle.shape_specs.specs.Normal.{negated_form}
-use Rattle.shape_specs.specs.Tree.{tree_of}
+use Rattle.calculus_specs.specs.Normal.{negated_form}
+use Rattle.calculus_specs.specs.Tree.{tree_of}
 use Rattle.shq_nnf.specs.Numbers.{Extends, AreNumbers}
 use Rattle.row_cache.proofs.cached_row.complements.Given as goal
 

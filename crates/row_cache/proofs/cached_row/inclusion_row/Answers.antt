@@ -1,7 +1,7 @@
 use Rattle.std.proofs.Common.{◌∙◌, ap, map, subst, List, ℕ, ◌≡◌}
 use Rattle.std.specs.Prelude.{Some, Option}
-use Rattle.shape_specs.specs.Rows.{inclusion, part_at}
-use Rattle.shape_specs.specs.Tree.{tree_of}
+use Rattle.calculus_specs.specs.Rows.{inclusion, part_at}
+use Rattle.calculus_specs.specs.Tree.{tree_of}
 use Rattle.shq_nnf.specs.declared.parts.Part.{Part as Kept}
 use Rattle.shq_nnf.specs.declared.parts.Part.TheVariants as K
 use Rattle.axiom_sets.specs.Sets.{member_list}

@@ -1,5 +1,5 @@
 use Rattle.std.proofs.Common.{◌≡◌, ℕ, ◌<◌, length}
-use Rattle.shape_specs.specs.Shape.{shape_of}
+use Rattle.calculus_specs.specs.Shape.{shape_of}
 use Rattle.step_finders.specs.Found.{AreCarriesOf}
 use Rattle.search_rules.specs.Lists.{list_at}
 use Rattle.search_rules.specs.Tables.{role_context}

@@ -1,6 +1,6 @@
 use Rattle.std.proofs.Common.{◌≡◌, Some, None, ap, sym, ◌∙◌, subst, ◌<◌, arith}
 use Rattle.std.proofs.lemmas.Result.{on_ok_weaker}
-use Rattle.shape_specs.specs.Shape.{shape_of}
+use Rattle.calculus_specs.specs.Shape.{shape_of}
 use Rattle.search_rules.specs.Mosts.{filler_of_most}
 use Rattle.search_rules.proofs.Counted.{filler_listed, none_more, one_more}
 use Rattle.search_rules.proofs.mosts.push_most.Goals as goal

@@ -1,4 +1,4 @@
-use Rattle.shape_specs.specs.Shape.{IsTable}
+use Rattle.calculus_specs.specs.Shape.{IsTable}
 use Rattle.shq_nnf.specs.Numbers.{Extends}
 use Rattle.search_rules.proofs.search_rules.put_complements_of_names.Given as goal
 

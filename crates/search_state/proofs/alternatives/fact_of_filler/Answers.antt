@@ -1,5 +1,5 @@
 use Rattle.std.proofs.Common.{◌≡◌, ℕ, sym, subst, arith}
-use Rattle.fact_specs.specs.declared.Fact.TheVariants.{Has}
+use Rattle.calculus_specs.specs.declared.facts.Fact.TheVariants.{Has}
 use Rattle.tableau_specs.specs.declared.Branch.TheVariants.{Choose}
 use Rattle.tableau_specs.specs.Steps.{IsAlternative}
 use Rattle.tableau_specs.specs.Steps.IsAlternative.{of_filler, of_complement}

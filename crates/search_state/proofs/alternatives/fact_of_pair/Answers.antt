@@ -1,5 +1,5 @@
 use Rattle.std.proofs.Common.{◌≡◌, ℕ, sym, subst}
-use Rattle.fact_specs.specs.declared.Fact.TheVariants.{Same, Apart}
+use Rattle.calculus_specs.specs.declared.facts.Fact.TheVariants.{Same, Apart}
 use Rattle.tableau_specs.specs.declared.Branch.TheVariants.{Pair}
 use Rattle.tableau_specs.specs.Steps.{IsAlternative}
 use Rattle.tableau_specs.specs.Steps.IsAlternative.{of_joining, of_parting}

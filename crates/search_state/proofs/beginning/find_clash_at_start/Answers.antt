@@ -1,7 +1,7 @@
 use Rattle.std.proofs.Common.{◌≡◌, ap, subst, Option, None}
 use Rattle.std.specs.Prelude.{MatchOption}
 use Rattle.std.proofs.lemmas.Result.{IfOk-weaker}
-use Rattle.fact_specs.specs.declared.Fact.TheVariants.{Has}
+use Rattle.calculus_specs.specs.declared.facts.Fact.TheVariants.{Has}
 use Rattle.completion_tree.specs.Trail.{facts_in}
 use Rattle.step_finders.specs.declared.clash.Clash.{Clash}
 use Rattle.step_finders.specs.Clashing.{IsShown}

@@ -1,5 +1,5 @@
 use Rattle.std.proofs.Common.{arith, List}
-use Rattle.shape_specs.specs.Shape.{Shape}
+use Rattle.calculus_specs.specs.Shape.{Shape}
 use Rattle.search_state.proofs.Placed.{joined, parted}
 use Rattle.search_state.proofs.next_alternative.joined_or_parted.Goals as goal
 

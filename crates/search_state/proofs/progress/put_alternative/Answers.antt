@@ -1,6 +1,6 @@
 use Rattle.std.proofs.Common.{◌∙◌, ℕ, ap, sym, subst, List}
-use Rattle.fact_specs.specs.declared.Fact.{Fact}
-use Rattle.fact_specs.specs.State.{node_count}
+use Rattle.calculus_specs.specs.declared.facts.Fact.{Fact}
+use Rattle.calculus_specs.specs.State.{node_count}
 use Rattle.fact_tree.specs.Entries.{IsFit}
 use Rattle.completion_tree.specs.Trail.{facts_in}
 use Rattle.search_state.proofs.Entries.{facts-marked}

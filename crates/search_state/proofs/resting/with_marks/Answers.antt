@@ -1,9 +1,9 @@
 use Rattle.std.proofs.Common.{◌≡◌, sym, subst, true, List, ℕ}
 use Rattle.std.specs.FinSet as sets
 use Rattle.lane_sieve.specs.Sets.{NumberSet}
-use Rattle.fact_specs.specs.declared.Fact.{Fact}
-use Rattle.fact_specs.specs.State.{is_so}
-use Rattle.closing_specs.specs.Noted.{within}
+use Rattle.calculus_specs.specs.declared.facts.Fact.{Fact}
+use Rattle.calculus_specs.specs.State.{is_so}
+use Rattle.search_trace.specs.Noted.{within}
 use Rattle.search_state.specs.Marked.{marked_in}
 use Rattle.search_state.proofs.Entries.{within-marked}
 use Rattle.search_state.proofs.Holding.{part_left, part_right, holds_more}

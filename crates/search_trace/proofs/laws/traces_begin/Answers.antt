@@ -1,4 +1,4 @@
-use Rattle.closing_specs.proofs.Places.{start_is_traced}
+use Rattle.search_trace.proofs.Places.{start_is_traced}
 use Rattle.search_trace.proofs.laws.traces_begin.Goals as goal
 
 pub returns : goal.returns

@@ -1,5 +1,5 @@
 use Rattle.std.proofs.Common.{ℕ, Option, MatchOption, subst}
-use Rattle.shape_specs.specs.Shape.Shape.{at_most}
+use Rattle.calculus_specs.specs.Shape.Shape.{at_most}
 use Rattle.step_finders.specs.Choosing.{NoPair, IsPair, NoMostByShape, IsChoosable}
 use Rattle.step_finders.proofs.Each.{answers_more}
 use Rattle.step_finders.proofs.Chosen.{may_choose}

@@ -1,5 +1,5 @@
 use Rattle.std.proofs.Common.{arith, ◌≡◌, below_more}
-use Rattle.fact_specs.specs.Joins.{rep}
+use Rattle.calculus_specs.specs.Joins.{rep}
 use Rattle.step_finders.specs.Choosing.{NoMostAt, IsChoosable}
 use Rattle.step_finders.proofs.Each.{none_said}
 use Rattle.step_finders.proofs.Chosen.{no_most}

@@ -1,5 +1,5 @@
 use Rattle.std.proofs.Common.{◌≡◌, ℕ, ◌<◌}
-use Rattle.fact_specs.specs.Joins.{rep}
+use Rattle.calculus_specs.specs.Joins.{rep}
 use Rattle.step_finders.specs.Choosing.{NoUnionAt}
 use Rattle.step_finders.proofs.choose.find_union.Given as goal
 

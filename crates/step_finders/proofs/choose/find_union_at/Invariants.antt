@@ -1,5 +1,5 @@
 use Rattle.std.proofs.Common.{ℕ, ◌<◌, get_or}
-use Rattle.shape_specs.specs.Shape.{shape_of}
+use Rattle.calculus_specs.specs.Shape.{shape_of}
 use Rattle.step_finders.specs.Choosing.{NoUnionByShape}
 use Rattle.step_finders.proofs.choose.find_union_at.Given as goal
 

@@ -1,5 +1,5 @@
 use Rattle.std.proofs.Common.{◌≡◌, true, ℕ, ◌<◌, get_or}
-use Rattle.fact_specs.specs.Joins.{rep}
+use Rattle.calculus_specs.specs.Joins.{rep}
 use Rattle.tableau_specs.specs.Steps.{below_of}
 use Rattle.step_finders.proofs.choose.role_to.Given as goal
 

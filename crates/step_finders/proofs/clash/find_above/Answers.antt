@@ -1,7 +1,7 @@
 use Rattle.std.proofs.Common.{◌∙◌, ap, sym, subst, arith, ℕ}
 use Rattle.std.specs.List.{All}
-use Rattle.fact_specs.specs.State.{parent}
-use Rattle.fact_specs.proofs.Joined.{rep-le}
+use Rattle.calculus_specs.specs.State.{parent}
+use Rattle.calculus_specs.proofs.Joined.{rep-le}
 use Rattle.step_finders.specs.Clashing.{NotOverrun, NoneAbove, IsShown}
 use Rattle.step_finders.proofs.Each.{answers_more}
 use Rattle.step_finders.proofs.Clashing.{none_above, none_at_root, parent_is_node}

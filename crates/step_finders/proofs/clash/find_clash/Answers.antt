@@ -1,4 +1,4 @@
-use Rattle.shape_specs.specs.Shape.{shape_of}
+use Rattle.calculus_specs.specs.Shape.{shape_of}
 use Rattle.step_finders.specs.Clashing.{NoneByShape, NoneAbove, NoClashBy, IsShown}
 use Rattle.step_finders.proofs.Each.{answers_more, none_said}
 use Rattle.step_finders.proofs.Clashing.{no_clash}

@@ -1,5 +1,5 @@
 use Rattle.std.proofs.Common.{◌≡◌, true, ℕ, arith, get_or}
-use Rattle.fact_specs.specs.State.{has}
+use Rattle.calculus_specs.specs.State.{has}
 use Rattle.step_finders.specs.Clashing.{NoneAbove, IsShown}
 use Rattle.step_finders.proofs.Each.{each_more, none_said}
 use Rattle.step_finders.proofs.Clashing.{no_clash_by_apart}

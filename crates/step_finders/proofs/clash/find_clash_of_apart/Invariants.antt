@@ -1,5 +1,5 @@
 use Rattle.std.proofs.Common.{◌≡◌, true, ℕ, ◌<◌, get_or}
-use Rattle.fact_specs.specs.State.{has}
+use Rattle.calculus_specs.specs.State.{has}
 use Rattle.step_finders.specs.Clashing.{NoneAbove}
 use Rattle.step_finders.proofs.clash.find_clash_of_apart.Given as goal
 

@@ -1,7 +1,7 @@
 use Rattle.std.proofs.Common.{arith, ◌≡◌, ◌<◌, true, ℕ, List, subst, sym}
-use Rattle.fact_specs.specs.State.{all_apart}
+use Rattle.calculus_specs.specs.State.{all_apart}
 use Rattle.std.specs.List.{All}
-use Rattle.fact_specs.specs.State.{node_count}
+use Rattle.calculus_specs.specs.State.{node_count}
 use Rattle.tableau_specs.specs.Steps.{below_of}
 use Rattle.step_finders.specs.Filled.{AreUnapart}
 use Rattle.step_finders.proofs.Members.{filled_nodes}

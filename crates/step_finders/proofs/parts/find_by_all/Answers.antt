@@ -1,5 +1,5 @@
 use Rattle.step_finders.proofs.Adding.{all_adds, the_carries, none_to_carry}
-use Rattle.shape_specs.specs.Shape.Shape.{all_of}
+use Rattle.calculus_specs.specs.Shape.Shape.{all_of}
 use Rattle.step_finders.specs.Found.{AllCarried, NoneByShape}
 use Rattle.step_finders.specs.Reasons.{IsAddition}
 use Rattle.step_finders.proofs.Each.{answers_more}

@@ -1,5 +1,5 @@
 use Rattle.std.proofs.Common.{◌≡◌, true, ℕ, ◌<◌, get_or}
-use Rattle.fact_specs.specs.State.{has as holds}
+use Rattle.calculus_specs.specs.State.{has as holds}
 use Rattle.tableau_specs.specs.Steps.{below_of}
 use Rattle.step_finders.proofs.parts.find_end.Given as goal
 

@@ -1,6 +1,6 @@
 use Rattle.std.proofs.Common.{◌≡◌, [], ◌∷◌, refl}
 use Rattle.std.proofs.lemmas.Result.{IfOk-weaker}
-use Rattle.fact_specs.specs.declared.Fact.TheVariants.{Edge}
+use Rattle.calculus_specs.specs.declared.facts.Fact.TheVariants.{Edge}
 use Rattle.step_lines.specs.Grounds.{GroundsNode}
 use Rattle.step_lines.proofs.RowLines.{grounds_root, grounds_origin}
 use Rattle.step_lines.proofs.grounded.node_grounds.Goals as goal

@@ -1,5 +1,5 @@
 use Rattle.std.proofs.Common.{◌≡◌, ℕ, List, ◌∷◌, ◌++◌, subst}
-use Rattle.fact_specs.specs.declared.Fact.TheVariants.{Has}
+use Rattle.calculus_specs.specs.declared.facts.Fact.TheVariants.{Has}
 use Rattle.step_lines.specs.Grounds.{link_facts, apart_facts}
 use Rattle.step_lines.proofs.Many.{most_serves}
 use Rattle.step_lines.proofs.most.line_of_ends.Goals as goal

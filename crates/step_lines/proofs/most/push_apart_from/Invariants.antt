@@ -1,5 +1,5 @@
 use Rattle.std.proofs.Common.{◌≡◌, ◌++◌, map, drop}
-use Rattle.fact_specs.specs.declared.Fact.TheVariants.{Apart}
+use Rattle.calculus_specs.specs.declared.facts.Fact.TheVariants.{Apart}
 use Rattle.step_lines.proofs.most.push_apart_from.Given as goal
 
 abbrev pub invariant-loop-other : goal.invariant-loop-other

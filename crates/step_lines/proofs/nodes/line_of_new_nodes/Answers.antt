@@ -1,7 +1,7 @@
 use Rattle.std.proofs.Common.{ℕ, ◌+◌, ◌^◌, ◌≤◌, ap, ◌∙◌, sym, subst, refl, arith}
-use Rattle.refutation_specs.specs.Line.{Line}
-use Rattle.shape_specs.specs.Shape.{shape_of}
-use Rattle.fact_specs.specs.State.{node_count}
+use Rattle.calculus_specs.specs.Line.{Line}
+use Rattle.calculus_specs.specs.Shape.{shape_of}
+use Rattle.calculus_specs.specs.State.{node_count}
 use Rattle.step_lines.specs.Kinds.{making_line, ServesNewNodes}
 use Rattle.step_lines.proofs.ConceptLines.{nodes_serve, made_few}
 use Rattle.step_lines.proofs.nodes.line_of_new_nodes.Goals as goal

@@ -1,5 +1,5 @@
 use Rattle.std.proofs.Common.{ℕ, List, sym, subst}
-use Rattle.refutation_specs.specs.Line.Line.{row_line}
+use Rattle.calculus_specs.specs.Line.Line.{row_line}
 use Rattle.step_lines.specs.Kinds.{ServesAddition}
 use Rattle.step_lines.proofs.RowLines.{begin_serves}
 use Rattle.step_lines.proofs.rows.line_of_begin.Goals as goal

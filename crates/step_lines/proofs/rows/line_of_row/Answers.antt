@@ -1,5 +1,5 @@
 use Rattle.std.proofs.Common.{ℕ, List, ◌++◌, map, ap, ◌∙◌, subst}
-use Rattle.fact_specs.specs.declared.Fact.TheVariants.{Has}
+use Rattle.calculus_specs.specs.declared.facts.Fact.TheVariants.{Has}
 use Rattle.step_lines.specs.Grounds.{IsFirst}
 use Rattle.step_lines.proofs.RowLines.{named_serves}
 use Rattle.step_lines.proofs.rows.line_of_row.Goals as goal

@@ -1,5 +1,5 @@
 use Rattle.std.proofs.Common.{◌≡◌, ◌++◌, map, drop}
-use Rattle.fact_specs.specs.declared.Fact.TheVariants.{Has}
+use Rattle.calculus_specs.specs.declared.facts.Fact.TheVariants.{Has}
 use Rattle.step_lines.proofs.rows.push_concepts.Given as goal
 
 abbrev pub invariant-loop-concept : goal.invariant-loop-concept

@@ -1,7 +1,7 @@
 use Rattle.std.proofs.Common.{◌≡◌, List, ℕ, subst, ◌∙◌}
 use Rattle.std.proofs.lemmas.Result.{IfOk-weaker}
 use Rattle.axiom_sets.specs.Sets.{member_list}
-use Rattle.refutation_truth.specs.Theory.{named_parts}
+use Rattle.row_cache.specs.Theory.{named_parts}
 use Rattle.absorption.specs.Rows.{AreRowsOf}
 use Rattle.absorption.specs.Places.{IsFiled}
 use Rattle.absorption.specs.Tables.{IsRowTable}

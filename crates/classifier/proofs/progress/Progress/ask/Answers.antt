@@ -1,6 +1,6 @@
 use Rattle.std.proofs.Common.{◌≡◌, true, subst}
 use Rattle.std.proofs.lemmas.Result.{err_from_is_err_and}
-use Rattle.subsumption_rows.specs.Subsumption.{query_at}
+use Rattle.classifier.specs.Subsumption.{query_at}
 use Rattle.classifier.specs.Tests.{IsTested}
 use Rattle.classifier.specs.Progress.{Advances, is_settled}
 use Rattle.classifier.proofs.Advanced.{stopped_as_before, is_new, after_yes, after_no, after_spent, after_refused}

@@ -1,7 +1,7 @@
 use Rattle.std.proofs.Common.{ℕ, ◌+◌, false, subst}
-use Rattle.subsumption_rows.specs.Matrices.{IsMatrix}
-use Rattle.subsumption_rows.specs.Rows.{IsAtFirst}
-use Rattle.classification_laws.proofs.Mirrored.{mirrors_none}
+use Rattle.classifier.specs.Matrices.{IsMatrix}
+use Rattle.classifier.specs.Rows.{IsAtFirst}
+use Rattle.classifier.proofs.Mirrored.{mirrors_none}
 use Rattle.classifier.proofs.progress.Progress.new.Goals as goal
 
 pub returns-clause-mirrors : goal.returns-clause-mirrors

@@ -2,8 +2,8 @@ use Rattle.std.proofs.Common.{◌≡◌, ◌∙◌, ◌+◌, ap}
 use Rattle.std.specs.FinSet as sets
 use Rattle.lane_sieve.specs.Sets.{NumberSet}
 use Rattle.axiom_sets.specs.Sets.{Limited}
-use Rattle.subsumption_rows.specs.Matrices.{has}
-use Rattle.subsumption_rows.specs.Rows.{holds}
+use Rattle.classifier.specs.Matrices.{has}
+use Rattle.classifier.specs.Rows.{holds}
 use Rattle.classifier.proofs.Open.{left_open, found_open}
 use Rattle.classifier.proofs.progress.Progress.next_open.Goals as goal
 

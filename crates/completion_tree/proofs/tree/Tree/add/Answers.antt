@@ -1,5 +1,5 @@
 use Rattle.std.proofs.Common.{List, [], ◌∷◌, ◌++◌, ℕ, sym, ap, ◌∙◌}
-use Rattle.fact_specs.specs.declared.Fact.{Fact}
+use Rattle.calculus_specs.specs.declared.facts.Fact.{Fact}
 use Rattle.completion_tree.specs.declared.tree.Entry.TheVariants.{Fact as Grounded}
 use Rattle.completion_tree.specs.Trail.{facts_in}
 use Rattle.completion_tree.proofs.Entries.{facts_in-append}

@@ -1,4 +1,4 @@
-use Rattle.fact_specs.specs.State.{node_count, fresh_facts}
+use Rattle.calculus_specs.specs.State.{node_count, fresh_facts}
 use Rattle.completion_tree.proofs.Entries.{facts-followed}
 use Rattle.completion_tree.proofs.tree.Tree.fresh.Goals as goal
 

@@ -1,7 +1,7 @@
 use Rattle.std.proofs.Common.{◌≡◌, ℕ, true, List, Some, subst, ap, ◌∙◌}
 use Rattle.std.specs.Prelude.{◌==◌, IfSome}
-use Rattle.fact_specs.specs.declared.Fact.{Fact}
-use Rattle.fact_specs.specs.State.{parent, has_edge}
+use Rattle.calculus_specs.specs.declared.facts.Fact.{Fact}
+use Rattle.calculus_specs.specs.State.{parent, has_edge}
 use Rattle.completion_tree.specs.Trail.{facts_in}
 use Rattle.completion_tree.proofs.tree.Tree.origin.Goals as goal
 

@@ -1,6 +1,6 @@
 use Rattle.std.proofs.Common.{ℕ, ◌≡◌, length, sym, subst, ap, ◌∙◌, arith, List}
-use Rattle.fact_specs.specs.Joins.{rep}
-use Rattle.fact_specs.specs.State.{node_count}
+use Rattle.calculus_specs.specs.Joins.{rep}
+use Rattle.calculus_specs.specs.State.{node_count}
 use Rattle.fact_tree.specs.declared.tree.Entry.{Entry}
 use Rattle.fact_tree.specs.declared.store.Lengths.{Lengths}
 use Rattle.fact_tree.specs.Kept.{Kept, kept_of, at_of, after_at}

@@ -1,7 +1,7 @@
 use Rattle.std.proofs.Common.{sym, ap, ◌∙◌, Bool}
 use Rattle.std.specs.Prelude.{◌||◌}
 use Rattle.std.specs.List.{list_any}
-use Rattle.fact_specs.specs.Joins.{rep}
+use Rattle.calculus_specs.specs.Joins.{rep}
 use Rattle.fact_tree.specs.Told.{gives_first}
 use Rattle.fact_tree.proofs.Reading.{apart_is_either}
 use Rattle.fact_tree.proofs.tree.FactTree.are_apart.Goals as goal

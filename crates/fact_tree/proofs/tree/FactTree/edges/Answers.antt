@@ -1,8 +1,8 @@
 use Rattle.std.proofs.Common.{◌≤◌, [], ap, subst, arith, List, ℕ}
-use Rattle.fact_specs.specs.declared.Fact.{Fact}
-use Rattle.fact_specs.specs.State.{node_count}
+use Rattle.calculus_specs.specs.declared.facts.Fact.{Fact}
+use Rattle.calculus_specs.specs.State.{node_count}
 use Rattle.fact_tree.specs.Entries.{facts_of}
-use Rattle.fact_specs.specs.Listed.{AreEdges}
+use Rattle.calculus_specs.specs.Listed.{AreEdges}
 use Rattle.fact_tree.proofs.Reading.{edges_beyond}
 use Rattle.fact_tree.proofs.tree.FactTree.edges.Goals as goal
 

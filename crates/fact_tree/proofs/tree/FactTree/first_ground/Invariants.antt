@@ -1,6 +1,6 @@
 use Rattle.std.proofs.Common.{◌≡◌, false, take}
 use Rattle.std.specs.List.{list_any}
-use Rattle.fact_specs.specs.Joins.{rep}
+use Rattle.calculus_specs.specs.Joins.{rep}
 use Rattle.fact_tree.specs.Told.{gives}
 use Rattle.fact_tree.proofs.tree.FactTree.first_ground.Given as goal
 

@@ -1,7 +1,7 @@
 use Rattle.std.proofs.Common.{◌≡◌, ◌≤◌, ap, subst, arith, List, ℕ}
 use Rattle.std.specs.Prelude.{◌==◌}
-use Rattle.fact_specs.specs.declared.Fact.{Fact}
-use Rattle.fact_specs.specs.State.{node_count, has}
+use Rattle.calculus_specs.specs.declared.facts.Fact.{Fact}
+use Rattle.calculus_specs.specs.State.{node_count, has}
 use Rattle.fact_tree.specs.Entries.{facts_of}
 use Rattle.fact_tree.proofs.Reading.{has_beyond}
 use Rattle.fact_tree.proofs.tree.FactTree.has.Goals as goal

@@ -1,8 +1,8 @@
 use Rattle.std.proofs.Common.{ℕ, ◌≡◌, ◌<◌, length, sym, subst, ap, ◌∙◌, arith, List}
 use Rattle.std.proofs.lemmas.Bool.{eqb-true}
-use Rattle.fact_specs.specs.declared.Fact.{Fact}
-use Rattle.fact_specs.specs.Joins.{rep}
-use Rattle.fact_specs.specs.State.{node_count}
+use Rattle.calculus_specs.specs.declared.facts.Fact.{Fact}
+use Rattle.calculus_specs.specs.Joins.{rep}
+use Rattle.calculus_specs.specs.State.{node_count}
 use Rattle.fact_tree.specs.Kept.{Lists, Kept, kept_of, lists_at}
 use Rattle.fact_tree.specs.Entries.{facts_of}
 use Rattle.fact_tree.specs.Told.{IsAlone}

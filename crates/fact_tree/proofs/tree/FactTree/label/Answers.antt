@@ -1,8 +1,8 @@
 use Rattle.std.proofs.Common.{◌≤◌, ◌∷◌, [], ap, subst, arith, List, ℕ}
-use Rattle.fact_specs.specs.declared.Fact.{Fact}
-use Rattle.fact_specs.specs.State.{node_count}
+use Rattle.calculus_specs.specs.declared.facts.Fact.{Fact}
+use Rattle.calculus_specs.specs.State.{node_count}
 use Rattle.fact_tree.specs.Entries.{facts_of}
-use Rattle.fact_specs.specs.Listed.{IsLabel}
+use Rattle.calculus_specs.specs.Listed.{IsLabel}
 use Rattle.fact_tree.proofs.Distinct.{top_once}
 use Rattle.fact_tree.proofs.Reading.{label_beyond}
 use Rattle.fact_tree.proofs.tree.FactTree.label.Goals as goal

@@ -1,7 +1,7 @@
 use Rattle.std.proofs.Common.{ℕ, ap, ◌∙◌}
 use Rattle.std.specs.Prelude.{◌==◌}
 use Rattle.std.specs.List.{list_any}
-use Rattle.fact_specs.specs.Joins.{rep}
+use Rattle.calculus_specs.specs.Joins.{rep}
 use Rattle.fact_tree.specs.Told.{gives_first}
 use Rattle.fact_tree.proofs.Growing.{take_whole}
 use Rattle.fact_tree.proofs.tree.FactTree.names_apart.Goals as goal

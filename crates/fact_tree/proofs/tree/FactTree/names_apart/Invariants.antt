@@ -1,7 +1,7 @@
 use Rattle.std.proofs.Common.{◌≡◌, take}
 use Rattle.std.specs.Prelude.{◌==◌}
 use Rattle.std.specs.List.{list_any}
-use Rattle.fact_specs.specs.Joins.{rep}
+use Rattle.calculus_specs.specs.Joins.{rep}
 use Rattle.fact_tree.proofs.tree.FactTree.names_apart.Given as goal
 
 abbrev pub invariant-loop-other : goal.invariant-loop-other

@@ -1,5 +1,5 @@
 use Rattle.std.proofs.Common.{length, ap, subst, ◌∙◌}
-use Rattle.fact_specs.specs.State.{node_count, HasParentsBefore}
+use Rattle.calculus_specs.specs.State.{node_count, HasParentsBefore}
 use Rattle.fact_tree.specs.Kept.{Kept}
 use Rattle.fact_tree.proofs.Law.{count_is}
 use Rattle.fact_tree.proofs.Parents.{parents_before}

@@ -1,6 +1,6 @@
 use Rattle.std.proofs.Common.{length, ap, sym, subst, ◌∙◌, arith, ℕ, List, ◌<◌}
-use Rattle.fact_specs.specs.declared.Fact.{Fact}
-use Rattle.fact_specs.specs.State.{node_count}
+use Rattle.calculus_specs.specs.declared.facts.Fact.{Fact}
+use Rattle.calculus_specs.specs.State.{node_count}
 use Rattle.fact_tree.specs.Kept.{Lists, Kept, lists_at}
 use Rattle.fact_tree.specs.Entries.{facts_of}
 use Rattle.fact_tree.specs.Told.{IsOrigin}

@@ -1,6 +1,6 @@
 use Rattle.std.proofs.Common.{◌+◌, ◌-◌, ◌∷◌, [], ◌∙◌}
-use Rattle.fact_specs.specs.declared.Fact.TheVariants.{Apart}
-use Rattle.fact_specs.specs.State.{apart_from}
+use Rattle.calculus_specs.specs.declared.facts.Fact.TheVariants.{Apart}
+use Rattle.calculus_specs.specs.State.{apart_from}
 use Rattle.fact_tree.proofs.Fresh.{moved_on, begins_on, apart_step, count_apart}
 use Rattle.fact_tree.proofs.tree.FactTree.put_apart_from.Goals as goal
 

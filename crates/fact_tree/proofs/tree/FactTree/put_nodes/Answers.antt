@@ -1,6 +1,6 @@
 use Rattle.std.proofs.Common.{◌+◌, ◌-◌, ◌∷◌, [], arith}
-use Rattle.fact_specs.specs.declared.Fact.TheVariants.{Has, Edge}
-use Rattle.fact_specs.specs.State.{new_nodes}
+use Rattle.calculus_specs.specs.declared.facts.Fact.TheVariants.{Has, Edge}
+use Rattle.calculus_specs.specs.State.{new_nodes}
 use Rattle.fact_tree.proofs.Fresh.{moved_on, begins_on, nodes_step}
 use Rattle.fact_tree.proofs.tree.FactTree.put_nodes.Goals as goal
 

@@ -1,5 +1,5 @@
 use Rattle.std.proofs.Common.{◌≡◌, ◌+◌, ◌-◌, ◌++◌, length, take}
-use Rattle.fact_specs.specs.State.{node_count, new_nodes}
+use Rattle.calculus_specs.specs.State.{node_count, new_nodes}
 use Rattle.fact_tree.proofs.tree.FactTree.put_nodes.Given as goal
 
 abbrev pub invariant-loop-place : goal.invariant-loop-place

@@ -1,5 +1,5 @@
 use Rattle.std.proofs.Common.{◌+◌, ◌-◌, ◌∙◌, arith}
-use Rattle.fact_specs.specs.State.{apart_from, pairwise_apart}
+use Rattle.calculus_specs.specs.State.{apart_from, pairwise_apart}
 use Rattle.fact_tree.proofs.Fresh.{moved_on, begins_on, pairwise_step}
 use Rattle.fact_tree.proofs.tree.FactTree.put_pairwise.Goals as goal
 

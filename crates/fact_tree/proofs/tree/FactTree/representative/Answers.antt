@@ -1,6 +1,6 @@
 use Rattle.std.proofs.Common.{ap, ◌∙◌, List, ℕ}
-use Rattle.fact_specs.specs.declared.Fact.{Fact}
-use Rattle.fact_specs.specs.Joins.{rep}
+use Rattle.calculus_specs.specs.declared.facts.Fact.{Fact}
+use Rattle.calculus_specs.specs.Joins.{rep}
 use Rattle.fact_tree.specs.Entries.{facts_of}
 use Rattle.fact_tree.proofs.Law.{root_is}
 use Rattle.fact_tree.proofs.tree.FactTree.representative.Goals as goal

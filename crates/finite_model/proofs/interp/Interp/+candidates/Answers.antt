@@ -1,8 +1,8 @@
 use Rattle.std.proofs.Common.{◌≡◌, ◌||◌, ap, sym, subst, ◌∙◌, arith}
 use Rattle.std.specs.Prelude.{nat_eq}
-use Rattle.shq_base.specs.Concept.{Concept, some_of, at_least, exactly, parts_of}
-use Rattle.shq_base.specs.Depth.{depth}
-use Rattle.shq_base.proofs.Depth.{depth_at}
+use Rattle.shq_terms.specs.Concept.{Concept, some_of, at_least, exactly, parts_of}
+use Rattle.shq_terms.specs.Depth.{depth}
+use Rattle.shq_terms.proofs.Depth.{depth_at}
 use Rattle.shq_terms.specs.Node.{tree}
 use Rattle.shq_meaning.specs.Truth.{holds, hold_all}
 use Rattle.finite_model.specs.ModelLists.{meaning, begins}

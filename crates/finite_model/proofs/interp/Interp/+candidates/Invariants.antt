@@ -1,6 +1,6 @@
 use Rattle.std.proofs.Common.{◌+◌, ◌*◌, take}
-use Rattle.shq_base.specs.Concept.{parts_of}
-use Rattle.shq_base.specs.Depth.{depth, depth_parts}
+use Rattle.shq_terms.specs.Concept.{parts_of}
+use Rattle.shq_terms.specs.Depth.{depth, depth_parts}
 use Rattle.shq_meaning.specs.Truth.{hold_all, hold_any}
 use Rattle.finite_model.specs.ModelLists.{meaning}
 use Rattle.finite_model.specs.Next.{IsNext, IsNextAt}

@@ -1,7 +1,7 @@
 use Rattle.std.proofs.Common.{◌≡◌, ℕ, List, get_or, length, subst, ◌∙◌, arith}
 use Rattle.std.specs.Prelude.{slice_get, Some}
 use Rattle.std.proofs.lemmas.Option.{slice_get-get_or}
-use Rattle.module_specs.specs.declared.Name.{Name}
+use Rattle.pinpointing_specs.specs.declared.module_laws.Name.{Name}
 use Rattle.module_extract.specs.Users.{HasGained, IsIndex}
 use Rattle.module_extract.proofs.Gained.{index_more}
 use Rattle.module_extract.proofs.Placed.{axiom_placed}

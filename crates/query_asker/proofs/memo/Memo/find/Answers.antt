@@ -5,8 +5,8 @@ use Rattle.std.proofs.lemmas.List.{get_or_default}
 use Rattle.std.proofs.lemmas.List.Elements.{Contains-get_or}
 use Rattle.lane_sieve.specs.Sets.{IsPart}
 use Rattle.axiom_sets.specs.Sets.{Limited}
-use Rattle.antichains.specs.Kept.{kept_sets}
-use Rattle.antichains.specs.declared.chain.Kind.TheVariants.{Minimal, Maximal}
+use Rattle.set_questions.specs.Kept.{kept_sets}
+use Rattle.set_questions.specs.declared.antichain.Kind.TheVariants.{Minimal, Maximal}
 use Rattle.query_asker.specs.Memory.{yes_of, no_of, yes_sets, no_sets, IsInSome}
 use Rattle.query_asker.proofs.Remembered.{if_none, kept_whole, kept_limits, no_part, in_some, not_in_some}
 use Rattle.query_asker.proofs.memo.Memo.find.Goals as goal

@@ -1,7 +1,7 @@
 use Rattle.std.proofs.Common.{◌∙◌, sym, subst, arith}
-use Rattle.antichains.specs.Kept.{kept_sets}
-use Rattle.antichains.specs.declared.chain.Kind.{Kind}
-use Rattle.antichains.specs.declared.chain.Kind.TheVariants.{Minimal, Maximal}
+use Rattle.set_questions.specs.Kept.{kept_sets}
+use Rattle.set_questions.specs.declared.antichain.Kind.{Kind}
+use Rattle.set_questions.specs.declared.antichain.Kind.TheVariants.{Minimal, Maximal}
 use Rattle.query_asker.specs.Memory.{yes_of, no_of, KeepsWithAll}
 use Rattle.query_asker.proofs.Remembered.{kept_more, limits_of}
 use Rattle.query_asker.proofs.memo.Memo.see_next.Goals as goal

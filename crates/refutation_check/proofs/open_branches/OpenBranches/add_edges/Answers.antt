@@ -1,6 +1,6 @@
 use Rattle.std.proofs.Common.{◌≡◌, ◌+◌, ◌-◌, [], ◌∷◌, refl}
-use Rattle.fact_specs.specs.declared.Fact.TheVariants.{Edge, Has}
-use Rattle.fact_specs.specs.State.{new_nodes}
+use Rattle.calculus_specs.specs.declared.facts.Fact.TheVariants.{Edge, Has}
+use Rattle.calculus_specs.specs.State.{new_nodes}
 use Rattle.refutation_check.specs.Open.{knowing}
 use Rattle.refutation_check.proofs.Grown.{know_step}
 use Rattle.refutation_check.proofs.Ranges.{next_edge}

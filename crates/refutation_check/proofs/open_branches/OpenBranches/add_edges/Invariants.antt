@@ -1,5 +1,5 @@
 use Rattle.std.proofs.Common.{◌≡◌, ◌+◌, ◌-◌}
-use Rattle.fact_specs.specs.State.{new_nodes}
+use Rattle.calculus_specs.specs.State.{new_nodes}
 use Rattle.refutation_check.specs.Open.{knowing}
 use Rattle.refutation_check.proofs.open_branches.OpenBranches.add_edges.Given as goal
 

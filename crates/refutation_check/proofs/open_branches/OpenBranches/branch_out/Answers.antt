@@ -1,4 +1,4 @@
-use Rattle.fact_specs.specs.declared.Fact.TheVariants.{Has}
+use Rattle.calculus_specs.specs.declared.facts.Fact.TheVariants.{Has}
 use Rattle.refutation_check.proofs.Grown.{put_step}
 use Rattle.refutation_check.proofs.open_branches.OpenBranches.branch_out.Goals as goal
 

@@ -1,5 +1,5 @@
 use Rattle.std.proofs.Common.{◌+◌, ◌-◌, ◌≡◌, ap, ◌∙◌, arith}
-use Rattle.fact_specs.specs.State.{apart_from, pairwise_apart}
+use Rattle.calculus_specs.specs.State.{apart_from, pairwise_apart}
 use Rattle.refutation_check.specs.Open.{knowing}
 use Rattle.refutation_check.proofs.Grown.{know_step}
 use Rattle.refutation_check.proofs.Ranges.{next_pairs}

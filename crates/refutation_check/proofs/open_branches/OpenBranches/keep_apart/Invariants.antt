@@ -1,5 +1,5 @@
 use Rattle.std.proofs.Common.{◌≡◌, ◌+◌, ◌-◌}
-use Rattle.fact_specs.specs.State.{pairwise_apart}
+use Rattle.calculus_specs.specs.State.{pairwise_apart}
 use Rattle.refutation_check.specs.Open.{knowing}
 use Rattle.refutation_check.proofs.open_branches.OpenBranches.keep_apart.Given as goal
 

@@ -1,6 +1,6 @@
 use Rattle.std.proofs.Common.{◌+◌, ◌-◌, [], ◌∷◌}
-use Rattle.fact_specs.specs.declared.Fact.TheVariants.{Apart}
-use Rattle.fact_specs.specs.State.{apart_from}
+use Rattle.calculus_specs.specs.declared.facts.Fact.TheVariants.{Apart}
+use Rattle.calculus_specs.specs.State.{apart_from}
 use Rattle.refutation_check.specs.Open.{knowing}
 use Rattle.refutation_check.proofs.Grown.{know_step}
 use Rattle.refutation_check.proofs.Ranges.{next_apart}

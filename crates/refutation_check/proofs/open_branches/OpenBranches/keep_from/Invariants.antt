@@ -1,5 +1,5 @@
 use Rattle.std.proofs.Common.{◌≡◌, ◌+◌, ◌-◌}
-use Rattle.fact_specs.specs.State.{apart_from}
+use Rattle.calculus_specs.specs.State.{apart_from}
 use Rattle.refutation_check.specs.Open.{knowing}
 use Rattle.refutation_check.proofs.open_branches.OpenBranches.keep_from.Given as goal
 

@@ -1,6 +1,6 @@
 use Rattle.std.proofs.Common.{◌≡◌, take}
-use Rattle.shape_specs.specs.Tree.{tree_of}
-use Rattle.refutation_specs.specs.Rules.{are_fillers}
+use Rattle.calculus_specs.specs.Tree.{tree_of}
+use Rattle.calculus_specs.specs.Rules.{are_fillers}
 use Rattle.refutation_rules.specs.Outcomes.{known_of}
 use Rattle.refutation_rules.specs.RefutationContext.{theory}
 use Rattle.refutation_rules.proofs.rules.Rules.are_fillers.Given as goal

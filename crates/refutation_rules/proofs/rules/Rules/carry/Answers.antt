@@ -1,6 +1,6 @@
 use Rattle.std.proofs.Common.{Some}
 use Rattle.std.proofs.lemmas.Result.{IfOk-weaker}
-use Rattle.refutation_specs.specs.Line.Line.{carry_line}
+use Rattle.calculus_specs.specs.Line.Line.{carry_line}
 use Rattle.refutation_rules.proofs.Children.{carried, added}
 use Rattle.refutation_rules.proofs.rules.Rules.carry.Goals as goal
 

@@ -1,5 +1,5 @@
 use Rattle.std.proofs.Common.{◌∙◌, sym}
-use Rattle.fact_specs.proofs.Reading.{has-read}
+use Rattle.calculus_specs.proofs.Reading.{has-read}
 use Rattle.refutation_rules.proofs.rules.Rules.has.Goals as goal
 
 pub returns : goal.returns

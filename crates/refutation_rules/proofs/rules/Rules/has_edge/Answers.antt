@@ -1,7 +1,7 @@
 use Rattle.std.proofs.Common.{ℕ, Bool, ◌∙◌, sym}
 use Rattle.role_box.specs.RoleAxioms.{role_axioms}
 use Rattle.role_box.proofs.Limits.{test_is_below}
-use Rattle.shape_specs.specs.Roles.{itself}
+use Rattle.calculus_specs.specs.Roles.{itself}
 use Rattle.refutation_rules.specs.RefutationContext.{theory}
 use Rattle.refutation_rules.proofs.Reading.{edge_read}
 use Rattle.refutation_rules.proofs.Edges.{edge_own, edge_lower}

@@ -1,6 +1,6 @@
 use Rattle.std.proofs.Common.{◌∙◌, sym, ap}
-use Rattle.shape_specs.specs.Tree.{tree_of}
-use Rattle.refutation_specs.specs.Valid.{concept_at}
+use Rattle.calculus_specs.specs.Tree.{tree_of}
+use Rattle.calculus_specs.specs.Valid.{concept_at}
 use Rattle.refutation_rules.specs.Outcomes.{known_of}
 use Rattle.refutation_rules.proofs.Held.{at_held}
 use Rattle.refutation_rules.proofs.rules.Rules.held.Goals as goal

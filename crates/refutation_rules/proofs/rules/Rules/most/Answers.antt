@@ -1,6 +1,6 @@
 use Rattle.std.proofs.Common.{length}
 use Rattle.std.proofs.lemmas.Bool.{ltb-true}
-use Rattle.refutation_specs.specs.Line.Line.{most_line}
+use Rattle.calculus_specs.specs.Line.Line.{most_line}
 use Rattle.refutation_rules.proofs.Children.{closed_by}
 use Rattle.refutation_rules.proofs.TooMany.{most_held, most_none}
 use Rattle.refutation_rules.proofs.rules.Rules.most.Goals as goal

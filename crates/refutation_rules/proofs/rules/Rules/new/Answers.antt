@@ -1,6 +1,6 @@
 use Rattle.std.proofs.Common.{◌+◌, [], length, sym, subst}
 use Rattle.axiom_sets.specs.Sets.{member_list}
-use Rattle.shape_specs.specs.Normal.{normal_form, negated_form}
+use Rattle.calculus_specs.specs.Normal.{normal_form, negated_form}
 use Rattle.shq_nnf.proofs.Numbers.{extends_twice, number_stays}
 use Rattle.row_cache.specs.Cache.{CacheState}
 use Rattle.refutation_rules.specs.RefutationContext.{IsRefutationContext}

@@ -1,7 +1,7 @@
 use Rattle.std.proofs.Common.{ℕ, Option, sym, subst}
 use Rattle.std.proofs.lemmas.Result.{IfOk-weaker}
-use Rattle.shape_specs.specs.Rows.{part_at}
-use Rattle.refutation_specs.specs.Line.Line.{range_line}
+use Rattle.calculus_specs.specs.Rows.{part_at}
+use Rattle.calculus_specs.specs.Line.Line.{range_line}
 use Rattle.refutation_rules.specs.RefutationContext.{theory, LineAdds}
 use Rattle.refutation_rules.proofs.Rows.{range_adds}
 use Rattle.refutation_rules.proofs.Children.{added}

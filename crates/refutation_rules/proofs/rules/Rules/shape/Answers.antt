@@ -1,6 +1,6 @@
 use Rattle.std.proofs.Common.{length, ◌∙◌, sym, ap, arith}
-use Rattle.shape_specs.specs.Shape.{has_parts_below}
-use Rattle.shape_specs.specs.Tree.{tree_over, trees_of}
+use Rattle.calculus_specs.specs.Shape.{has_parts_below}
+use Rattle.calculus_specs.specs.Tree.{tree_over, trees_of}
 use Rattle.shq_nnf.proofs.Numbers.{shape_tree}
 use Rattle.refutation_rules.proofs.Held.{parts_more}
 use Rattle.refutation_rules.proofs.rules.Rules.shape.Goals as goal

@@ -1,5 +1,5 @@
 use Rattle.std.proofs.Common.{◌≡◌, ℕ, List, subst}
-use Rattle.shape_specs.specs.Shape.{Shape, shape_of}
+use Rattle.calculus_specs.specs.Shape.{Shape, shape_of}
 use Rattle.step_finders.specs.Found.{AreCarriesOf}
 use Rattle.step_finders.specs.Clashing.{AreMosts}
 use Rattle.search_rules.specs.Lists.{list_at}

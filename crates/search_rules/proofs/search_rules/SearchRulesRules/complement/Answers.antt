@@ -1,5 +1,5 @@
 use Rattle.std.proofs.Common.{List, Option, ℕ, ap, sym, subst, arith}
-use Rattle.shape_specs.specs.Shape.{Shape}
+use Rattle.calculus_specs.specs.Shape.{Shape}
 use Rattle.search_rules.specs.RuleLists.{RuleLists}
 use Rattle.search_rules.specs.Tables.{FindsComplement}
 use Rattle.search_rules.proofs.Negated.{finds_behind}

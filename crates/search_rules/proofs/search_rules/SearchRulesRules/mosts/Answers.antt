@@ -1,5 +1,5 @@
 use Rattle.std.proofs.Common.{List, ℕ, ap, sym, subst}
-use Rattle.shape_specs.specs.Shape.{Shape}
+use Rattle.calculus_specs.specs.Shape.{Shape}
 use Rattle.step_finders.specs.Clashing.{AreMosts}
 use Rattle.search_rules.specs.RuleLists.{RuleLists}
 use Rattle.search_rules.proofs.search_rules.SearchRulesRules.mosts.Goals as goal

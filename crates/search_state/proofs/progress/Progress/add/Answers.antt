@@ -1,4 +1,4 @@
-use Rattle.fact_specs.specs.declared.Fact.TheVariants.{Has}
+use Rattle.calculus_specs.specs.declared.facts.Fact.TheVariants.{Has}
 use Rattle.search_state.proofs.LastFact.{lookable}
 use Rattle.search_state.proofs.progress.Progress.add.Goals as goal
 

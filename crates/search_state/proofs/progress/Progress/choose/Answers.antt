@@ -1,4 +1,4 @@
-use Rattle.fact_specs.specs.State.{node_count}
+use Rattle.calculus_specs.specs.State.{node_count}
 use Rattle.completion_tree.specs.Trail.{facts_in}
 use Rattle.step_finders.specs.Choosing.{branch_of}
 use Rattle.search_state.proofs.LastFact.{lookable}

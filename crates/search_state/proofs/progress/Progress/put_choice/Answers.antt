@@ -3,7 +3,7 @@ use Rattle.std.specs.Prelude.{◌+◌, ◌∷◌, ◌++◌, None}
 use Rattle.std.specs.FinSet as sets
 use Rattle.std.proofs.lemmas.List.{reverse-append}
 use Rattle.lane_sieve.specs.Sets.{NumberSet}
-use Rattle.fact_specs.specs.declared.Fact.{Fact}
+use Rattle.calculus_specs.specs.declared.facts.Fact.{Fact}
 use Rattle.refutation_tree.specs.RuleLine.{line_of}
 use Rattle.tableau_specs.specs.declared.Choice.{Choice}
 use Rattle.tableau_specs.specs.Clash.{IsPlainClash}

@@ -1,6 +1,6 @@
 use Rattle.std.proofs.Common.{◌≡◌, refl, sym, subst, List, ℕ, Option, None, Some}
 use Rattle.std.specs.Prelude.{MatchOption}
-use Rattle.fact_specs.specs.declared.Fact.{Fact}
+use Rattle.calculus_specs.specs.declared.facts.Fact.{Fact}
 use Rattle.tableau_specs.specs.Clash.{IsPlainClash}
 use Rattle.tableau_specs.specs.Steps.{below_of}
 use Rattle.completion_tree.specs.Trail.{facts_in, items_of}

@@ -1,9 +1,9 @@
 use Rattle.std.proofs.Common.{◌≡◌, ◌≤◌, ◌+◌, List, take, ap, refl, sym, subst, reverse, length, ◌∙◌, arith}
 use Rattle.std.proofs.lemmas.List.{length-reverse}
-use Rattle.fact_specs.specs.State.{node_count}
+use Rattle.calculus_specs.specs.State.{node_count}
 use Rattle.fact_tree.specs.Entries.{IsFit}
 use Rattle.tableau_specs.specs.declared.Choice.{Choice}
-use Rattle.blocking.specs.Followed.{AreBlocksBelow}
+use Rattle.step_agenda.specs.Followed.{AreBlocksBelow}
 use Rattle.completion_tree.specs.declared.tree.By.{By}
 use Rattle.completion_tree.specs.declared.tree.Entry.{Entry}
 use Rattle.completion_tree.specs.Trail.{facts_in}

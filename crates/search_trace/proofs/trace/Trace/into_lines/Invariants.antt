@@ -1,6 +1,6 @@
 use Rattle.std.proofs.Common.{◌≡◌, ◌∷◌, ◌++◌, map}
 use Rattle.std.specs.Vec.Iter.{into_iter_items}
-use Rattle.refutation_specs.specs.Line.Line.{start_line}
+use Rattle.calculus_specs.specs.Line.Line.{start_line}
 use Rattle.refutation_tree.specs.RuleLine.{line_of}
 use Rattle.search_trace.specs.Trace.{noted, lines_in}
 use Rattle.search_trace.proofs.trace.Trace.into_lines.Given as goal

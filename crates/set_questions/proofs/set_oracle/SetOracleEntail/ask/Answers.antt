@@ -2,13 +2,13 @@ use Rattle.std.proofs.Common.{◌≡◌, ◌-◌, ℕ, List, [], arith, refl, su
 use Rattle.axiom_sets.specs.Sets.{Limited}
 use Rattle.set_questions.specs.Asked.{Answers, Spends}
 use Rattle.set_questions.specs.Meaning.{Meaning}
-use Rattle.set_questions.specs.declared.entail.Ask.{Ask}
-use Rattle.set_questions.specs.declared.entail.Ask.TheVariants.{Yes, No, Spent}
+use Rattle.set_questions.specs.declared.entail.Reply.{Reply}
+use Rattle.set_questions.specs.declared.entail.Reply.TheVariants.{Yes, No, Spent}
 use Rattle.set_questions.specs.Listed.{oracle_meaning}
 use Rattle.set_questions.proofs.set_oracle.SetOracleEntail.ask.Goals as goal
 
 -- an answer that holds whatever is left takes one unit
-takes_one : (m m' : Meaning) (sets : List Limited) (asked : Limited) (a : Ask) → ¬ (m.left ≡ 0) → m'.left ≡ m.left - 1
+takes_one : (m m' : Meaning) (sets : List Limited) (asked : Limited) (a : Reply) → ¬ (m.left ≡ 0) → m'.left ≡ m.left - 1
     → ((size left asks : ℕ) (taken : List Limited) → Answers (oracle_meaning size sets left asks taken) asked a) → Spends m m' a
 takes_one m m' sets asked (Yes part) some less h = (some, less)
 takes_one m m' sets asked No some less h = (some, less)

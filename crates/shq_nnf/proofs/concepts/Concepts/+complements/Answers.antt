@@ -1,8 +1,8 @@
 use Rattle.std.proofs.Common.{◌+◌, ℕ, true, false, take, IfOk, map, List, ap, subst, sym, ◌∙◌}
-use Rattle.shq_base.specs.Concept.{Concept}
-use Rattle.shape_specs.specs.Normal.{negated_form}
-use Rattle.shape_specs.specs.Shape.Shape.{top, bottom, name, not_name, some_of, all_of}
-use Rattle.shape_specs.specs.Tree.{tree_of}
+use Rattle.shq_meaning.specs.Concept.{Concept}
+use Rattle.calculus_specs.specs.Normal.{negated_form}
+use Rattle.calculus_specs.specs.Shape.Shape.{top, bottom, name, not_name, some_of, all_of}
+use Rattle.calculus_specs.specs.Tree.{tree_of}
 use Rattle.shq_nnf.specs.Bounds.{joined_form}
 use Rattle.shq_nnf.specs.Shapes.{form_of_owned}
 use Rattle.shq_nnf.specs.Numbers.{IsNumber, AreNumbers}

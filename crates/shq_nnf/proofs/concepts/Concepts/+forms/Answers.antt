@@ -1,11 +1,11 @@
 use Rattle.std.proofs.Common.{◌≡◌, ◌++◌, ◌+◌, ◌∷◌, [], IfOk, map, not, take, List, arith, ap, subst, sym, ◌∙◌}
 use Rattle.std.proofs.lemmas.List.{map_more}
-use Rattle.shq_base.specs.Concept.{Concept}
-use Rattle.shq_base.specs.Depth.{depth}
-use Rattle.shq_base.proofs.Depth.{depth_at}
-use Rattle.shq_terms.specs.Node.{tree}
-use Rattle.shape_specs.specs.Normal.{normal_form, negated_form}
-use Rattle.shape_specs.specs.Tree.{tree_of}
+use Rattle.shq_meaning.specs.Concept.{Concept}
+use Rattle.shq_meaning.specs.Depth.{depth}
+use Rattle.shq_meaning.proofs.Depth.{depth_at}
+use Rattle.shq_meaning.specs.Node.{tree}
+use Rattle.calculus_specs.specs.Normal.{normal_form, negated_form}
+use Rattle.calculus_specs.specs.Tree.{tree_of}
 use Rattle.shq_nnf.specs.Bounds.{signed_form, joined_form}
 use Rattle.shq_nnf.specs.Counts.{has_counts_within}
 use Rattle.shq_nnf.specs.Numbers.{IsNumber, AreNumbers}

@@ -1,6 +1,6 @@
 use Rattle.std.proofs.Common.{◌+◌, ◌*◌, take, map}
-use Rattle.shq_base.specs.Concept.{parts_of}
-use Rattle.shq_base.specs.Depth.{depth, depth_parts}
+use Rattle.shq_meaning.specs.Concept.{parts_of}
+use Rattle.shq_meaning.specs.Depth.{depth, depth_parts}
 use Rattle.shq_nnf.specs.Bounds.{signed_form}
 use Rattle.shq_nnf.specs.Numbers.{Extends, AreNumbers}
 use Rattle.shq_nnf.proofs.concepts.Concepts.+forms.Given as goal

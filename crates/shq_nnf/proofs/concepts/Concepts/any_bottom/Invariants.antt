@@ -1,6 +1,6 @@
 use Rattle.std.proofs.Common.{◌≡◌, take}
 use Rattle.std.specs.List.{list_any}
-use Rattle.shape_specs.specs.Shape.{shape_of}
+use Rattle.calculus_specs.specs.Shape.{shape_of}
 use Rattle.shq_nnf.specs.Opened.{is_bottom_shape}
 use Rattle.shq_nnf.proofs.concepts.Concepts.any_bottom.Given as goal
 

@@ -1,5 +1,5 @@
 use Rattle.std.proofs.Common.{sym, ◌∙◌, ap}
-use Rattle.shape_specs.specs.Tree.{tree_of}
+use Rattle.calculus_specs.specs.Tree.{tree_of}
 use Rattle.shq_nnf.specs.declared.counts.Bound.{Bound}
 use Rattle.shq_nnf.specs.Bounds.{bound_form}
 use Rattle.shq_nnf.proofs.Bounded.{exactly_of}

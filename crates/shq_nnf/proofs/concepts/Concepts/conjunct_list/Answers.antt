@@ -1,7 +1,7 @@
 use Rattle.std.proofs.Common.{◌++◌, subst, sym, ◌∙◌, ap, ℕ, List}
-use Rattle.shape_specs.specs.Rows.{conjuncts_in}
-use Rattle.shape_specs.specs.Shape.{shape_of}
-use Rattle.shape_specs.specs.Tree.{tree_of}
+use Rattle.calculus_specs.specs.Rows.{conjuncts_in}
+use Rattle.calculus_specs.specs.Shape.{shape_of}
+use Rattle.calculus_specs.specs.Tree.{tree_of}
 use Rattle.shq_nnf.specs.Numbers.{AreNumbers}
 use Rattle.shq_nnf.specs.Opened.{conjunct_numbers_of}
 use Rattle.shq_nnf.proofs.Stable.{conjuncts_of_number}

@@ -1,6 +1,6 @@
 use Rattle.std.proofs.Common.{◌∙◌, false}
-use Rattle.shq_base.specs.Concept.{union, parts_of}
-use Rattle.shape_specs.specs.Normal.{normal_form}
+use Rattle.shq_meaning.specs.Concept.{union, parts_of}
+use Rattle.calculus_specs.specs.Normal.{normal_form}
 use Rattle.shq_nnf.specs.Numbers.{IsNumber}
 use Rattle.shq_nnf.proofs.Bounded.{union_form}
 use Rattle.shq_nnf.proofs.Pairs.{part_of_numbers}

@@ -1,6 +1,6 @@
 use Rattle.std.proofs.Common.{ap, ◌∙◌}
-use Rattle.shq_base.specs.Concept.{top, some_of}
-use Rattle.shape_specs.specs.Normal.{normal_form}
+use Rattle.shq_meaning.specs.Concept.{top, some_of}
+use Rattle.calculus_specs.specs.Normal.{normal_form}
 use Rattle.shq_nnf.specs.Numbers.{IsNumber}
 use Rattle.shq_nnf.proofs.Pairs.{part_of_numbers}
 use Rattle.shq_nnf.proofs.concepts.Concepts.domain_part.Goals as goal

@@ -1,5 +1,5 @@
 use Rattle.std.proofs.Common.{ap, ◌∙◌, subst}
-use Rattle.shape_specs.specs.Rows.{Part}
+use Rattle.calculus_specs.specs.Rows.{Part}
 use Rattle.shq_nnf.specs.Counts.{has_counts_within}
 use Rattle.shq_nnf.specs.Parts.{StandsForPart}
 use Rattle.shq_nnf.proofs.Bounded.{counts_at}

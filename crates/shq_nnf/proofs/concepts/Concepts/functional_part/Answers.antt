@@ -1,5 +1,5 @@
 use Rattle.std.proofs.Common.{ap, ◌∙◌}
-use Rattle.shq_base.specs.Concept.{top, at_most}
+use Rattle.shq_meaning.specs.Concept.{top, at_most}
 use Rattle.shq_nnf.specs.Numbers.{IsNumber}
 use Rattle.shq_nnf.proofs.Pairs.{part_of_numbers}
 use Rattle.shq_nnf.proofs.concepts.Concepts.functional_part.Goals as goal

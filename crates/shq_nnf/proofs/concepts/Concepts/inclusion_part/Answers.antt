@@ -1,5 +1,5 @@
 use Rattle.std.proofs.Common.{}
-use Rattle.shape_specs.specs.Normal.{normal_form}
+use Rattle.calculus_specs.specs.Normal.{normal_form}
 use Rattle.shq_nnf.specs.Bounds.{signed_form}
 use Rattle.shq_nnf.proofs.Pairs.{part_of_numbers}
 use Rattle.shq_nnf.proofs.concepts.Concepts.inclusion_part.Goals as goal

@@ -1,5 +1,5 @@
 use Rattle.std.proofs.Common.{IfOk, subst, sym, ◌∙◌}
-use Rattle.shq_base.specs.Concept.{Concept}
+use Rattle.shq_meaning.specs.Concept.{Concept}
 use Rattle.shq_nnf.specs.Numbers.{IsNumber}
 use Rattle.shq_nnf.proofs.Numbers.{top_number}
 use Rattle.shq_nnf.proofs.Opened.{intersection_with_bottom, intersection_without, intersection_is_normal, intersection_of_none, intersection_of_one, intersection_of_many, listed_at}

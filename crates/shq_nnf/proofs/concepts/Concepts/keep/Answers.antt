@@ -1,5 +1,5 @@
 use Rattle.std.proofs.Common.{◌≡◌, length, map, List, true, arith, subst, sym}
-use Rattle.shape_specs.specs.Shape.{Shape, has_parts_below, is_normal}
+use Rattle.calculus_specs.specs.Shape.{Shape, has_parts_below, is_normal}
 use Rattle.shq_nnf.specs.Shapes.{form_of_owned}
 use Rattle.shq_nnf.specs.Numbers.{IsPut}
 use Rattle.shq_nnf.proofs.Inserted.{length_inserted, table_inserted, put_inserted}

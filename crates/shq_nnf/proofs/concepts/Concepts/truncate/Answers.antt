@@ -1,6 +1,6 @@
 use Rattle.std.proofs.Common.{length, map, ap, sym, subst, ◌∙◌, arith, take}
 use Rattle.std.proofs.lemmas.List.{take-map, length-take}
-use Rattle.shape_specs.specs.Shape.{IsTable}
+use Rattle.calculus_specs.specs.Shape.{IsTable}
 use Rattle.shq_nnf.specs.Shapes.{form_of_owned}
 use Rattle.shq_nnf.proofs.Grown.{table_taken}
 use Rattle.shq_nnf.proofs.concepts.Concepts.truncate.Goals as goal

@@ -1,8 +1,8 @@
 use Rattle.std.proofs.Common.{IfOk, map, length, subst, ◌∙◌, ap, ltb}
 use Rattle.std.specs.List.{list_all}
-use Rattle.shq_base.specs.Concept.{Concept}
-use Rattle.shape_specs.specs.Shape.{shape_of}
-use Rattle.shape_specs.specs.Tree.{tree_of}
+use Rattle.shq_meaning.specs.Concept.{Concept}
+use Rattle.calculus_specs.specs.Shape.{shape_of}
+use Rattle.calculus_specs.specs.Tree.{tree_of}
 use Rattle.shq_nnf.specs.Numbers.{IsNumber}
 use Rattle.shq_nnf.specs.Opened.{is_open_disjunct, open_union}
 use Rattle.shq_nnf.proofs.Opened.{disjuncts_listed, disjuncts_open, disjunct_trees}

@@ -1,5 +1,5 @@
 use Rattle.std.proofs.Common.{◌≡◌, ◌+◌, ◌-◌, ◌<◌, length, ap, ◌∙◌, subst, arith}
-use Rattle.shape_specs.specs.Rows.{Part}
+use Rattle.calculus_specs.specs.Rows.{Part}
 use Rattle.shq_nnf.specs.Counts.{has_counts_within}
 use Rattle.shq_nnf.specs.Parts.{StandsForPart, union_parts, part_in}
 use Rattle.shq_nnf.proofs.Bounded.{counts_at}

@@ -1,5 +1,5 @@
 use Rattle.std.proofs.Common.{IfOk, subst, sym, ◌∙◌}
-use Rattle.shq_base.specs.Concept.{Concept}
+use Rattle.shq_meaning.specs.Concept.{Concept}
 use Rattle.shq_nnf.specs.Numbers.{IsNumber}
 use Rattle.shq_nnf.proofs.Numbers.{top_number}
 use Rattle.shq_nnf.proofs.Opened.{union_with_top, union_without, union_is_normal, union_of_none, union_of_one, union_of_many, listed_at}

@@ -1,7 +1,0 @@
-use Rattle.std.proofs.Common.{ℕ, ◌<◌, get_or}
-use Rattle.axiom_sets.specs.Sets.{Limited}
-use Rattle.antichains.specs.Kept.{Outranks}
-use Rattle.antichains.proofs.chain.is_outranked.Given as goal
-
-abbrev pub invariant-loop-place : goal.invariant-loop-place
-invariant-loop-place l = (i : ℕ) (d : Limited) → i < l.place → ¬ Outranks l.kind (get_or l.sets i d).members l.set.members

@@ -1,0 +1,191 @@
+// Whole inputs and outputs in pieces, and faults in mid-stream.
+
+use shq_io::{MemSink, MemSource, ReadEnd, StdSink, StdSource, WriteFailed, read_all, write_whole};
+use shq_terms::NoMemory;
+use std::alloc::Global;
+use std::io;
+use std::io::{ErrorKind, Read, Write};
+use std::process::Abort;
+use std::test::Fail;
+
+// A stream that moves one byte at a call, and fails at its third call.
+#[derive(Drop)]
+struct Failing {
+    calls: u8,
+}
+
+impl Failing {
+    fn turn(&mut self) -> io::Result<()> {
+        self.calls = self.calls.saturating_add(1);
+        if self.calls == 3 {
+            return Err(io::Error::from(ErrorKind::ConnectionReset));
+        }
+        Ok(())
+    }
+}
+
+impl Read for Failing {
+    fn read(&mut self, buf: &mut [u8]) -> io::Result<usize> {
+        self.turn()?;
+        match buf {
+            [first, ..] => {
+                *first = b'x';
+                Ok(1)
+            }
+            [] => Ok(0),
+        }
+    }
+}
+
+impl Write for Failing {
+    fn write(&mut self, piece: &[u8]) -> io::Result<usize> {
+        self.turn()?;
+        Ok(piece.len().min(1))
+    }
+
+    fn flush(&mut self) -> io::Result<()> {
+        Ok(())
+    }
+}
+
+// A writer that takes all, and whose flush fails.
+#[derive(Drop)]
+struct Unflushed;
+
+impl Write for Unflushed {
+    fn write(&mut self, piece: &[u8]) -> io::Result<usize> {
+        Ok(piece.len())
+    }
+
+    fn flush(&mut self) -> io::Result<()> {
+        Err(io::Error::from(ErrorKind::BrokenPipe))
+    }
+}
+
+// Whether so many bytes were read, and which, or why not.
+fn is_read_so(
+    read: &Result<Vec<u8>, ReadEnd>,
+    bytes: &[u8],
+    wanted: Result<usize, ReadEnd>,
+) -> bool {
+    match read {
+        Ok(read) => wanted == Ok(read.len()) && read.as_slice() == bytes,
+        Err(end) => wanted == Err(*end),
+    }
+}
+
+/// The step, the call that fails, the limit, and what is answered.
+type Case = (u32, u32, u32, Result<usize, ReadEnd>);
+
+// Whether bytes in memory are read so.
+fn is_case(alloc: Global, bytes: &[u8], case: &Case) -> Result<bool, NoMemory> {
+    let (step, failing, limit, wanted) = case;
+    let mut source = MemSource::new(alloc, bytes, (*step).max(1), &[*failing])?;
+    let read = read_all(alloc, &mut source, *limit);
+    Ok(is_read_so(&read, bytes, *wanted))
+}
+
+/// Of three bytes.
+const SHORT: &[Case] = &[
+    (1, 9, 3, Ok(3)),
+    (9, 9, 9, Ok(3)),
+    (1, 9, 2, Err(ReadEnd::TooLong)),
+    (1, 2, 9, Err(ReadEnd::Fault)),
+    (1, 1, 0, Err(ReadEnd::Fault)),
+];
+
+/// Of none.
+const NONE: &[Case] = &[(1, 9, 0, Ok(0))];
+
+/// Of 5,000 bytes in one step. A read offers room for 4,096 bytes, so that they come in two reads, and the third is
+/// told the end.
+const LONG: &[Case] = &[
+    (9999, 3, 5000, Err(ReadEnd::Fault)),
+    (9999, 4, 5000, Ok(5000)),
+    (9999, 3, 4999, Err(ReadEnd::TooLong)),
+    (9999, 2, 4095, Err(ReadEnd::TooLong)),
+];
+
+fn test_cases(
+    rt: &impl Abort,
+    alloc: Global,
+    bytes: &[u8],
+    cases: &[Case],
+) -> Result<(), NoMemory> {
+    for case in cases {
+        assert!(rt; is_case(alloc, bytes, case)?, "{case:?}");
+    }
+    Ok(())
+}
+
+// Readers of std, of which one fails.
+fn are_read(alloc: Global, long: &[u8]) -> bool {
+    let whole = read_all(alloc, &mut StdSource::new(long), 5000);
+    let is_whole = is_read_so(&whole, long, Ok(5000));
+    let over = read_all(alloc, &mut StdSource::new(long), 4999);
+    let is_over = is_read_so(&over, long, Err(ReadEnd::TooLong));
+    let failed = read_all(alloc, &mut StdSource::new(Failing { calls: 0 }), 9);
+    is_whole & is_over & is_read_so(&failed, long, Err(ReadEnd::Fault))
+}
+
+#[test]
+fn reads_whole_inputs(rt: HostRuntime) -> Result<(), Fail> {
+    let long = vec![in rt.alloc(); 7u8; 5000]?;
+    test_cases(&rt, rt.alloc(), b"abc", SHORT)?;
+    test_cases(&rt, rt.alloc(), b"", NONE)?;
+    test_cases(&rt, rt.alloc(), &long, LONG)?;
+    assert!(rt; are_read(rt.alloc(), &long), "readers");
+    Ok(())
+}
+
+/// The room, the step, the call that fails, what is answered and what was taken.
+type Written = (u32, u32, u32, Result<(), WriteFailed>, &'static [u8]);
+
+const WRITTEN: &[Written] = &[
+    (5, 2, 9, Ok(()), b"hello"),
+    (9, 9, 2, Ok(()), b"hello"),
+    (9, 2, 2, Err(WriteFailed), b"he"),
+    (3, 2, 9, Err(WriteFailed), b"hel"),
+    (0, 1, 9, Err(WriteFailed), b""),
+];
+
+fn is_written_so(alloc: Global, text: &[u8], case: &Written) -> Result<bool, NoMemory> {
+    let (room, step, failing, wanted, taken) = case;
+    let mut sink = MemSink::new(alloc, *room, (*step).max(1), &[*failing])?;
+    Ok(write_whole(&mut sink, text) == *wanted && sink.taken() == *taken)
+}
+
+fn test_memory(rt: &impl Abort, alloc: Global, text: &[u8]) -> Result<(), NoMemory> {
+    for case in WRITTEN {
+        assert!(rt; is_written_so(alloc, text, case)?, "{case:?}");
+    }
+    Ok(())
+}
+
+fn write<W: Write + Drop>(inner: W, text: &[u8]) -> bool {
+    write_whole(&mut StdSink::new(inner), text) == Ok(())
+}
+
+fn is_text(written: &[u8], wanted: &[u8]) -> bool {
+    written == wanted
+}
+
+// Writers of std: one with room, one without, and two that fail. A sink flushes after each write, so that a flush
+// that fails is told at once.
+fn are_written(written: &mut Vec<u8>, full: &mut [u8], text: &[u8]) -> bool {
+    let is_whole = write(&mut *written, text) && written.as_slice() == text;
+    let is_cut = !write(&mut *full, text) && is_text(full, b"hel");
+    is_whole && is_cut && !write(Unflushed, text) && !write(Failing { calls: 0 }, text)
+}
+
+fn is_all_written(alloc: Global, text: &[u8]) -> bool {
+    let mut written = Vec::new(alloc);
+    are_written(&mut written, &mut [0; 3], text)
+}
+
+#[test]
+fn writes_whole_outputs(rt: HostRuntime) -> Result<(), Fail> {
+    test_memory(&rt, rt.alloc(), b"hello")?;
+    assert!(rt; is_all_written(rt.alloc(), b"hello"), "writers");
+    Ok(())
+}

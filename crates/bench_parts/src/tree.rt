@@ -1,0 +1,326 @@
+// How fast facts are put at nodes, asked for, joined and undone, and how fast what they rest on is found.
+
+use bumpalo::Bump;
+use calculus_specs::{Fact, NoMemory};
+use completion_tree::{By, Deps, Tree};
+use fact_tree::FactTree;
+use std::alloc::{Allocator, Global};
+use std::io;
+use std::rt::Clock;
+use std::time::Instant;
+
+const NODES: u32 = 10_000;
+
+const EACH: u32 = 100;
+
+const CONCEPTS: u32 = 5_000;
+
+/// The concept at a place of a node's label, spread over the table.
+fn concept(node: u32, k: u32) -> u32 {
+    node.wrapping_mul(2_654_435_761)
+        .wrapping_add(k.wrapping_mul(40_503))
+        % CONCEPTS
+}
+
+fn make<A: Allocator + Copy>(tree: &mut FactTree<A>, from: u32) -> bool {
+    let next = tree.nodes();
+    if from < next {
+        return tree.add(Fact::Edge(7, from, next)).is_ok();
+    }
+    false
+}
+
+fn put<A: Allocator + Copy>(tree: &mut FactTree<A>, node: u32, concept: u32) -> bool {
+    if node < tree.nodes() {
+        return tree.add(Fact::Has(node, concept)).is_ok();
+    }
+    false
+}
+
+fn join<A: Allocator + Copy>(tree: &mut FactTree<A>, first: u32, second: u32) -> bool {
+    if first < tree.nodes() && second < tree.nodes() {
+        return tree.add(Fact::Same(first, second)).is_ok();
+    }
+    false
+}
+
+fn has<A: Allocator + Copy>(tree: &FactTree<A>, node: u32, concept: u32) -> bool {
+    node < tree.nodes() && tree.has(node, concept)
+}
+
+fn back<A: Allocator + Copy>(tree: &mut FactTree<A>, len: usize) {
+    if len <= tree.len() {
+        tree.undo_to(len);
+    }
+}
+
+fn nodes<A: Allocator + Copy>(tree: &mut FactTree<A>) {
+    for node in 1..NODES {
+        let _done = make(tree, (node - 1) / 3);
+    }
+}
+
+fn fill<A: Allocator + Copy>(tree: &mut FactTree<A>) {
+    for k in 0..EACH {
+        for node in 0..NODES {
+            let _done = put(tree, node, concept(node, k));
+        }
+    }
+}
+
+fn count<A: Allocator + Copy>(tree: &FactTree<A>) -> u32 {
+    let mut hits = 0u32;
+    for k in 0..2 * EACH {
+        for node in 0..NODES {
+            if has(tree, node, concept(node, k)) {
+                hits = hits.wrapping_add(1);
+            }
+        }
+    }
+    hits
+}
+
+fn joins<A: Allocator + Copy>(tree: &mut FactTree<A>, len: usize) {
+    for k in 0..100_000u32 {
+        let first = k.wrapping_mul(7_919) % NODES;
+        let second = k.wrapping_mul(104_729) % NODES;
+        let _done = join(tree, first, second);
+        if k % 10 == 9 {
+            back(tree, len);
+        }
+    }
+    back(tree, len);
+}
+
+/// A star of 10,000 children.
+fn star<A: Allocator + Copy>(tree: &mut FactTree<A>) {
+    for _ in 1..NODES {
+        let _done = make(tree, 0);
+    }
+}
+
+/// 99 times 101 nodes at once.
+fn hundreds<A: Allocator + Copy>(tree: &mut FactTree<A>) {
+    for k in 0..99u32 {
+        if 0 < tree.nodes() {
+            let _done = tree.fresh(0, 7, k, 101).is_ok();
+        }
+    }
+}
+
+/// A chain of 20,000 nodes.
+fn chain<A: Allocator + Copy>(tree: &mut FactTree<A>) {
+    for node in 0..2 * NODES {
+        let _done = make(tree, node);
+    }
+}
+
+/// Each node but the first is joined with the one before it, the first ones first.
+fn roll<A: Allocator + Copy>(tree: &mut FactTree<A>) {
+    for node in 0..2 * NODES {
+        let _done = join(tree, node, node + 1);
+    }
+}
+
+/// The same, the last ones first.
+fn fold<A: Allocator + Copy>(tree: &mut FactTree<A>) {
+    for k in 0..2 * NODES {
+        let node = 2 * NODES - k;
+        let _done = join(tree, node, node.saturating_sub(1));
+    }
+}
+
+fn roots<A: Allocator + Copy>(tree: &FactTree<A>) -> u32 {
+    let mut sum = 0u32;
+    for node in 0..2 * NODES {
+        sum = sum.wrapping_add(tree.representative(node));
+    }
+    sum
+}
+
+fn seconds(rt: &impl Clock, start: Instant) -> io::Result<f64> {
+    Ok(start.elapsed(rt)?.as_secs_f64())
+}
+
+/// Many nodes at once, and many children of one node.
+fn time_new_nodes<A: Allocator + Copy>(rt: &(impl Print + Clock), alloc: A) -> io::Result<()> {
+    let Ok(mut tree) = FactTree::new_in(alloc) else {
+        return Ok(());
+    };
+    let start = Instant::now(rt)?;
+    star(&mut tree);
+    let made = seconds(rt, start)?;
+    let start = Instant::now(rt)?;
+    back(&mut tree, 0);
+    let undone = seconds(rt, start)?;
+    println!(rt; "10,000 children of one node {made:.4} s, undone {undone:.4} s")?;
+    let start = Instant::now(rt)?;
+    hundreds(&mut tree);
+    let made = seconds(rt, start)?;
+    println!(rt; "99 times 101 new nodes, pairwise apart {made:.4} s")?;
+    Ok(())
+}
+
+/// A chain whose nodes are joined one after the other, in one of two orders.
+fn time_chain<A: Allocator + Copy>(
+    rt: &(impl Print + Clock),
+    alloc: A,
+    is_last_first: bool,
+) -> io::Result<()> {
+    let Ok(mut tree) = FactTree::new_in(alloc) else {
+        return Ok(());
+    };
+    chain(&mut tree);
+    let start = Instant::now(rt)?;
+    if is_last_first {
+        fold(&mut tree);
+    } else {
+        roll(&mut tree);
+    }
+    let joined = seconds(rt, start)?;
+    let start = Instant::now(rt)?;
+    let sum = roots(&tree);
+    let found = seconds(rt, start)?;
+    let start = Instant::now(rt)?;
+    back(&mut tree, 0);
+    let undone = seconds(rt, start)?;
+    println!(rt;
+        "20,000 joins of a chain {joined:.4} s, representatives {found:.5} s ({sum}), undone {undone:.4} s"
+    )?;
+    Ok(())
+}
+
+/// A star whose children have one concept each, and a tree in which each node has EACH concepts: every fact rests on a mark.
+fn grow<A: Allocator + Copy>(heap: Global, tree: &mut Tree<A>, from: u32) -> Result<(), NoMemory> {
+    if from < tree.nodes() {
+        let by = By {
+            line: from,
+            marks: Deps::one(heap, from)?,
+        };
+        tree.fresh(from, 7, 5, 1, by)?;
+    }
+    Ok(())
+}
+
+fn grow_star<A: Allocator + Copy>(heap: Global, tree: &mut Tree<A>) -> Result<(), NoMemory> {
+    for _ in 1..NODES {
+        grow(heap, tree, 0)?;
+    }
+    Ok(())
+}
+
+fn put_mark<A: Allocator + Copy>(
+    tree: &mut Tree<A>,
+    node: u32,
+    concept: u32,
+    by: &By,
+) -> Result<(), NoMemory> {
+    if node < tree.nodes() {
+        tree.add(Fact::Has(node, concept), by.try_clone()?)?;
+    }
+    Ok(())
+}
+
+fn fill_star<A: Allocator + Copy>(tree: &mut Tree<A>, by: &By) -> Result<(), NoMemory> {
+    for k in 0..EACH {
+        for node in 0..NODES {
+            put_mark(tree, node, concept(node, k), by)?;
+        }
+    }
+    Ok(())
+}
+
+/// The marks of the edge into a node, and of one of its concepts.
+fn marks_at<A: Allocator + Copy>(
+    heap: Global,
+    tree: &Tree<A>,
+    node: u32,
+    concept: u32,
+) -> Result<u32, NoMemory> {
+    let mut count = 0u32;
+    if node < tree.nodes() {
+        if let Some((role, from)) = tree.origin(node) {
+            let marks = tree.marks_of(heap, Fact::Edge(role, from, node))?;
+            count = count.wrapping_add(u32::from(marks.has(0)));
+        }
+        if tree.has(node, concept) {
+            let marks = tree.marks_of(heap, Fact::Has(node, concept))?;
+            count = count.wrapping_add(u32::from(marks.has(1)));
+        }
+    }
+    Ok(count)
+}
+
+fn all_marks<A: Allocator + Copy>(heap: Global, tree: &Tree<A>) -> Result<u32, NoMemory> {
+    let mut sum = 0u32;
+    for k in 0..EACH {
+        for node in 0..NODES {
+            sum = sum.wrapping_add(marks_at(heap, tree, node, concept(node, k))?);
+        }
+    }
+    Ok(sum)
+}
+
+fn time_marks<A: Allocator + Copy>(
+    rt: &(impl Print + Clock),
+    heap: Global,
+    alloc: A,
+) -> io::Result<()> {
+    let Ok(mut tree) = Tree::new_in(alloc) else {
+        return Ok(());
+    };
+    let Ok(marks) = Deps::one(heap, 1) else {
+        return Ok(());
+    };
+    let by = By { line: 1, marks };
+    let start = Instant::now(rt)?;
+    let _grown = grow_star(heap, &mut tree).is_ok();
+    let _filled = fill_star(&mut tree, &by).is_ok();
+    let made = seconds(rt, start)?;
+    let start = Instant::now(rt)?;
+    let sum = all_marks(heap, &tree).unwrap_or(0);
+    let found = seconds(rt, start)?;
+    println!(rt;
+        "a star of 10,000 children with 100 concepts each {made:.3} s, marks of 2,000,000 facts {found:.3} s ({sum})"
+    )?;
+    Ok(())
+}
+
+/// Concepts at many nodes, tests of them, and joins.
+fn time_concepts<A: Allocator + Copy>(rt: &(impl Print + Clock), alloc: A) -> io::Result<()> {
+    let Ok(mut tree) = FactTree::new_in(alloc) else {
+        return Ok(());
+    };
+    nodes(&mut tree);
+    let start = Instant::now(rt)?;
+    fill(&mut tree);
+    let added = seconds(rt, start)?;
+    let start = Instant::now(rt)?;
+    let hits = count(&tree);
+    let tested = seconds(rt, start)?;
+    let len = tree.len();
+    let start = Instant::now(rt)?;
+    joins(&mut tree, len);
+    let joined = seconds(rt, start)?;
+    let start = Instant::now(rt)?;
+    back(&mut tree, 0);
+    let undone = seconds(rt, start)?;
+    println!(rt;
+        "1,000,000 concepts put {added:.3} s, 2,000,000 tests {tested:.3} s ({hits} hits)"
+    )?;
+    println!(rt;
+        "100,000 joins and going back over them {joined:.3} s, {len} facts undone {undone:.3} s"
+    )?;
+    Ok(())
+}
+
+/// Times each kind of tree.
+pub(crate) fn run(rt: &(impl Print + Clock), alloc: Global) -> io::Result<()> {
+    let bump = Bump::new(alloc);
+    time_concepts(rt, &bump)?;
+    time_new_nodes(rt, &bump)?;
+    time_chain(rt, &bump, false)?;
+    time_chain(rt, &bump, true)?;
+    time_marks(rt, alloc, &bump)?;
+    time_concepts(rt, alloc)
+}

@@ -1,6 +1,0 @@
-use Rattle.completion_tree.specs.Trail.{facts_in}
-use Rattle.blocking.specs.Followed.{IsFollowed}
-use Rattle.blocking.proofs.prints.Prints.follow.Given as goal
-
-abbrev pub invariant-loop-node : goal.invariant-loop-node
-invariant-loop-node g l = IsFollowed (facts_in l.tree) l.node l.self

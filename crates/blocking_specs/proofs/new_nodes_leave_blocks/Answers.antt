@@ -1,5 +1,0 @@
-use Rattle.blocking_specs.proofs.Agreeing.{blocks_left_by_new}
-use Rattle.blocking_specs.proofs.new_nodes_leave_blocks.Goals as goal
-
-pub returns : goal.returns
-returns c = blocks_left_by_new

@@ -1,5 +1,0 @@
-use Rattle.blocking_specs.proofs.Agreeing.{blocks_left}
-use Rattle.blocking_specs.proofs.one_fact_leaves_blocks_below.Goals as goal
-
-pub returns : goal.returns
-returns c = blocks_left

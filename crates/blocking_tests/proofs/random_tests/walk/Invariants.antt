@@ -1,6 +1,0 @@
-use Rattle.completion_tree.specs.Trail.{facts_in}
-use Rattle.blocking.specs.Followed.{IsCurrent}
-use Rattle.blocking_tests.proofs.random_tests.walk.Given as goal
-
-abbrev pub invariant-loop : goal.invariant-loop
-invariant-loop g l = IsCurrent (facts_in l.tree) l.prints

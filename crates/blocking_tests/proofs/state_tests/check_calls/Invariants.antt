@@ -1,6 +1,0 @@
-use Rattle.completion_tree.specs.Trail.{facts_in}
-use Rattle.blocking.specs.Followed.{IsCurrent}
-use Rattle.blocking_tests.proofs.state_tests.check_calls.Given as goal
-
-abbrev pub invariant-loop-fact : goal.invariant-loop-fact
-invariant-loop-fact g l = IsCurrent (facts_in l.tree) l.prints

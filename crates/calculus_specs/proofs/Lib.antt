@@ -1,0 +1,11 @@
+pub mod Ascending
+pub mod Depth
+pub mod Same
+pub mod Tree
+pub mod Unique
+pub mod Joined
+pub mod State
+pub mod Reading
+pub mod Stack
+pub mod Broken
+pub use Rattle.shq_base.proofs.Bools

@@ -1,0 +1,129 @@
+-- What a rule line adds to what is known in its branch, where its premises hold. Facts are read through the nodes that
+-- are joined, and every node has top. A line whose number of a concept stands for none has no premises that hold.
+use Rattle.std.specs.Prelude.{ℕ, ◌+◌, ◌^◌, ◌==◌, nat_lt, nat_le, ◌&&◌, not, Bool, List, [], ◌∷◌, ◌++◌, map, length, Option, Some, None, if◌then◌else◌}
+use Rattle.std.specs.List.{list_any, list_all, range_with_len}
+use Rattle.shq_base.specs.Concept.{Concept, bottom, name, complement, intersection, union, some_of, all_of, at_least, at_most, part_list}
+use Rattle.calculus_specs.specs.Normal.{normal_form, negated_form}
+use Rattle.calculus_specs.specs.Rows.{Part, Theory, part_at, conjunct_at, are_name_positions, row_concept}
+use Rattle.calculus_specs.specs.Rows.Part.{inclusion, range}
+use Rattle.calculus_specs.specs.declared.facts.Fact.{Fact}
+use Rattle.calculus_specs.specs.declared.facts.Fact.TheVariants.{Has, Apart, Same}
+use Rattle.calculus_specs.specs.State.{has_tree, has_edge, all_apart, fresh_facts}
+use Rattle.calculus_specs.specs.Line.{Line}
+use Rattle.calculus_specs.specs.Line.Line.{start_line, and_line, or_line, all_line, carry_line, row_line, range_line, some_line, least_line, choose_line, pair_line, bottom_line, clash_line, most_line}
+
+-- the nodes and the facts that a branch knows
+pub record Known : Type 0 where
+  pub nodes : List ℕ
+  pub facts : List (Fact Concept)
+
+abbrev pub knows : Known → ℕ → Bool
+knows k x = list_any (λ y. y == x) k.nodes
+
+-- whether one of the n nodes from y on is known
+abbrev pub knows_some_from : Known → ℕ → ℕ → Bool
+knows_some_from k y n = list_any (λ z. nat_le y z && nat_lt z (y + n)) k.nodes
+
+abbrev pub with_facts : Known → List (Fact Concept) → Known
+with_facts k fs = record { nodes = k.nodes; facts = k.facts ++ fs }
+
+-- n nodes more from y on, below x by role s and with concept e, and pairwise apart
+abbrev pub with_nodes : Known → ℕ → ℕ → Concept → ℕ → ℕ → Known
+with_nodes k x s e y n = record { nodes = k.nodes ++ range_with_len y n; facts = k.facts ++ fresh_facts x s e y n }
+
+-- the answer where the test holds
+abbrev pub when : {A : Type 0} → Bool → Option A → Option A
+when b answer = if b then answer else None
+
+-- the answer for the concept, where there is one and the known node x has it
+abbrev pub at_concept : {A : Type 0} → Known → ℕ → Option Concept → (Concept → Option A) → Option A
+at_concept k x None answer = None
+at_concept k x (Some c) answer = when (knows k x && has_tree k.facts x c) (answer c)
+
+-- ---- the children of each line by the concept that its premises name
+
+abbrev pub and_children : Known → ℕ → Concept → Option (List Known)
+and_children k x (intersection cs) = Some (with_facts k (map (Has x) (part_list cs)) ∷ [])
+and_children k x _ = None
+
+abbrev pub or_children : Known → ℕ → Concept → Option (List Known)
+or_children k x (union cs) = Some (map (λ d. with_facts k (Has x d ∷ [])) (part_list cs))
+or_children k x _ = None
+
+abbrev pub all_children : Theory → Known → ℕ → ℕ → Concept → Option (List Known)
+all_children theory k x y (all_of s e) =
+    when (knows k y && has_edge k.facts (λ r. theory.below r s) x y) (Some (with_facts k (Has y e ∷ []) ∷ []))
+all_children theory k x y _ = None
+
+abbrev pub carry_children : Theory → Known → ℕ → ℕ → ℕ → Concept → Option (List Known)
+carry_children theory k x y t (all_of s e) =
+    when (theory.is_transitive t && theory.below t s && knows k y && has_edge k.facts (λ r. theory.below r t) x y)
+    (Some (with_facts k (Has y (all_of t e) ∷ []) ∷ []))
+carry_children theory k x y t _ = None
+
+abbrev pub row_children : Known → ℕ → List ℕ → Option Part → Option (List Known)
+row_children k x positions (Some (inclusion cs d)) =
+    when (are_name_positions cs positions && knows k x && list_all (λ i. has_tree k.facts x (conjunct_at cs i)) positions)
+    (Some (with_facts k (Has x (row_concept cs d positions) ∷ []) ∷ []))
+row_children k x positions _ = None
+
+abbrev pub range_children : Theory → Known → ℕ → ℕ → Option Part → Option (List Known)
+range_children theory k x y (Some (range s d)) =
+    when (knows k x && knows k y && has_edge k.facts (λ r. theory.below r s) x y) (Some (with_facts k (Has y d ∷ []) ∷ []))
+range_children theory k x y _ = None
+
+abbrev pub some_children : Known → ℕ → ℕ → Concept → Option (List Known)
+some_children k x y (some_of s e) = when (not (knows k y)) (Some (with_nodes k x s e y 1 ∷ []))
+some_children k x y _ = None
+
+abbrev pub least_children : Known → ℕ → ℕ → Concept → Option (List Known)
+least_children k x y (at_least n s e) = when (nat_le (y + n) (2 ^ 32) && not (knows_some_from k y n)) (Some (with_nodes k x s e y n ∷ []))
+least_children k x y _ = None
+
+abbrev pub choose_children : Known → ℕ → Option Concept → Option (List Known)
+choose_children k y (Some c) = when (knows k y) (Some (with_facts k (Has y c ∷ []) ∷ with_facts k (Has y (negated_form c) ∷ []) ∷ []))
+choose_children k y None = None
+
+abbrev pub clash_children : Known → ℕ → Concept → Option (List Known)
+clash_children k x (name a) = when (has_tree k.facts x (complement (name a))) (Some [])
+clash_children k x _ = None
+
+-- whether each of the known nodes is the end of an edge below s from x and has e
+abbrev pub are_fillers : Theory → Known → ℕ → ℕ → Concept → List ℕ → Bool
+are_fillers theory k x s e ys = list_all (λ y. knows k y && has_edge k.facts (λ r. theory.below r s) x y && has_tree k.facts y e) ys
+
+abbrev pub most_children : Theory → Known → ℕ → List ℕ → Concept → Option (List Known)
+most_children theory k x ys (at_most n s e) = when (length ys == n + 1 && are_fillers theory k x s e ys && all_apart k.facts ys) (Some [])
+most_children theory k x ys _ = None
+
+-- ---- any line
+
+-- nothing is known before the line `start`
+abbrev pub nothing_known : Known
+nothing_known = record { nodes = []; facts = [] }
+
+-- node 0, which is in `sub` and not in `sup`
+abbrev pub started : Concept → Concept → Known
+started sub sup = record { nodes = 0 ∷ []; facts = Has 0 (normal_form sub) ∷ Has 0 (negated_form sup) ∷ [] }
+
+abbrev pub start_children : Concept → Concept → List ℕ → Option (List Known)
+start_children sub sup [] = Some (started sub sup ∷ [])
+start_children sub sup (x ∷ xs) = None
+
+-- what is known in each child of the line, where its premises hold over the axioms of a theory, in a refutation that
+-- `sub` is in `sup`, whose concept numbers read as `concept` says
+abbrev pub children_of : Theory → Concept → Concept → (ℕ → Option Concept) → Known → Line → Option (List Known)
+children_of theory sub sup concept k start_line = start_children sub sup k.nodes
+children_of theory sub sup concept k (and_line x c) = at_concept k x (concept c) (and_children k x)
+children_of theory sub sup concept k (or_line x c) = at_concept k x (concept c) (or_children k x)
+children_of theory sub sup concept k (all_line x y c) = at_concept k x (concept c) (all_children theory k x y)
+children_of theory sub sup concept k (carry_line x y t c) = at_concept k x (concept c) (carry_children theory k x y t)
+children_of theory sub sup concept k (row_line x a p positions) = row_children k x positions (part_at theory a p)
+children_of theory sub sup concept k (range_line x y a) = range_children theory k x y (part_at theory a 1)
+children_of theory sub sup concept k (some_line x y c) = at_concept k x (concept c) (some_children k x y)
+children_of theory sub sup concept k (least_line x y c) = at_concept k x (concept c) (least_children k x y)
+children_of theory sub sup concept k (choose_line y c) = choose_children k y (concept c)
+children_of theory sub sup concept k (pair_line y z) = when (knows k y && knows k z) (Some (with_facts k (Same y z ∷ []) ∷ with_facts k (Apart y z ∷ []) ∷ []))
+children_of theory sub sup concept k (bottom_line x) = when (knows k x && has_tree k.facts x bottom) (Some [])
+children_of theory sub sup concept k (clash_line x c) = at_concept k x (concept c) (clash_children k x)
+children_of theory sub sup concept k (most_line x c ys) = at_concept k x (concept c) (most_children theory k x ys)

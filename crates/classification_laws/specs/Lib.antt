@@ -1,4 +1,0 @@
-pub mod Classified
-pub mod Excluded
-pub mod Mirrors
-pub mod Laws

@@ -1,5 +1,0 @@
-use Rattle.concept_closure.proofs.Lacking.{no_step}
-use Rattle.concept_closure.proofs.laws.no_step_over_a_closed_table_is_an_end.Goals as goal
-
-pub returns : goal.returns
-returns c = no_step

@@ -1,5 +1,0 @@
-use Rattle.fact_specs.proofs.State.{any-label}
-use Rattle.fact_specs.proofs.labels_list_what_nodes_have.Goals as goal
-
-pub returns : goal.returns
-returns c = any-label

@@ -1,5 +1,0 @@
-use Rattle.fact_specs.proofs.Reading.{keeps_state}
-use Rattle.fact_specs.proofs.reading_keeps_what_facts_say.Goals as goal
-
-pub returns : goal.returns
-returns g c = keeps_state _ _

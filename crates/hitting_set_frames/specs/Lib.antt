@@ -1,2 +1,0 @@
-pub mod Territory
-pub mod Weight

@@ -1,0 +1,86 @@
+// Reading a file of cases.
+
+use crate::blocks::Block;
+use crate::faults::Fault;
+use crate::keys::{Key, key_of};
+use job_runs::NoMemory;
+use std::alloc::Global;
+
+/// The blocks of a file of cases.
+///
+/// # Errors
+///
+/// The line that is malformed first, that there is no case, or out of memory.
+pub(crate) fn read_cases(alloc: Global, text: &str) -> Result<Vec<Block<'_>>, Fault> {
+    let mut blocks = Vec::new(alloc);
+    for (index, line) in text.lines().enumerate() {
+        if !take_line(alloc, &mut blocks, index + 1, line)? {
+            return Err(Fault::Malformed { line: index + 1 });
+        }
+    }
+    check_all_asked(&blocks)?;
+    Ok(blocks)
+}
+
+// Takes what a line says; `false` where it is malformed.
+fn take_line<'a>(
+    alloc: Global,
+    blocks: &mut Vec<Block<'a>>,
+    number: usize,
+    line: &'a str,
+) -> Result<bool, NoMemory> {
+    if line.is_empty() || line.starts_with('#') {
+        return Ok(true);
+    }
+    let (word, rest) = line.split_once(' ').unwrap_or((line, ""));
+    match key_of(word) {
+        Some(Key::Case) => begin(blocks, Block::new(alloc, rest, number, true)),
+        Some(Key::Document) => begin(blocks, Block::new(alloc, rest, number, false)),
+        Some(Key::Like) => take_over(blocks, rest),
+        Some(key) => take_in_last(blocks, key, rest),
+        None => Ok(false),
+    }
+}
+
+// Begins a block; `false` where its name is none, or stands before.
+fn begin<'a>(blocks: &mut Vec<Block<'a>>, block: Block<'a>) -> Result<bool, NoMemory> {
+    let is_new = !block.name.is_empty() && blocks.iter().all(|other| other.name != block.name);
+    blocks.push(block)?;
+    Ok(is_new)
+}
+
+// The last block takes over what an earlier one has; `false` where there is none of this name.
+fn take_over<'a>(blocks: &mut Vec<Block<'a>>, name: &str) -> Result<bool, NoMemory> {
+    let Some((last, earlier)) = blocks.split_last_mut() else {
+        return Ok(false);
+    };
+    match earlier.iter().find(|block| block.name == name) {
+        Some(block) => last.take_over(block),
+        None => Ok(false),
+    }
+}
+
+fn take_in_last<'a>(
+    blocks: &mut Vec<Block<'a>>,
+    key: Key,
+    rest: &'a str,
+) -> Result<bool, NoMemory> {
+    match blocks.last_mut() {
+        Some(block) => block.take(key, rest),
+        None => Ok(false),
+    }
+}
+
+// Each case asks something, and there is one.
+fn check_all_asked(blocks: &[Block<'_>]) -> Result<(), Fault> {
+    for block in blocks {
+        if block.is_case && !block.is_asked {
+            return Err(Fault::Malformed { line: block.line });
+        }
+    }
+    if blocks.iter().any(|block| block.is_case) {
+        Ok(())
+    } else {
+        Err(Fault::NoCase)
+    }
+}

@@ -1,0 +1,56 @@
+// The keys of lines.
+
+/// What a line says.
+#[derive(Clone, Copy)]
+pub(crate) enum Key {
+    Case,
+    Document,
+    Like,
+    Axioms,
+    Text,
+    Empty,
+    Certificate,
+    Change,
+    Insert,
+    Drop,
+    Keep,
+    Returns,
+    Unended,
+    Ask,
+    Word,
+    Budget,
+    Find,
+    Count,
+    First,
+    Steps,
+}
+
+const KEYS: &[(&str, Key)] = &[
+    ("case", Key::Case),
+    ("document", Key::Document),
+    ("like", Key::Like),
+    ("axioms", Key::Axioms),
+    ("text", Key::Text),
+    ("empty", Key::Empty),
+    ("certificate", Key::Certificate),
+    ("change", Key::Change),
+    ("insert", Key::Insert),
+    ("drop", Key::Drop),
+    ("keep", Key::Keep),
+    ("returns", Key::Returns),
+    ("unended", Key::Unended),
+    ("ask", Key::Ask),
+    ("word", Key::Word),
+    ("budget", Key::Budget),
+    ("find", Key::Find),
+    ("count", Key::Count),
+    ("first", Key::First),
+    ("steps", Key::Steps),
+];
+
+/// The key that this word is; `None` where it is none.
+pub(crate) fn key_of(word: &str) -> Option<Key> {
+    KEYS.iter()
+        .find(|(name, _)| *name == word)
+        .map(|(_, key)| *key)
+}

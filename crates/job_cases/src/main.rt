@@ -1,0 +1,83 @@
+//! Cases for the reasoner: documents, what is asked of them, and what comes of it. The file `stdin` has the cases as
+//! text, and the file `stdout` one line for each, worked out by hand. A new case is some lines there, and costs no
+//! proof.
+//!
+//! A line of `stdin` is a key, and behind one blank what belongs to it. Empty lines, and lines that begin with `#`, say
+//! nothing. A block begins with its name:
+//!
+//! | key | what it says |
+//! |---|---|
+//! | `case NAME` | here a case begins, which is run |
+//! | `document NAME` | here a block begins that is not run, a document or what else cases share |
+//! | `like NAME` | right after the name: the document, the certificate and the words are those of an earlier block |
+//! | `axioms TEXT` | a line of axioms, which stand between a prefix and `Ontology(` on two lines, and `)` |
+//! | `text TEXT` | a line of a document that is given whole |
+//! | `empty` | the document is given whole, and has no line so far |
+//! | `certificate TEXT` | a line of the certificate, which stands behind the document |
+//! | `change N TEXT` | line N of the certificate is this one |
+//! | `insert N TEXT` | before line N of the certificate stands this one |
+//! | `drop N` | the certificate lacks line N |
+//! | `keep N` | the certificate has its first N lines alone |
+//! | `returns` | before each line feed of the certificate stands a carriage return |
+//! | `unended` | the last line of the certificate has no line feed |
+//! | `ask JOB TEXT` | the words, in place of those that were taken over: a job and one text, a job alone, or none |
+//! | `word WORD` | one word more, which may be empty |
+//! | `budget N` | the words `budget` and N |
+//! | `find KINDS` | print which kinds of lines, by their first words, the answer has, and which it lacks |
+//! | `count KIND` | print how many lines of a kind it has |
+//! | `first KIND` | print its first line of a kind |
+//! | `steps` | print how many steps it took |
+//!
+//! Of each case its name is printed, how the run ended, and the answer, with ` | ` between its lines. Of `sat` and
+//! `entails` the first line is printed, and what `check` says of the whole answer as a certificate. Then comes what
+//! else the case asks for.
+//!
+//! A file is malformed that has a line of no such form, a name twice, a case that asks nothing, or no case at all:
+//! then no case is run, and the program fails with the number of the line.
+#![tactic(auto)]
+
+mod answers;
+mod blocks;
+mod certificates;
+mod documents;
+mod faults;
+mod files;
+mod keys;
+mod shows;
+
+use answers::report;
+use blocks::Block;
+use faults::Fault;
+use files::read_cases;
+use shq_io::{StdSource, read_all};
+use std::alloc::Global;
+
+// The most bytes of a file of cases.
+const MOST: u32 = 1 << 24;
+
+fn main(rt: HostRuntime) -> Result<(), Fault> {
+    let mut source = StdSource::new(rt.stdin());
+    let bytes = read_all(rt.alloc(), &mut source, MOST)?;
+    run_cases(&rt, rt.alloc(), &bytes)
+}
+
+fn run_cases(rt: &impl Print, alloc: Global, bytes: &[u8]) -> Result<(), Fault> {
+    let text = str::from_utf8(bytes)?;
+    let blocks = read_cases(alloc, text)?;
+    print_cases(rt, alloc, &blocks)
+}
+
+fn print_cases(rt: &impl Print, alloc: Global, blocks: &[Block<'_>]) -> Result<(), Fault> {
+    for block in blocks {
+        if block.is_case {
+            print_case(rt, alloc, block)?;
+        }
+    }
+    Ok(())
+}
+
+fn print_case(rt: &impl Print, alloc: Global, block: &Block<'_>) -> Result<(), Fault> {
+    let line = report(alloc, block)?;
+    println!(rt; "{line}")?;
+    Ok(())
+}

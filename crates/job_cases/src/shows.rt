@@ -1,0 +1,98 @@
+// What of an answer is printed.
+
+use crate::blocks::Show;
+use job_runs::{Answer, NoMemory};
+use std::alloc::Global;
+
+/// Puts a whole answer on a line, with ` | ` between its lines.
+pub(crate) fn put_whole(alloc: Global, line: &mut String, text: &[u8]) -> Result<(), NoMemory> {
+    let text = text_of(text);
+    match text.strip_suffix('\n') {
+        Some(lines) => put_joined(alloc, line, lines),
+        None => {
+            put_joined(alloc, line, text)?;
+            line.push_str(" (unended)")?;
+            Ok(())
+        }
+    }
+}
+
+fn put_joined(alloc: Global, line: &mut String, lines: &str) -> Result<(), NoMemory> {
+    let joined = lines.replace(alloc, "\n", " | ")?;
+    line.push_str(joined.as_str())?;
+    Ok(())
+}
+
+/// The text of an answer.
+pub(crate) fn text_of(bytes: &[u8]) -> &str {
+    str::from_utf8(bytes).unwrap_or("(no text)")
+}
+
+/// Puts on a line what a case asks for besides.
+pub(crate) fn put_shows(
+    alloc: Global,
+    line: &mut String,
+    shows: &[Show<'_>],
+    answer: &Answer,
+) -> Result<(), NoMemory> {
+    for show in shows {
+        line.push_str("; ")?;
+        put_show(alloc, line, *show, text_of(answer.text()), answer.spent)?;
+    }
+    Ok(())
+}
+
+fn put_show(
+    alloc: Global,
+    line: &mut String,
+    show: Show<'_>,
+    text: &str,
+    steps: u64,
+) -> Result<(), NoMemory> {
+    match show {
+        Show::Find(kinds) => put_kinds(line, text, kinds),
+        Show::Count(kind) => put_number(alloc, line, kind, count_of(text, kind) as u64),
+        Show::First(kind) => put_first(line, text, kind),
+        Show::Steps => put_number(alloc, line, "steps", steps),
+    }
+}
+
+// The kinds of lines that the answer has, and those that it lacks.
+fn put_kinds(line: &mut String, text: &str, kinds: &str) -> Result<(), NoMemory> {
+    line.push_str("has")?;
+    put_those(line, text, kinds, true)?;
+    line.push_str("; lacks")?;
+    put_those(line, text, kinds, false)
+}
+
+fn put_those(line: &mut String, text: &str, kinds: &str, are_there: bool) -> Result<(), NoMemory> {
+    for kind in kinds.split_whitespace() {
+        if (count_of(text, kind) > 0) == are_there {
+            line.push_str(" ")?;
+            line.push_str(kind)?;
+        }
+    }
+    Ok(())
+}
+
+fn put_number(alloc: Global, line: &mut String, name: &str, number: u64) -> Result<(), NoMemory> {
+    let text = format!(in alloc; "{name} {number}")?;
+    line.push_str(text.as_str())?;
+    Ok(())
+}
+
+fn put_first(line: &mut String, text: &str, kind: &str) -> Result<(), NoMemory> {
+    let first = text.lines().find(|line| is_of_kind(line, kind));
+    line.push_str(first.unwrap_or("no such line"))?;
+    Ok(())
+}
+
+// How many lines are of this kind.
+fn count_of(text: &str, kind: &str) -> usize {
+    text.lines().filter(|line| is_of_kind(line, kind)).count()
+}
+
+// Whether this is the first word of the line.
+fn is_of_kind(line: &str, kind: &str) -> bool {
+    line.split(' ').next() == Some(kind)
+}

@@ -1,2 +1,0 @@
-pub mod Complaints
-pub mod Answer

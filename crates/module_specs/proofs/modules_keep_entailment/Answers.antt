@@ -1,7 +1,0 @@
-use Rattle.std.proofs.Common.{}
-use Rattle.std.specs.FinSet as set
-use Rattle.module_specs.proofs.Kept.{keeps, grows, intersection_part}
-use Rattle.module_specs.proofs.modules_keep_entailment.Goals as goal
-
-pub returns : goal.returns
-returns c = λ axioms q m s is_module. (keeps axioms q m is_module s, grows axioms q (set.intersection s m) s (intersection_part s m))

@@ -1,4 +1,0 @@
-pub mod Signature
-pub mod Local
-pub mod LocalModule
-pub mod Laws

@@ -1,4 +1,0 @@
-pub mod Places
-pub mod Trees
-pub mod Names
-pub mod Made

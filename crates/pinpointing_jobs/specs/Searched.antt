@@ -1,0 +1,38 @@
+-- What the search for justifications and repairs finds.
+use Rattle.std.specs.Prelude.{◌≡◌, ℕ, ◌-◌, ◌++◌, true, false, List, length, cond}
+use Rattle.std.specs.List.{Contains}
+use Rattle.axiom_sets.specs.Sets.{Limited, IsWithin}
+use Rattle.pinpointing_specs.specs.Smallest.{rest, IsExplored}
+use Rattle.pinpointing_specs.specs.Order.{IsAscending}
+use Rattle.pinpointing_specs.specs.Nodes.{AreNodes, AreSettled}
+use Rattle.set_questions.specs.InOrder.{HaveOneLimit}
+use Rattle.hitting_set_tree.specs.declared.tree.Found.{Found}
+use Rattle.shq_terms.specs.Listed.{Listed}
+use Rattle.shq_terms.specs.declared.axioms.Query.{Query as Asked}
+use Rattle.pinpointing_specs.specs.LocalModule.{FollowsFrom}
+use Rattle.run_log.specs.declared.entry.Entry.{Entry}
+use Rattle.run_log.specs.Entries.{spent_of, nodes_of}
+use Rattle.run_log.specs.HonestLog.{IsJustificationSet, IsPinpointingLog}
+use Rattle.run_log.specs.Shown.{ShowsPinpointing}
+
+-- a leaf: a set of axioms of the ontology without which the query does not follow
+pub record IsLeaf (o : Listed) (q : Asked) (l : Limited) : Type 0 where
+  pub limit_is : l.limit ≡ length o.axioms
+  pub within : IsWithin l.limit l.members
+  pub ends : ¬ FollowsFrom o.axioms q (rest l)
+
+pub record IsSearched (o : Listed) (q : Asked) (budget : ℕ) (log : List Entry) (f : Found) : Type 0 where
+  pub honest : IsPinpointingLog o q budget log
+  -- justifications in their order, and leaves
+  pub order : IsAscending f.justifications.items
+  pub justifications : (j : Limited) → Contains f.justifications.items j → IsJustificationSet o q j
+  pub leaves : (l : Limited) → Contains f.leaves.items l → IsLeaf o q l
+  pub limits : HaveOneLimit (f.justifications.items ++ f.leaves.items)
+  -- the nodes of the log are those of a hitting-set tree with these labels, and settled, the last one apart where the budget was spent
+  pub nodes : AreNodes f.justifications.items (nodes_of log)
+  pub leaf_taken : (l : Limited) → Contains f.leaves.items l → Contains (nodes_of log) l
+  pub settled : AreSettled f.justifications.items f.leaves.items (nodes_of log) (cond f.finished (length (nodes_of log)) (length (nodes_of log) - 1))
+  -- a finished search found all, and its log shows it
+  pub explored : f.finished ≡ true → IsExplored (FollowsFrom o.axioms q) (length o.axioms) f.justifications.items f.leaves.items
+  pub shown : f.finished ≡ true → ShowsPinpointing o q log
+  pub spent : f.finished ≡ false → spent_of log ≡ budget

@@ -1,5 +1,0 @@
-use Rattle.refutation_specs.proofs.Stack.{refutation_runs, run_refutes}
-use Rattle.refutation_specs.proofs.a_stack_of_open_branches_finds_shut_trees.Goals as goal
-
-pub returns : goal.returns
-returns c = λ theory sub sup shapes lines. (refutation_runs theory sub sup shapes lines, run_refutes theory sub sup shapes lines)

@@ -1,5 +1,0 @@
-use Rattle.refutation_specs.proofs.Broken.{judged}
-use Rattle.refutation_specs.proofs.lines_are_valid_or_broken_at_one_place.Goals as goal
-
-pub returns : goal.returns
-returns c = judged

@@ -1,5 +1,0 @@
-//! Tests of cached rows.
-#![tactic(auto)]
-
-#[cfg(test)]
-mod row_tests;

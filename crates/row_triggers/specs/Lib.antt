@@ -1,4 +1,0 @@
-pub mod Triggers
-pub mod Truth
-pub mod Laws
-pub mod Examples

@@ -1,4 +1,0 @@
-pub mod Closure
-pub mod ComputedClosure
-pub mod Laws
-pub mod Examples

@@ -1,0 +1,91 @@
+-- The laws on steps and marks.
+use Rattle.std.proofs.Common.{◌≡◌, ℕ, ◌+◌, ◌*◌, ◌<◌, ◌≤◌, eqb, true, List, [], ◌∷◌, length, arith, inl, inr}
+use Rattle.std.specs.List.{list_any}
+use Rattle.std.proofs.lemmas.Bool.{and_parts, or_cases, eqb-true, ltb-true}
+use Rattle.std.proofs.lemmas.Nat.{mul-le}
+use Rattle.shq_terms.specs.Concept.{Concept}
+use Rattle.calculus_specs.specs.Shape.{Shape}
+use Rattle.calculus_specs.specs.Tree.{tree_of}
+use Rattle.calculus_specs.specs.Rows.{Theory, Row}
+use Rattle.calculus_specs.specs.declared.facts.Fact.{Fact}
+use Rattle.calculus_specs.specs.declared.facts.Fact.TheVariants.{Has, Edge, Apart, Same}
+use Rattle.calculus_specs.specs.State.{node_count}
+use Rattle.calculus_specs.specs.Reading.{is_fact_listed, are_listed}
+use Rattle.tableau_specs.specs.declared.Item.{Item}
+use Rattle.tableau_specs.specs.Items.{facts_of}
+use Rattle.tableau_specs.specs.Steps.{SearchContext}
+use Rattle.tableau_specs.specs.Reached.{IsReached}
+use Rattle.tableau_specs.proofs.Listed.{reached_listed}
+use Rattle.search_laws.specs.Closure.{IsClosure}
+use Rattle.search_laws.specs.BoundLaws.{FewStepsAtFirst, FewMarks}
+use Rattle.search_laws.proofs.Concepts.{concepts_in_closure}
+use Rattle.search_laws.proofs.Numbers.{numbers_of, is_number, few_numbers}
+use Rattle.search_laws.proofs.Rising.{is_has, AreIn, had, given_most, joined_most, parted_most}
+use Rattle.search_laws.proofs.Tally.{tally}
+use Rattle.search_laws.proofs.KeptSteps.{keeping, ones}
+
+-- what a fact of a listed trail gives is listed
+given_listed : (n : ℕ) (fs : List (Fact ℕ)) (x d : ℕ) → are_listed n fs ≡ true → list_any (is_has x d) fs ≡ true → d < n
+given_listed n [] x d all h = cc
+given_listed n (f ∷ fs) x d all h =
+    let t = and_parts (is_fact_listed n f) (are_listed n fs) all in
+    elim (or_cases (is_has x d f) (list_any (is_has x d) fs) h) [
+      | inl here ↦ one n f x d t.0 here
+      | inr later ↦ given_listed n fs x d t.1 later
+    ]
+  where
+    one : (n : ℕ) (f : Fact ℕ) (x d : ℕ) → is_fact_listed n f ≡ true → is_has x d f ≡ true → d < n
+    one n (Has y e) x d l k = let s = and_parts (eqb y x) (eqb e d) k in omega (arith, ltb-true e n l, eqb-true e d s.1)
+    one n (Edge r y z) x d l k = absurd (cc)
+    one n (Apart y z) x d l k = absurd (cc)
+    one n (Same y z) x d l k = absurd (cc)
+
+-- the numbers of the concepts of a reached trail are those of the closure
+pub numbers_in : (theory : Theory) (sub sup : Concept) (cs : List Concept) (table : List Shape) (rows : List Row) (k : ℕ) (trail : List Item)
+    → IsClosure theory sub sup cs → IsReached theory sub sup table rows k trail → AreIn (numbers_of table cs) (facts_of trail)
+numbers_in theory sub sup cs table rows k trail closed r x d h =
+    is_number table cs d (given_listed (length table) (facts_of trail) x d (reached_listed theory sub sup table rows k trail r) h)
+    (closed.has_each (tree_of table d) (concepts_in_closure theory sub sup table rows k trail r x d (had (facts_of trail) x d h)))
+
+pub mul_le : (v d c : ℕ) → d ≤ c → v * d ≤ v * c
+mul_le v d c le = mul-le v d v c (omega arith) le
+
+split_two : (v c : ℕ) → v * (c + 2) ≡ v * c + v + v
+split_two v c = grind arith
+
+split_square : (v c : ℕ) → v * (v + c + 1) ≡ v * v + v * c + v
+split_square v c = grind arith
+
+pub few_steps_at_first : FewStepsAtFirst
+few_steps_at_first theory sub sup cs table rows k trail closed r first =
+    let w : SearchContext = record { theory = theory; table = table; rows = rows } in
+    let a = r.sub_number in
+    let b = r.not_sup_number in
+    let ds = numbers_of table cs in
+    let v = node_count (facts_of trail) in
+    let keep = keeping w a b k trail r.follows in
+    let t = tally w a b ds v keep.numbers trail keep.grown (omega arith) (numbers_in theory sub sup cs table rows k trail closed r) in
+    let some = t.at_first_steps first in
+    let all = keep.all_are_kept (ones w a b keep.numbers trail keep.grown first) in
+    let g = given_most ds v (facts_of trail) in
+    let j = joined_most ds v (facts_of trail) in
+    let m = mul_le v (length ds) (length cs) (few_numbers table cs r.is_table) in
+    let e = split_two v (length cs) in
+    omega arith
+
+pub few_marks : FewMarks
+few_marks theory sub sup cs table rows k trail closed r =
+    let w : SearchContext = record { theory = theory; table = table; rows = rows } in
+    let a = r.sub_number in
+    let b = r.not_sup_number in
+    let ds = numbers_of table cs in
+    let v = node_count (facts_of trail) in
+    let keep = keeping w a b k trail r.follows in
+    let t = tally w a b ds v keep.numbers trail keep.grown (omega arith) (numbers_in theory sub sup cs table rows k trail closed r) in
+    let some = t.mark_steps in
+    let g = given_most ds v (facts_of trail) in
+    let j = joined_most ds v (facts_of trail) in
+    let p = parted_most ds v (facts_of trail) in
+    let m = mul_le v (length ds) (length cs) (few_numbers table cs r.is_table) in
+    let e = split_square v (length cs) in
+    omega arith

@@ -1,0 +1,67 @@
+-- The closure of a theory and a query: the concepts that a search may give to its nodes.
+use Rattle.std.specs.Prelude.{◌≡◌, ℕ, ◌+◌, ◌*◌, ◌^◌, true, max, List, [], ◌∷◌, length, Contains}
+use Rattle.std.specs.List.{list_any, IsDistinct}
+use Rattle.shq_terms.specs.Concept.{Concept, top, intersection, union, some_of, all_of, at_least, at_most, Parts, part_list}
+use Rattle.calculus_specs.specs.Normal.{normal_form, negated_form}
+use Rattle.calculus_specs.specs.Same.{is_same}
+use Rattle.calculus_specs.specs.Rows.{NumberedPart, Theory, are_name_positions, row_concept}
+use Rattle.calculus_specs.specs.Rows.Part.{inclusion, range}
+
+-- the concept is the query's, or of a row or a range of the axioms, or a rule gives it from one that is in the closure
+pub data IsInClosure (theory : Theory) (sub sup : Concept) : Concept → Type 0 where
+  has_top : IsInClosure theory sub sup top
+  has_sub : IsInClosure theory sub sup (normal_form sub)
+  has_not_sup : IsInClosure theory sub sup (negated_form sup)
+  -- the row concepts of each inclusion, for all positions of names
+  has_row : (n : NumberedPart) (cs : List Concept) (d : Concept) (positions : List ℕ) → Contains theory.parts n → n.part ≡ inclusion cs d → are_name_positions cs positions ≡ true
+      → IsInClosure theory sub sup (row_concept cs d positions)
+  has_range : (n : NumberedPart) (r : ℕ) (d : Concept) → Contains theory.parts n → n.part ≡ range r d → IsInClosure theory sub sup d
+  has_conjunct : (cs : Parts) (c : Concept) → IsInClosure theory sub sup (intersection cs) → Contains (part_list cs) c → IsInClosure theory sub sup c
+  has_disjunct : (cs : Parts) (c : Concept) → IsInClosure theory sub sup (union cs) → Contains (part_list cs) c → IsInClosure theory sub sup c
+  has_some : (r : ℕ) (c : Concept) → IsInClosure theory sub sup (some_of r c) → IsInClosure theory sub sup c
+  has_all : (r : ℕ) (c : Concept) → IsInClosure theory sub sup (all_of r c) → IsInClosure theory sub sup c
+  has_least : (n r : ℕ) (c : Concept) → IsInClosure theory sub sup (at_least n r c) → IsInClosure theory sub sup c
+  has_most : (n r : ℕ) (c : Concept) → IsInClosure theory sub sup (at_most n r c) → IsInClosure theory sub sup c
+  -- the complement of what is counted, which a search may choose
+  has_other : (n r : ℕ) (c : Concept) → IsInClosure theory sub sup (at_most n r c) → IsInClosure theory sub sup (negated_form c)
+  -- what a transitive role hands on
+  has_carried : (s t : ℕ) (c : Concept) → IsInClosure theory sub sup (all_of s c) → theory.is_transitive t ≡ true → IsInClosure theory sub sup (all_of t c)
+
+-- the list has each concept of the closure, once, and no other
+pub record IsClosure (theory : Theory) (sub sup : Concept) (cs : List Concept) : Type 0 where
+  pub has_each : (c : Concept) → IsInClosure theory sub sup c → list_any (is_same c) cs ≡ true
+  pub has_only : (c : Concept) → list_any (is_same c) cs ≡ true → IsInClosure theory sub sup c
+  pub are_different : IsDistinct is_same cs
+
+-- ---- the numbers of the bounds
+
+-- how many nodes a concept asks for at once
+abbrev pub asked_by : Concept → ℕ
+asked_by (at_least n r c) = n
+asked_by _ = 1
+
+-- how many alternatives a choice on the concept has
+abbrev pub choices_of : Concept → ℕ
+choices_of (union ps) = length (part_list ps)
+choices_of _ = 2
+
+-- the greatest number of an 'at least'; 1 where there is none
+abbrev pub most_made : List Concept → ℕ
+most_made [] = 1
+most_made (c ∷ cs) = max (asked_by c) (most_made cs)
+
+-- the greatest number of parts of a union; 2 where there is none
+abbrev pub most_parts : List Concept → ℕ
+most_parts [] = 2
+most_parts (c ∷ cs) = max (choices_of c) (most_parts cs)
+
+-- a trail has at most so many nodes, where the closure has c concepts and a step makes at most g nodes
+abbrev pub node_bound : ℕ → ℕ → ℕ
+node_bound c g = (c * g + 1) ^ (2 ^ c + 2)
+
+-- a search takes at most so many steps, where a choice has at most b alternatives and a trail at most m nodes
+abbrev pub steps_below : ℕ → ℕ → ℕ → ℕ
+steps_below b m c = (b + 1) ^ (m * (m + c + 2))
+
+abbrev pub step_bound : List Concept → ℕ
+step_bound cs = steps_below (most_parts cs) (node_bound (length cs) (most_made cs)) (length cs)

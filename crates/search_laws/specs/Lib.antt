@@ -1,0 +1,13 @@
+pub mod Theories
+pub mod TrailLaws
+pub mod Closure
+pub mod ComputedClosure
+pub mod BoundLaws
+pub mod BoundExamples
+pub mod Elements
+pub mod Pairs
+pub mod Built
+pub mod Computed
+pub mod CounterModelLaws
+pub mod CounterModelExamples
+pub use Rattle.refutation_truth.specs.Theory

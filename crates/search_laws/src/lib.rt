@@ -1,0 +1,21 @@
+//! Laws of every search, whatever the order of its steps: what holds of trails that legal steps reach.
+//!
+//! - `trail_laws`: what bounds and counter-models both need of reached trails.
+//! - `bound_laws`: every legal search ends, and after how many steps.
+//! - `counter_model_laws`: a saturated trail describes a finite interpretation that meets the axioms and refutes the query.
+#![tactic(auto)]
+
+mod bound_laws;
+mod counter_model_laws;
+mod trail_laws;
+
+pub use bound_laws::{
+    concepts_are_in_the_closure, few_children, few_marks, few_nodes, few_steps,
+    few_steps_without_going_back, legal_runs_are_bounded, paths_are_short, the_closure_is_computed,
+};
+pub use counter_model_laws::{
+    chains_stay_within, computed_interpretations_are_built, elements_are_few, elements_differ,
+    labels_are_part, labels_are_true, labels_count_simple, parts_are_met, roles_are_met,
+    saturated_does_not_entail, saturated_is_counter_model, successors_are_elements,
+};
+pub use trail_laws::{few_successors_fit, the_start_stays, theories_are_their_axioms};

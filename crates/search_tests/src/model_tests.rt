@@ -1,0 +1,176 @@
+// Models of small trees, worked out by hand.
+
+use crate::following::{fill, start};
+use crate::small_tables::{CHAIN, role_box, table};
+use calculus_specs::Fact;
+use finite_model::Interp;
+use model_builder::interpretation_of_elements;
+use role_box::RoleBox;
+use shq_nnf::Shape;
+use shq_terms::{AddFault, Axiom, Concept, NoMemory, Node, Query};
+use std::alloc::Global;
+use std::process::Abort;
+use std::test::Fail;
+
+/// Number 1 is class 0, number 2 class 1, and number 3 class 2.
+const CLASSES: &[Shape<'static>] = &[Shape::Name(0), Shape::Name(1), Shape::Name(2)];
+
+/// What is asked: of an element, whether so many successors by a role are in a class.
+type Successors = (u32, u32, u32, u32);
+
+/// The facts of a tree, how many elements its model has, which element is in which class, and which has which
+/// successors.
+type Case = (
+    &'static [Fact<u32>],
+    u32,
+    &'static [(u32, u32, bool)],
+    &'static [(Successors, bool)],
+);
+
+/// Both successors of node 0 are blocked by it, and lead to both.
+const TWO: &[Fact<u32>] = &[
+    Fact::Has(0, 1),
+    Fact::Edge(0, 0, 1),
+    Fact::Has(1, 1),
+    Fact::Edge(0, 0, 2),
+    Fact::Has(2, 1),
+    Fact::Apart(1, 2),
+];
+
+const CASES: &[Case] = &[
+    // One node.
+    (&[Fact::Has(0, 2)], 1, &[(0, 0, false), (0, 1, true)], &[]),
+    // Two that one node blocks.
+    (
+        TWO,
+        3,
+        &[],
+        &[
+            ((0, 2, 0, 0), true),
+            ((1, 2, 0, 0), true),
+            ((2, 2, 0, 0), true),
+            ((0, 3, 2, 0), false),
+            ((1, 3, 2, 0), false),
+            ((2, 3, 2, 0), false),
+        ],
+    ),
+    // Nodes 1 and 2 are one, node 3 is blocked by node 0, and node 4 under a block. Role 1 has chains, and role 2
+    // too.
+    (
+        &[
+            Fact::Has(0, 1),
+            Fact::Edge(0, 0, 1),
+            Fact::Has(1, 2),
+            Fact::Edge(1, 0, 2),
+            Fact::Has(2, 1),
+            Fact::Same(1, 2),
+            Fact::Has(0, 3),
+            Fact::Edge(0, 1, 3),
+            Fact::Has(3, 3),
+            Fact::Edge(0, 3, 4),
+            Fact::Has(4, 2),
+        ],
+        3,
+        &[(1, 0, true), (1, 1, true), (2, 0, true), (2, 1, false)],
+        &[
+            ((0, 1, 0, 1), true),
+            ((0, 2, 1, 0), true),
+            ((1, 1, 0, 0), true),
+            ((2, 1, 0, 1), true),
+            ((2, 2, 2, 0), true),
+            ((2, 2, 0, 0), false),
+            ((0, 3, 2, 0), false),
+        ],
+    ),
+];
+
+// The model of the tree of these facts, with three roles.
+fn made_model(alloc: Global, facts: &[Fact<u32>], roles: &RoleBox) -> Result<Interp, NoMemory> {
+    let concepts = table(alloc, CLASSES)?;
+    let (mut tree, mut blocks) = start(alloc)?;
+    fill(&mut tree, &mut blocks, facts)?;
+    interpretation_of_elements(alloc, &tree, &blocks, &concepts, roles, 3)
+}
+
+fn class(number: u32) -> Concept {
+    Concept {
+        node: Node::Name(number),
+    }
+}
+
+fn successors(alloc: Global, count: u32, role: u32, number: u32) -> Result<Concept, NoMemory> {
+    let filler = Box::new(alloc, class(number))?;
+    Ok(Concept {
+        node: Node::Min(count, role, filler),
+    })
+}
+
+fn holds(model: &Interp, concept: &Concept, element: u32) -> bool {
+    element < model.size() && model.holds(concept, element)
+}
+
+fn has(alloc: Global, model: &Interp, asked: Successors) -> Result<bool, NoMemory> {
+    let (element, count, role, number) = asked;
+    let successors = successors(alloc, count, role, number)?;
+    Ok(holds(model, &successors, element))
+}
+
+fn are_members(model: &Interp, members: &[(u32, u32, bool)]) -> bool {
+    let mut are_so = true;
+    for (element, number, wanted) in members {
+        are_so &= holds(model, &class(*number), *element) == *wanted;
+    }
+    are_so
+}
+
+fn is_model(alloc: Global, model: &Interp, case: &Case) -> Result<bool, NoMemory> {
+    let (_, size, members, successors) = case;
+    let mut is_so = model.size() == *size && are_members(model, members);
+    for (asked, wanted) in *successors {
+        is_so &= has(alloc, model, *asked)? == *wanted;
+    }
+    Ok(is_so)
+}
+
+fn is_case(alloc: Global, roles: &RoleBox, case: &Case) -> Result<bool, NoMemory> {
+    let model = made_model(alloc, case.0, roles)?;
+    is_model(alloc, &model, case)
+}
+
+// Two nodes that one node blocks are two successors; without them the query would not be refuted.
+fn meets_axiom(alloc: Global, model: &Interp) -> Result<bool, NoMemory> {
+    let axiom = Axiom::SubClassOf(class(0), successors(alloc, 2, 0, 0)?);
+    Ok(model.meets(&axiom))
+}
+
+fn refutes_query(model: &Interp) -> bool {
+    let query = Query {
+        sub: class(0),
+        sup: class(1),
+    };
+    model.refutes(&query) == Some(0)
+}
+
+fn meets_and_refutes(alloc: Global, roles: &RoleBox) -> Result<bool, NoMemory> {
+    let model = made_model(alloc, TWO, roles)?;
+    Ok(meets_axiom(alloc, &model)? && refutes_query(&model))
+}
+
+fn test_cases(rt: &impl Abort, alloc: Global, roles: &RoleBox) -> Result<(), NoMemory> {
+    for (place, case) in CASES.iter().enumerate() {
+        assert!(rt; is_case(alloc, roles, case)?, "case {place}");
+    }
+    assert!(rt; meets_and_refutes(alloc, roles)?, "an axiom and a query");
+    Ok(())
+}
+
+fn test_models(rt: &impl Abort, alloc: Global) -> Result<(), AddFault> {
+    let roles = role_box(alloc, CHAIN, &[1, 2, 3])?;
+    Ok(test_cases(rt, alloc, &roles)?)
+}
+
+#[test]
+fn models_of_trees(rt: HostRuntime) -> Result<(), Fail> {
+    test_models(&rt, rt.alloc())?;
+    Ok(())
+}

@@ -1,0 +1,107 @@
+//! Facts of all kinds come and go, and the blocks are compared with those by a plain reading.
+ghost use Rattle.std.specs.Prelude.{OnOk};
+ghost use Rattle.completion_tree.specs.Trail.{facts_in};
+ghost use Rattle.blocking.specs.Followed.{IsCurrent};
+
+use crate::following::{back, put, start};
+use crate::plain::plain_blocks;
+use blocking::{Blocks, state};
+use calculus_specs::{Fact, NoMemory};
+use completion_tree::{Item, Tree};
+use std::alloc::Global;
+use std::process::Abort;
+use std::test::Fail;
+
+const WALKS: u64 = 200;
+
+const STEPS: u64 = 100;
+
+/// The next number of a fixed sequence.
+fn next(seed: u64) -> u64 {
+    let mixed = seed ^ (seed << 13);
+    let mixed = mixed ^ (mixed >> 7);
+    mixed ^ (mixed << 17)
+}
+
+/// Sixteen bits of a number, from one on.
+fn bits(number: u64, from: u32) -> u32 {
+    (number >> from.min(63) & 0xffff) as u32
+}
+
+/// A fact about some of the nodes, or a new one.
+fn some_fact(seed: u64, nodes: u32) -> Fact<u32> {
+    let nodes = nodes.max(1);
+    let first = bits(seed, 8) % nodes;
+    let second = bits(seed, 24) % nodes;
+    let concept = bits(seed, 40) % 6;
+    match seed % 16 {
+        0..=5 => Fact::Has(first, concept),
+        6..=11 => Fact::Edge(7, first, if nodes < 60 { nodes } else { second }),
+        12 | 13 => Fact::Edge(8, first, second),
+        14 => Fact::Apart(first, second),
+        _ => Fact::Same(first, second),
+    }
+}
+
+fn facts_of(heap: Global, tree: &Tree<Global>) -> Result<Vec<Fact<u32>>, NoMemory> {
+    let mut facts = Vec::new(heap);
+    for place in 0..tree.len() {
+        if let Item::Fact(fact) = tree.item(place) {
+            facts.push(fact)?;
+        }
+    }
+    Ok(facts)
+}
+
+fn check(
+    rt: &impl Abort,
+    heap: Global,
+    tree: &Tree<Global>,
+    blocks: &Blocks,
+) -> Result<(), NoMemory>
+    requires { IsCurrent (facts_in tree.now) blocks.now }
+{
+    let facts = facts_of(heap, tree)?;
+    let plain = plain_blocks(&facts, tree.nodes());
+    for node in 0..tree.nodes() {
+        let is_same = state(tree, blocks, node) == plain[node as usize % 64];
+        assert!(rt; is_same, "of {node} by {facts:?}");
+    }
+    Ok(())
+}
+
+fn step(tree: &mut Tree<Global>, blocks: &mut Blocks, seed: u64) -> Result<(), NoMemory>
+    requires { IsCurrent (facts_in tree.old) blocks.old }
+    ensures { OnOk result (IsCurrent (facts_in tree.new) blocks.new) }
+{
+    if seed % 23 == 0 {
+        let len = tree.len();
+        let fewer = bits(seed, 8) % 16;
+        return back(tree, blocks, len - len.min(fewer));
+    }
+    put(tree, blocks, some_fact(seed, tree.nodes()))
+}
+
+fn walk(rt: &impl Abort, heap: Global, seed: u64) -> Result<(), NoMemory> {
+    let (mut tree, mut blocks) = start(heap)?;
+    let mut seed = seed;
+    for _ in 0..STEPS {
+        seed = next(seed);
+        step(&mut tree, &mut blocks, seed)?;
+        check(rt, heap, &tree, &blocks)?;
+    }
+    Ok(())
+}
+
+fn walks(rt: &impl Abort, heap: Global) -> Result<(), NoMemory> {
+    for seed in 0..WALKS {
+        walk(rt, heap, next(seed + 1))?;
+    }
+    Ok(())
+}
+
+#[test]
+fn random_facts(rt: HostRuntime) -> Result<(), Fail> {
+    walks(&rt, rt.alloc())?;
+    Ok(())
+}

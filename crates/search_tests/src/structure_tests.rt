@@ -1,0 +1,126 @@
+// A structure of four elements, worked out by hand.
+
+use crate::small_tables::{CHAIN, role_box};
+use finite_model::Interp;
+use model_builder::{Edge, Member, interpretation};
+use role_box::RoleBox;
+use shq_terms::{AddFault, Concept, NoMemory, Node};
+use std::alloc::Global;
+use std::process::Abort;
+use std::test::Fail;
+
+/// Each element is in the class of its number.
+const MEMBERS: &[Member] = &[
+    Member {
+        class: 0,
+        element: 0,
+    },
+    Member {
+        class: 1,
+        element: 1,
+    },
+    Member {
+        class: 2,
+        element: 2,
+    },
+    Member {
+        class: 3,
+        element: 3,
+    },
+];
+
+/// Elements 1 and 2 lead to each other.
+const EDGES: &[Edge] = &[
+    Edge {
+        role: 0,
+        from: 0,
+        to: 1,
+    },
+    Edge {
+        role: 0,
+        from: 1,
+        to: 2,
+    },
+    Edge {
+        role: 0,
+        from: 2,
+        to: 1,
+    },
+    Edge {
+        role: 3,
+        from: 1,
+        to: 2,
+    },
+    Edge {
+        role: 3,
+        from: 2,
+        to: 3,
+    },
+];
+
+/// A role, two elements, and whether the role leads from the one to the other.
+const LEADS: &[(u32, u32, u32, bool)] = &[
+    (0, 0, 1, true),
+    (0, 0, 2, false),
+    (1, 0, 2, true),
+    (1, 1, 1, true),
+    (1, 0, 0, false),
+    (2, 2, 2, true),
+    (3, 1, 2, true),
+    (3, 1, 3, false),
+];
+
+// The interpretation of four elements and four roles, where these are inside.
+fn made_model(
+    alloc: Global,
+    members: &[Member],
+    edges: &[Edge],
+    roles: &RoleBox,
+) -> Result<Interp, NoMemory> {
+    let inside = members.iter().all(|member| member.element < 4)
+        && edges.iter().all(|edge| edge.from < 4)
+        && edges.iter().all(|edge| edge.to < 4);
+    if inside {
+        interpretation(alloc, 4, members, edges, roles, 4)
+    } else {
+        Err(NoMemory)
+    }
+}
+
+fn whole_model(alloc: Global) -> Result<Interp, AddFault> {
+    let roles = role_box(alloc, CHAIN, &[1, 2, 3])?;
+    Ok(made_model(alloc, MEMBERS, EDGES, &roles)?)
+}
+
+fn some(alloc: Global, role: u32, class: u32) -> Result<Concept, NoMemory> {
+    let node = Node::Name(class);
+    let end = Box::new(alloc, Concept { node })?;
+    let node = Node::SomeOf(role, end);
+    Ok(Concept { node })
+}
+
+fn leads(alloc: Global, model: &Interp, role: u32, x: u32, y: u32) -> Result<bool, NoMemory> {
+    let some = some(alloc, role, y)?;
+    Ok(x < model.size() && model.holds(&some, x))
+}
+
+fn test_leads(rt: &impl Abort, alloc: Global, model: &Interp) -> Result<(), NoMemory> {
+    for (role, x, y, wanted) in LEADS {
+        assert!(rt;
+            leads(alloc, model, *role, *x, *y)? == *wanted,
+            "{role} from {x} to {y}"
+        );
+    }
+    Ok(())
+}
+
+fn test_model(rt: &impl Abort, alloc: Global) -> Result<(), AddFault> {
+    let model = whole_model(alloc)?;
+    Ok(test_leads(rt, alloc, &model)?)
+}
+
+#[test]
+fn roles_have_edges_and_chains(rt: HostRuntime) -> Result<(), Fail> {
+    test_model(&rt, rt.alloc())?;
+    Ok(())
+}

@@ -1,0 +1,26 @@
+-- Facts whose nodes are known by what rests on the facts' own marks.
+use Rattle.std.specs.Prelude.{◌≡◌, ℕ, ◌==◌, Bool, true, List, [], ◌∷◌}
+use Rattle.std.specs.List.{list_any, list_all}
+use Rattle.lane_sieve.specs.Sets.{NumberSet}
+use Rattle.calculus_specs.specs.declared.facts.Fact.{Fact}
+use Rattle.calculus_specs.specs.declared.facts.Fact.TheVariants.{Has, Edge, Apart, Same}
+use Rattle.search_trace.specs.Noted.{within}
+use Rattle.search_trace.specs.Trail.{MarkedFact, nodes_of}
+
+-- the nodes of a fact
+abbrev pub named : Fact ℕ → List ℕ
+named (Has x c) = x ∷ []
+named (Edge r x y) = x ∷ y ∷ []
+named (Apart x y) = x ∷ y ∷ []
+named (Same x y) = x ∷ y ∷ []
+
+-- whether the node is known by facts that rest on marks in u
+abbrev pub is_known_within : NumberSet → List MarkedFact → ℕ → Bool
+is_known_within u ms x = list_any (λ y. y == x) (within u (nodes_of ms))
+
+-- whether the nodes of a fact with these marks are
+abbrev pub is_grounded : List MarkedFact → MarkedFact → Bool
+is_grounded ms m = list_all (is_known_within m.marks ms) (named m.item)
+
+abbrev pub AreGrounded : List MarkedFact → Type 0
+AreGrounded ms = list_all (is_grounded ms) ms ≡ true

@@ -1,0 +1,159 @@
+-- What a rule line asks of a branch, fact by fact, and what each of its children adds, whatever the branch.
+use Rattle.std.specs.Prelude.{ℕ, ◌+◌, ◌^◌, ◌==◌, nat_le, ◌&&◌, not, Bool, true, false, List, [], ◌∷◌, ◌++◌, map, length, Option, None, Some}
+use Rattle.std.specs.List.{list_all}
+use Rattle.calculus_specs.specs.Concept.{Concept, bottom, name, complement, intersection, union, some_of, all_of, at_least, at_most, part_list}
+use Rattle.calculus_specs.specs.Normal.{negated_form}
+use Rattle.calculus_specs.specs.Rows.{Part, Theory, part_at, conjunct_at, are_name_positions, row_concept}
+use Rattle.calculus_specs.specs.Rows.Part.{inclusion, range}
+use Rattle.calculus_specs.specs.declared.facts.Fact.{Fact}
+use Rattle.calculus_specs.specs.declared.facts.Fact.TheVariants.{Has, Apart, Same}
+use Rattle.calculus_specs.specs.State.{has_tree, has_edge, are_apart}
+use Rattle.calculus_specs.specs.Line.{Line}
+use Rattle.calculus_specs.specs.Line.Line.{start_line, and_line, or_line, all_line, carry_line, row_line, range_line, some_line, least_line, choose_line, pair_line, bottom_line, clash_line, most_line}
+use Rattle.calculus_specs.specs.Rules.{Known, knows, knows_some_from, with_facts, with_nodes, when}
+
+-- ---- premises
+
+pub data Premise : Type 0 where
+  is_node : (x : ℕ) → Premise
+  has_concept : (x : ℕ) (c : Concept) → Premise
+  has_edge_below : (s x y : ℕ) → Premise
+  is_apart : (x y : ℕ) → Premise
+
+-- whether a premise holds in a branch; facts are read through joins
+abbrev pub holds : Theory → Known → Premise → Bool
+holds theory k (is_node x) = knows k x
+holds theory k (has_concept x c) = has_tree k.facts x c
+holds theory k (has_edge_below s x y) = has_edge k.facts (λ r. theory.below r s) x y
+holds theory k (is_apart x y) = are_apart k.facts x y
+
+-- ---- what a child adds
+
+pub data Added : Type 0 where
+  more_facts : (fs : List (Fact Concept)) → Added
+  more_nodes : (x s : ℕ) (e : Concept) (y n : ℕ) → Added
+
+-- the branch with what is added
+abbrev pub with_added : Known → Added → Known
+with_added k (more_facts fs) = with_facts k fs
+with_added k (more_nodes x s e y n) = with_nodes k x s e y n
+
+-- whether none of the nodes that are added is known
+abbrev pub is_new : Known → Added → Bool
+is_new k (more_facts fs) = true
+is_new k (more_nodes x s e y n) = not (knows_some_from k y n)
+
+-- ---- rules
+
+pub record Rule : Type 0 where
+  pub premises : List Premise
+  pub children : List Added
+
+abbrev pub and_rule : ℕ → Option Concept → Option Rule
+and_rule x (Some (intersection cs)) = Some (record { premises = is_node x ∷ has_concept x (intersection cs) ∷ []; children = more_facts (map (Has x) (part_list cs)) ∷ [] })
+and_rule x _ = None
+
+abbrev pub or_rule : ℕ → Option Concept → Option Rule
+or_rule x (Some (union cs)) = Some (record { premises = is_node x ∷ has_concept x (union cs) ∷ []; children = map (λ d. more_facts (Has x d ∷ [])) (part_list cs) })
+or_rule x _ = None
+
+abbrev pub all_rule : ℕ → ℕ → Option Concept → Option Rule
+all_rule x y (Some (all_of s e)) = Some (record {
+  premises = is_node x ∷ has_concept x (all_of s e) ∷ is_node y ∷ has_edge_below s x y ∷ [];
+  children = more_facts (Has y e ∷ []) ∷ [];
+})
+all_rule x y _ = None
+
+abbrev pub carry_rule : Theory → ℕ → ℕ → ℕ → Option Concept → Option Rule
+carry_rule theory x y t (Some (all_of s e)) = when (theory.is_transitive t && theory.below t s) (Some (record {
+  premises = is_node x ∷ has_concept x (all_of s e) ∷ is_node y ∷ has_edge_below t x y ∷ [];
+  children = more_facts (Has y (all_of t e) ∷ []) ∷ [];
+}))
+carry_rule theory x y t _ = None
+
+abbrev pub row_rule : ℕ → List ℕ → Option Part → Option Rule
+row_rule x positions (Some (inclusion cs d)) = when (are_name_positions cs positions) (Some (record {
+  premises = is_node x ∷ map (λ i. has_concept x (conjunct_at cs i)) positions;
+  children = more_facts (Has x (row_concept cs d positions) ∷ []) ∷ [];
+}))
+row_rule x positions _ = None
+
+abbrev pub range_rule : ℕ → ℕ → Option Part → Option Rule
+range_rule x y (Some (range s d)) = Some (record { premises = is_node x ∷ is_node y ∷ has_edge_below s x y ∷ []; children = more_facts (Has y d ∷ []) ∷ [] })
+range_rule x y _ = None
+
+abbrev pub some_rule : ℕ → ℕ → Option Concept → Option Rule
+some_rule x y (Some (some_of s e)) = Some (record { premises = is_node x ∷ has_concept x (some_of s e) ∷ []; children = more_nodes x s e y 1 ∷ [] })
+some_rule x y _ = None
+
+abbrev pub least_rule : ℕ → ℕ → Option Concept → Option Rule
+least_rule x y (Some (at_least n s e)) = when (nat_le (y + n) (2 ^ 32)) (Some (record { premises = is_node x ∷ has_concept x (at_least n s e) ∷ []; children = more_nodes x s e y n ∷ [] }))
+least_rule x y _ = None
+
+abbrev pub choose_rule : ℕ → Option Concept → Option Rule
+choose_rule y (Some c) = Some (record { premises = is_node y ∷ []; children = more_facts (Has y c ∷ []) ∷ more_facts (Has y (negated_form c) ∷ []) ∷ [] })
+choose_rule y None = None
+
+abbrev pub clash_rule : ℕ → Option Concept → Option Rule
+clash_rule x (Some (name a)) = Some (record { premises = is_node x ∷ has_concept x (name a) ∷ has_concept x (complement (name a)) ∷ []; children = [] })
+clash_rule x _ = None
+
+-- y is a known node at the end of an edge below s from x, and has e
+abbrev pub filler_premises : ℕ → ℕ → Concept → List ℕ → List Premise
+filler_premises x s e [] = []
+filler_premises x s e (y ∷ ys) = is_node y ∷ has_edge_below s x y ∷ has_concept y e ∷ filler_premises x s e ys
+
+abbrev pub apart_premises : List ℕ → List Premise
+apart_premises [] = []
+apart_premises (y ∷ ys) = map (is_apart y) ys ++ apart_premises ys
+
+abbrev pub most_rule : ℕ → List ℕ → Option Concept → Option Rule
+most_rule x ys (Some (at_most n s e)) = when (length ys == n + 1) (Some (record {
+  premises = is_node x ∷ has_concept x (at_most n s e) ∷ (filler_premises x s e ys ++ apart_premises ys);
+  children = [];
+}))
+most_rule x ys _ = None
+
+-- the rule that a line uses, but for `start`, which has its own branch
+abbrev pub rule_of : Theory → (ℕ → Option Concept) → Line → Option Rule
+rule_of theory concept start_line = None
+rule_of theory concept (and_line x c) = and_rule x (concept c)
+rule_of theory concept (or_line x c) = or_rule x (concept c)
+rule_of theory concept (all_line x y c) = all_rule x y (concept c)
+rule_of theory concept (carry_line x y t c) = carry_rule theory x y t (concept c)
+rule_of theory concept (row_line x a p positions) = row_rule x positions (part_at theory a p)
+rule_of theory concept (range_line x y a) = range_rule x y (part_at theory a 1)
+rule_of theory concept (some_line x y c) = some_rule x y (concept c)
+rule_of theory concept (least_line x y c) = least_rule x y (concept c)
+rule_of theory concept (choose_line y c) = choose_rule y (concept c)
+rule_of theory concept (pair_line y z) = Some (record { premises = is_node y ∷ is_node z ∷ []; children = more_facts (Same y z ∷ []) ∷ more_facts (Apart y z ∷ []) ∷ [] })
+rule_of theory concept (bottom_line x) = Some (record { premises = is_node x ∷ has_concept x bottom ∷ []; children = [] })
+rule_of theory concept (clash_line x c) = clash_rule x (concept c)
+rule_of theory concept (most_line x c ys) = most_rule x ys (concept c)
+
+-- the children that a rule gives to a branch
+abbrev pub children_by : Theory → Known → Option Rule → Option (List Known)
+children_by theory k None = None
+children_by theory k (Some r) = when (list_all (holds theory k) r.premises) (when (list_all (is_new k) r.children) (Some (map (with_added k) r.children)))
+
+-- ---- kinds of lines
+
+abbrev pub is_start : Line → Bool
+is_start start_line = true
+is_start _ = false
+
+abbrev pub is_branching : Line → Bool
+is_branching (or_line x c) = true
+is_branching (choose_line y c) = true
+is_branching (pair_line y z) = true
+is_branching _ = false
+
+abbrev pub is_clash : Line → Bool
+is_clash (bottom_line x) = true
+is_clash (clash_line x c) = true
+is_clash (most_line x c ys) = true
+is_clash _ = false
+
+-- whether a line has exactly one child, where its premises hold
+abbrev pub is_single : Line → Bool
+is_single line = not (is_branching line) && not (is_clash line)

@@ -1,5 +1,0 @@
-pub mod Ascending
-pub mod Depth
-pub mod Same
-pub mod Tree
-pub mod Unique

@@ -1,9 +1,0 @@
-pub mod Same
-pub mod Normal
-pub mod Depth
-pub mod Shape
-pub mod Tree
-pub mod Rows
-pub mod Roles
-pub mod Laws
-pub mod Examples

@@ -1,0 +1,71 @@
+//! A completion tree with the blocks of its nodes, as the state that the finders of steps look through.
+// A tree and its blocks.
+ghost use Rattle.std.specs.Prelude.{◌≡◌};
+ghost use Rattle.completion_tree.specs.Trail.{facts_in};
+ghost use Rattle.blocking.specs.Followed.{IsCurrent};
+
+use blocking::{Blocks, is_clear};
+use completion_tree::Tree;
+use std::alloc::Allocator;
+use step_finders::State;
+
+/// A completion tree, and the blocks of its nodes as it is now.
+#[derive(Drop)]
+pub struct TreeState<'a, A: Allocator> {
+    /// The tree.
+    pub tree: &'a Tree<A>,
+    /// The blocks of its nodes.
+    pub prints: &'a Blocks,
+    ghost current: { IsCurrent (facts_in tree.now) prints.now },
+}
+
+impl<'a, A: Allocator + Copy> TreeState<'a, A> {
+    /// The tree with its blocks, which have been followed since it changed.
+    pub fn new(tree: &'a Tree<A>, prints: &'a Blocks) -> Self
+        requires { IsCurrent (facts_in tree.now) prints.now }
+        ensures tree { result.tree.now ≡ tree.now }
+        ensures prints { result.prints.now ≡ prints.now }
+    {
+        TreeState { tree, prints }
+    }
+}
+
+impl<'a, A: Allocator + Copy> State for TreeState<'a, A> {
+    ghost facts = { λ s. facts_in s.tree.now };
+
+    fn nodes(&self) -> u32 {
+        self.tree.nodes()
+    }
+
+    fn representative(&self, node: u32) -> u32 {
+        self.tree.representative(node)
+    }
+
+    fn parent(&self, node: u32) -> Option<u32> {
+        self.tree.parent(node)
+    }
+
+    fn origin(&self, node: u32) -> Option<(u32, u32)> {
+        self.tree.origin(node)
+    }
+
+    fn has(&self, node: u32, concept: u32) -> bool {
+        self.tree.has(node, concept)
+    }
+
+    fn label(&self, node: u32) -> &[u32] {
+        self.tree.label(node)
+    }
+
+    fn edges(&self, node: u32) -> &[(u32, u32)] {
+        self.tree.edges(node)
+    }
+
+    fn is_clear(&self, node: u32) -> bool {
+        is_clear(self.tree, self.prints, node)
+    }
+
+    fn are_apart(&self, first: u32, second: u32) -> bool {
+        self.tree.are_apart(first, second)
+    }
+}

@@ -1,6 +1,0 @@
-pub mod Tests
-pub mod Inserted
-pub mod Gained
-pub mod NoChains
-pub mod Walked
-pub mod Ends

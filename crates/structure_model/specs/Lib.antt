@@ -1,3 +1,0 @@
-pub mod Structure
-pub mod Gains
-pub mod Walks

@@ -1,7 +1,0 @@
-use Rattle.std.proofs.Common.{◌+◌, ◌&&◌}
-use Rattle.std.specs.FinSet as set
-use Rattle.subsumption_rows.proofs.United.{IsGrown}
-use Rattle.subsumption_rows.proofs.matrix.unite_rows.Given as goal
-
-abbrev pub invariant-loop-place : goal.invariant-loop-place
-invariant-loop-place l = IsGrown l.chosen.limit l.place (λ x y. set.contains l.chosen.members (x + 1) && set.contains l.added.members (y + 1)) l.fn.rows l.rows

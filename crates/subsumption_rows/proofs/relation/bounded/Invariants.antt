@@ -1,6 +1,0 @@
-use Rattle.subsumption_rows.specs.Matrices.{IsMatrix}
-use Rattle.subsumption_rows.proofs.Bounded.{bounded_below}
-use Rattle.subsumption_rows.proofs.relation.bounded.Given as goal
-
-abbrev pub invariant-loop-x : goal.invariant-loop-x
-invariant-loop-x l = IsMatrix l.size (bounded_below l.greatest l.least l.x) l.matrix

@@ -1,4 +1,0 @@
-pub mod Matrices
-pub mod Rows
-pub mod Subsumption
-pub mod Laws

@@ -1,5 +1,0 @@
-pub mod Passing
-pub mod Members
-pub mod Lowest
-pub mod Grouped
-pub mod Same

@@ -1,0 +1,4 @@
+pub mod PartLaws
+pub mod Writable
+pub mod WritingLaws
+pub mod LimitLaws

@@ -1,0 +1,20 @@
+//! Laws of texts that are read and written: what the reader's tests say of the values that it makes.
+//!
+//! - `part_laws`: the reader counts as many parts of an axiom as are made of it.
+//! - `limit_laws`: what is read without refusal is within the limits that later calls ask for.
+//! - `writing_laws`: the canonical text of what is read says the same again.
+#![tactic(auto)]
+
+mod limit_laws;
+mod part_laws;
+mod writing_laws;
+
+pub use limit_laws::{
+    classes_are_in_limit, classes_list_names, documents_are_in_limit, queries_are_in_limit,
+    queries_list_names,
+};
+pub use part_laws::parts_are_counted;
+pub use writing_laws::{
+    class_texts_are_read, documents_are_read_again, documents_can_be_written, documents_know_owl,
+    equal_texts_say_the_same, query_texts_are_read, written_ontologies_are_read,
+};

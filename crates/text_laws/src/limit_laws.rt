@@ -1,0 +1,30 @@
+//! What is read without refusal is within the limits of an ontology and a query on it, as later calls ask for them.
+//!
+//! A reader tests each limit where the text meets it: the number of a group's items at its name, a cardinality at its number,
+//! counts as they grow, and simple roles at the end. Here is what these tests say of the values that were read.
+ghost use Rattle.text_laws.specs.LimitLaws.{DocumentsAreInLimit, QueriesAreInLimit, ClassesAreInLimit, QueriesListNames, ClassesListNames};
+
+/// The ontology of a document (OWL 2 Structural Specification, section 3.7) is within the limits.
+pub fn documents_are_in_limit()
+    ensures { DocumentsAreInLimit }
+{}
+
+/// So is it with a query on it, where it lists the names of both.
+pub fn queries_are_in_limit()
+    ensures { QueriesAreInLimit }
+{}
+
+/// So is it with a class expression, as the query whether the class is in `owl:Nothing`.
+pub fn classes_are_in_limit()
+    ensures { ClassesAreInLimit }
+{}
+
+/// The names of a document and a query on it can be written into a certificate, and are read back as they are.
+pub fn queries_list_names()
+    ensures { QueriesListNames }
+{}
+
+/// So can those of a document and a class expression.
+pub fn classes_list_names()
+    ensures { ClassesListNames }
+{}

@@ -1,0 +1,236 @@
+// Small models, worked out by hand.
+
+use crate::small_ontologies::add_names;
+use certificate_lines::lines;
+use finite_model::{Interp, ModelFault, NoMemory, read_text};
+use shq_terms::{Axiom, Concept, Node, Ontology, Query};
+use std::alloc::Global;
+use std::process::Abort;
+use std::test::Fail;
+
+fn name(class: u32) -> Concept {
+    Concept {
+        node: Node::Name(class),
+    }
+}
+
+fn put(model: &mut Interp, class: u32, x: u32) -> Result<(), NoMemory> {
+    if x < model.size() {
+        model.put_class(class, x)?;
+    }
+    Ok(())
+}
+
+fn join(model: &mut Interp, x: u32, y: u32) -> Result<(), NoMemory> {
+    if x < model.size() && y < model.size() {
+        model.put_pair(0, x, y)?;
+    }
+    Ok(())
+}
+
+// Puts all elements in class 0, and each pair in role 0.
+fn complete(model: &mut Interp, size: u32) -> Result<(), NoMemory> {
+    for x in 0..size {
+        put(model, 0, x)?;
+        for y in 0..size {
+            join(model, x, y)?;
+        }
+    }
+    Ok(())
+}
+
+fn holds(model: &Interp, concept: &Concept, x: u32) -> bool {
+    x < model.size() && model.holds(concept, x)
+}
+
+fn is_functional(model: &Interp) -> bool {
+    model.meets(&Axiom::Functional(0))
+}
+
+// Each element of class 0 has two successors in class 0.
+fn two_of_the_same(alloc: Global) -> Result<Axiom, NoMemory> {
+    let many = Node::Min(2, 0, Box::new(alloc, name(0))?);
+    Ok(Axiom::SubClassOf(name(0), Concept { node: many }))
+}
+
+fn one_successor(alloc: Global) -> Result<Concept, NoMemory> {
+    let top = Box::new(alloc, Concept { node: Node::Top })?;
+    Ok(Concept {
+        node: Node::Max(1, 0, top),
+    })
+}
+
+// Whether a complete model of that size meets the axiom.
+fn is_met(alloc: Global, size: u32, axiom: &Axiom) -> Result<bool, NoMemory> {
+    let mut model = Interp::new(alloc, size.max(1));
+    complete(&mut model, size)?;
+    Ok(model.meets(axiom))
+}
+
+// A great size costs nothing.
+fn is_great(model: &mut Interp, two: &Axiom) -> Result<bool, NoMemory> {
+    put(model, 0, 4_294_967_294)?;
+    let mut is_so = true;
+    for (end, single) in [(4_294_967_294, true), (7, false)] {
+        join(model, 4_294_967_294, end)?;
+        is_so &= is_functional(model) == single && !model.meets(two);
+    }
+    Ok(is_so)
+}
+
+fn is_great_one(alloc: Global, two: &Axiom) -> Result<bool, NoMemory> {
+    let mut model = Interp::new(alloc, 4_294_967_295);
+    is_great(&mut model, two)
+}
+
+fn are_met(alloc: Global, two: &Axiom) -> Result<bool, NoMemory> {
+    Ok(is_great_one(alloc, two)? && !is_met(alloc, 1, two)? && is_met(alloc, 2, two)?)
+}
+
+fn are_successors(alloc: Global) -> Result<bool, NoMemory> {
+    let two = two_of_the_same(alloc)?;
+    are_met(alloc, &two)
+}
+
+fn is_fork(model: &mut Interp, single: &Concept) -> Result<bool, NoMemory> {
+    let mut is_so = true;
+    for (end, met) in [(1, true), (1, true), (2, false)] {
+        join(model, 0, end)?;
+        is_so &= is_functional(model) == met && holds(model, single, 0) == met;
+    }
+    Ok(is_so)
+}
+
+fn are_ends(alloc: Global) -> Result<bool, NoMemory> {
+    let single = one_successor(alloc)?;
+    is_fork(&mut Interp::new(alloc, 3), &single)
+}
+
+/// Members that are put in turn, and the least counter-element of the query then.
+const COUNTED: &[(u32, u32, Option<u32>)] = &[
+    (0, 2, Some(2)),
+    (0, 1, Some(1)),
+    (1, 1, Some(2)),
+    (1, 2, None),
+];
+
+fn is_refuted(model: &mut Interp, query: &Query) -> Result<bool, NoMemory> {
+    let mut is_so = true;
+    for (class, x, least) in COUNTED {
+        put(model, *class, *x)?;
+        is_so &= model.refutes(query) == *least;
+    }
+    Ok(is_so)
+}
+
+fn are_counter_elements(alloc: Global) -> Result<bool, NoMemory> {
+    let query = Query {
+        sub: name(0),
+        sup: name(1),
+    };
+    is_refuted(&mut Interp::new(alloc, 3), &query)
+}
+
+#[test]
+fn judges_axioms_and_queries(rt: HostRuntime) -> Result<(), Fail> {
+    assert!(rt; are_successors(rt.alloc())?, "two successors");
+    assert!(rt; are_ends(rt.alloc())?, "one successor");
+    assert!(rt; are_counter_elements(rt.alloc())?, "counter-elements");
+    Ok(())
+}
+
+const MODEL: &[u8] = b"model 3\nclass <B> 0 2\nrole <R> 0,0 0,2 2,1\nclass <A> 1\nend\n \n";
+
+/// Classes, elements, and whether these are members.
+const MEMBERS: &[(u32, u32, bool)] = &[
+    (0, 0, false),
+    (0, 1, true),
+    (1, 0, true),
+    (1, 1, false),
+    (1, 2, true),
+];
+
+fn are_members(model: &Interp) -> bool {
+    let mut are_so = model.size() == 3;
+    for (class, x, member) in MEMBERS {
+        are_so &= holds(model, &name(*class), *x) == *member;
+    }
+    are_so
+}
+
+fn reads_model(alloc: Global, ontology: &Ontology) -> Result<bool, ModelFault> {
+    let lines = lines(alloc, MODEL)?;
+    let model = read_text(alloc, &lines, ontology)?;
+    Ok(are_members(&model))
+}
+
+/// Texts, and the first malformed line of each.
+const TEXTS: &[(&[u8], u32)] = &[
+    (b"", 2),
+    (b"model 0\nend\n", 2),
+    (b"model 02\nend\n", 2),
+    (b"model 2 \nend\n", 2),
+    (b"model 2", 3),
+    (b"model 2\n\nend\n", 3),
+    (b"model 2\nclass <A>\nend\n", 3),
+    (b"model 2\nclass <C> 0\nend\n", 3),
+    (b"model 2\nclass <A> 0 2\nend\n", 3),
+    (b"model 2\nclass <A> 1 0\nend\n", 3),
+    (b"model 2\nclass <A> 0\nclass <A> 1\nclass <A>", 4),
+    (b"model 2\nrole <A> 0,0\nend\n", 3),
+    (b"model 2\nrole <R> 1,0 0,1\nend\n", 3),
+    (b"model 2\nrole <R> 0,1 0,1\nend\n", 3),
+    (b"model 2\nrole <R> 0,1\nrole <R> 1,0\nend\n", 4),
+    (b"model 2\nend\n\nend\n", 5),
+];
+
+fn is_malformed(
+    alloc: Global,
+    ontology: &Ontology,
+    text: &[u8],
+    line: u32,
+) -> Result<bool, NoMemory> {
+    let lines = lines(alloc, text)?;
+    let fault = read_text(alloc, &lines, ontology).err();
+    Ok(fault == Some(ModelFault::Malformed(line)))
+}
+
+// Writes a model of two members and two pairs.
+fn write_model(alloc: Global, text: &mut Vec<u8>, ontology: &Ontology) -> Result<(), NoMemory> {
+    let mut model = Interp::new(alloc, 11);
+    model.put_class(1, 10)?;
+    model.put_class(1, 2)?;
+    model.put_pair(0, 10, 2)?;
+    model.put_pair(0, 2, 10)?;
+    if ontology.class_count() == 2 && ontology.role_count() == 1 {
+        model.text(alloc, text, ontology)?;
+    }
+    Ok(())
+}
+
+fn writes_model(alloc: Global, ontology: &Ontology) -> Result<bool, NoMemory> {
+    let mut text = Vec::from_slice(alloc, b"#")?;
+    write_model(alloc, &mut text, ontology)?;
+    let wanted: &[u8] = b"#model 11\nclass <B> 2 10\nrole <R> 2,10 10,2\nend\n";
+    Ok(text.as_slice() == wanted)
+}
+
+fn test_on(rt: &impl Abort, alloc: Global, ontology: &mut Ontology) -> Result<(), Fail> {
+    add_names(ontology, &["A", "B"])?;
+    assert!(rt; reads_model(alloc, ontology)?, "a model");
+    for (text, line) in TEXTS {
+        assert!(rt; is_malformed(alloc, ontology, text, *line)?, "{text:?}");
+    }
+    assert!(rt; writes_model(alloc, ontology)?, "text of a model");
+    Ok(())
+}
+
+fn test_models(rt: &impl Abort, alloc: Global) -> Result<(), Fail> {
+    let mut ontology = Ontology::new(alloc);
+    test_on(rt, alloc, &mut ontology)
+}
+
+#[test]
+fn reads_and_writes_models(rt: HostRuntime) -> Result<(), Fail> {
+    test_models(&rt, rt.alloc())
+}

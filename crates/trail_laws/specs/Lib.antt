@@ -1,2 +1,0 @@
-pub mod Theories
-pub mod Laws

@@ -1,9 +1,0 @@
-pub mod Names
-pub mod Lines
-pub mod Standing
-pub mod Document
-pub mod Tests
-pub mod Counted
-pub mod Values
-pub mod Whole
-pub mod Asked

@@ -1,2 +1,0 @@
-pub mod WorkloadAxioms
-pub mod Laws
