@@ -170,6 +170,35 @@ fn compare_table(
     )
 }
 
+/// Puts the prints that a function makes into both tables.
+fn fill_tables<F: Fn(u64) -> [u64; 4]>(
+    rows: &mut Vec<[u64; 4]>,
+    table: &mut Lanes,
+    print_of: F,
+) -> io::Result<()>
+    requires { F.IsAlwaysCallable print_of }
+{
+    for place in 0..PRINTS as u64 {
+        let print = print_of(place + 1);
+        rows.push(print).map_err(|_| out_of_memory())?;
+        table.push(print).map_err(|_| out_of_memory())?;
+    }
+    Ok(())
+}
+
+fn fill_and_compare<F: Fn(u64) -> [u64; 4]>(
+    rt: &(impl Print + Clock),
+    name: &str,
+    rows: &mut Vec<[u64; 4]>,
+    table: &mut Lanes,
+    print_of: F,
+) -> io::Result<()>
+    requires { F.IsAlwaysCallable print_of }
+{
+    fill_tables(rows, table, print_of)?;
+    compare_table(rt, name, rows, table)
+}
+
 /// Compares the kernel over a table of the prints that a function makes.
 fn compare_prints<F: Fn(u64) -> [u64; 4]>(
     rt: &(impl Print + Clock),
@@ -181,12 +210,7 @@ fn compare_prints<F: Fn(u64) -> [u64; 4]>(
 {
     let mut rows = Vec::new(alloc);
     let mut table = Lanes::new(alloc);
-    for place in 0..PRINTS as u64 {
-        let print = print_of(place + 1);
-        rows.push(print)?;
-        table.push(print).map_err(|_| out_of_memory())?;
-    }
-    compare_table(rt, name, &rows, &table)
+    fill_and_compare(rt, name, &mut rows, &mut table, print_of)
 }
 
 /// Compares each kernel.

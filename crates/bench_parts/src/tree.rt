@@ -1,5 +1,6 @@
 // How fast facts are put at nodes, asked for, joined and undone, and how fast what they rest on is found.
 
+use crate::out_of_memory;
 use bumpalo::Bump;
 use calculus_specs::{Fact, NoMemory};
 use completion_tree::{By, Deps, Tree};
@@ -142,52 +143,62 @@ fn seconds(rt: &impl Clock, start: Instant) -> io::Result<f64> {
     Ok(start.elapsed(rt)?.as_secs_f64())
 }
 
-/// Many nodes at once, and many children of one node.
-fn time_new_nodes<A: Allocator + Copy>(rt: &(impl Print + Clock), alloc: A) -> io::Result<()> {
-    let Ok(mut tree) = FactTree::new_in(alloc) else {
-        return Ok(());
-    };
+/// Many children of one node.
+fn time_star<A: Allocator + Copy>(
+    rt: &(impl Print + Clock),
+    tree: &mut FactTree<A>,
+) -> io::Result<()> {
     let start = Instant::now(rt)?;
-    star(&mut tree);
+    star(tree);
     let made = seconds(rt, start)?;
     let start = Instant::now(rt)?;
-    back(&mut tree, 0);
+    back(tree, 0);
     let undone = seconds(rt, start)?;
-    println!(rt; "10,000 children of one node {made:.4} s, undone {undone:.4} s")?;
+    println!(rt; "10,000 children of one node {made:.4} s, undone {undone:.4} s")
+}
+
+/// Many nodes at once.
+fn time_hundreds<A: Allocator + Copy>(
+    rt: &(impl Print + Clock),
+    tree: &mut FactTree<A>,
+) -> io::Result<()> {
     let start = Instant::now(rt)?;
-    hundreds(&mut tree);
+    hundreds(tree);
     let made = seconds(rt, start)?;
-    println!(rt; "99 times 101 new nodes, pairwise apart {made:.4} s")?;
-    Ok(())
+    println!(rt; "99 times 101 new nodes, pairwise apart {made:.4} s")
+}
+
+fn time_new_nodes<A: Allocator + Copy>(
+    rt: &(impl Print + Clock),
+    tree: &mut FactTree<A>,
+) -> io::Result<()> {
+    time_star(rt, tree)?;
+    time_hundreds(rt, tree)
 }
 
 /// A chain whose nodes are joined one after the other, in one of two orders.
 fn time_chain<A: Allocator + Copy>(
     rt: &(impl Print + Clock),
-    alloc: A,
+    tree: &mut FactTree<A>,
     is_last_first: bool,
 ) -> io::Result<()> {
-    let Ok(mut tree) = FactTree::new_in(alloc) else {
-        return Ok(());
-    };
-    chain(&mut tree);
+    chain(tree);
     let start = Instant::now(rt)?;
     if is_last_first {
-        fold(&mut tree);
+        fold(tree);
     } else {
-        roll(&mut tree);
+        roll(tree);
     }
     let joined = seconds(rt, start)?;
     let start = Instant::now(rt)?;
-    let sum = roots(&tree);
+    let sum = roots(tree);
     let found = seconds(rt, start)?;
     let start = Instant::now(rt)?;
-    back(&mut tree, 0);
+    back(tree, 0);
     let undone = seconds(rt, start)?;
     println!(rt;
         "20,000 joins of a chain {joined:.4} s, representatives {found:.5} s ({sum}), undone {undone:.4} s"
-    )?;
-    Ok(())
+    )
 }
 
 /// A star whose children have one concept each, and a tree in which each node has EACH concepts: every fact rests on a mark.
@@ -261,66 +272,129 @@ fn all_marks<A: Allocator + Copy>(heap: Global, tree: &Tree<A>) -> Result<u32, N
     Ok(sum)
 }
 
+fn grow_and_fill<A: Allocator + Copy>(heap: Global, tree: &mut Tree<A>) -> Result<(), NoMemory> {
+    grow_star(heap, tree)?;
+    let by = By {
+        line: 1,
+        marks: Deps::one(heap, 1)?,
+    };
+    fill_star(tree, &by)
+}
+
 fn time_marks<A: Allocator + Copy>(
+    rt: &(impl Print + Clock),
+    heap: Global,
+    tree: &mut Tree<A>,
+) -> io::Result<()> {
+    let start = Instant::now(rt)?;
+    let _filled = grow_and_fill(heap, tree).is_ok();
+    let made = seconds(rt, start)?;
+    let start = Instant::now(rt)?;
+    let sum = all_marks(heap, tree).unwrap_or(0);
+    let found = seconds(rt, start)?;
+    println!(rt;
+        "a star of 10,000 children with 100 concepts each {made:.3} s, marks of 2,000,000 facts {found:.3} s ({sum})"
+    )
+}
+
+/// Concepts at many nodes, and tests of them.
+fn time_concepts<A: Allocator + Copy>(
+    rt: &(impl Print + Clock),
+    tree: &mut FactTree<A>,
+) -> io::Result<()> {
+    nodes(tree);
+    let start = Instant::now(rt)?;
+    fill(tree);
+    let added = seconds(rt, start)?;
+    let start = Instant::now(rt)?;
+    let hits = count(tree);
+    let tested = seconds(rt, start)?;
+    println!(rt; "1,000,000 concepts put {added:.3} s, 2,000,000 tests {tested:.3} s ({hits} hits)")
+}
+
+/// Joins of these nodes, and the way back over all of it.
+fn time_joins<A: Allocator + Copy>(
+    rt: &(impl Print + Clock),
+    tree: &mut FactTree<A>,
+) -> io::Result<()> {
+    let len = tree.len();
+    let start = Instant::now(rt)?;
+    joins(tree, len);
+    let joined = seconds(rt, start)?;
+    let start = Instant::now(rt)?;
+    back(tree, 0);
+    let undone = seconds(rt, start)?;
+    println!(rt;
+        "100,000 joins and going back over them {joined:.3} s, {len} facts undone {undone:.3} s"
+    )
+}
+
+/// What is timed on a tree of facts of its own.
+#[derive(Clone, Copy)]
+enum Kind {
+    Concepts,
+    NewNodes,
+    FirstFirst,
+    LastFirst,
+}
+
+fn time_kind<A: Allocator + Copy>(
+    rt: &(impl Print + Clock),
+    tree: &mut FactTree<A>,
+    kind: Kind,
+) -> io::Result<()> {
+    match kind {
+        Kind::Concepts => {
+            time_concepts(rt, tree)?;
+            time_joins(rt, tree)
+        }
+        Kind::NewNodes => time_new_nodes(rt, tree),
+        Kind::FirstFirst => time_chain(rt, tree, false),
+        Kind::LastFirst => time_chain(rt, tree, true),
+    }
+}
+
+fn time_facts<A: Allocator + Copy>(
+    rt: &(impl Print + Clock),
+    alloc: A,
+    kind: Kind,
+) -> io::Result<()> {
+    match FactTree::new_in(alloc) {
+        Ok(mut tree) => time_kind(rt, &mut tree, kind),
+        Err(_) => Err(out_of_memory()),
+    }
+}
+
+fn time_tree<A: Allocator + Copy>(
     rt: &(impl Print + Clock),
     heap: Global,
     alloc: A,
 ) -> io::Result<()> {
-    let Ok(mut tree) = Tree::new_in(alloc) else {
-        return Ok(());
-    };
-    let Ok(marks) = Deps::one(heap, 1) else {
-        return Ok(());
-    };
-    let by = By { line: 1, marks };
-    let start = Instant::now(rt)?;
-    let _grown = grow_star(heap, &mut tree).is_ok();
-    let _filled = fill_star(&mut tree, &by).is_ok();
-    let made = seconds(rt, start)?;
-    let start = Instant::now(rt)?;
-    let sum = all_marks(heap, &tree).unwrap_or(0);
-    let found = seconds(rt, start)?;
-    println!(rt;
-        "a star of 10,000 children with 100 concepts each {made:.3} s, marks of 2,000,000 facts {found:.3} s ({sum})"
-    )?;
-    Ok(())
+    match Tree::new_in(alloc) {
+        Ok(mut tree) => time_marks(rt, heap, &mut tree),
+        Err(_) => Err(out_of_memory()),
+    }
 }
 
-/// Concepts at many nodes, tests of them, and joins.
-fn time_concepts<A: Allocator + Copy>(rt: &(impl Print + Clock), alloc: A) -> io::Result<()> {
-    let Ok(mut tree) = FactTree::new_in(alloc) else {
-        return Ok(());
-    };
-    nodes(&mut tree);
-    let start = Instant::now(rt)?;
-    fill(&mut tree);
-    let added = seconds(rt, start)?;
-    let start = Instant::now(rt)?;
-    let hits = count(&tree);
-    let tested = seconds(rt, start)?;
-    let len = tree.len();
-    let start = Instant::now(rt)?;
-    joins(&mut tree, len);
-    let joined = seconds(rt, start)?;
-    let start = Instant::now(rt)?;
-    back(&mut tree, 0);
-    let undone = seconds(rt, start)?;
-    println!(rt;
-        "1,000,000 concepts put {added:.3} s, 2,000,000 tests {tested:.3} s ({hits} hits)"
-    )?;
-    println!(rt;
-        "100,000 joins and going back over them {joined:.3} s, {len} facts undone {undone:.3} s"
-    )?;
-    Ok(())
+fn time_in<A: Allocator + Copy>(
+    rt: &(impl Print + Clock),
+    heap: Global,
+    arena: A,
+) -> io::Result<()> {
+    time_facts(rt, arena, Kind::Concepts)?;
+    time_facts(rt, arena, Kind::NewNodes)?;
+    time_facts(rt, arena, Kind::FirstFirst)?;
+    time_facts(rt, arena, Kind::LastFirst)?;
+    time_tree(rt, heap, arena)
 }
 
-/// Times each kind of tree.
-pub(crate) fn run(rt: &(impl Print + Clock), alloc: Global) -> io::Result<()> {
+fn time_in_arena(rt: &(impl Print + Clock), alloc: Global) -> io::Result<()> {
     let bump = Bump::new(alloc);
-    time_concepts(rt, &bump)?;
-    time_new_nodes(rt, &bump)?;
-    time_chain(rt, &bump, false)?;
-    time_chain(rt, &bump, true)?;
-    time_marks(rt, alloc, &bump)?;
-    time_concepts(rt, alloc)
+    time_in(rt, alloc, &bump)
+}
+
+/// Times each kind of tree in an arena, and concepts on the heap as well.
+pub(crate) fn run(rt: &(impl Print + Clock), alloc: Global) -> io::Result<()> {
+    time_in_arena(rt, alloc)?;
+    time_facts(rt, alloc, Kind::Concepts)
 }

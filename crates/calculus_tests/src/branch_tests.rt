@@ -151,15 +151,19 @@ fn test_joins(rt: &impl Abort, branch: &mut BranchFacts) -> Result<(), NoMemory>
     Ok(())
 }
 
-fn test_branch(rt: &impl Abort, alloc: Global) -> Result<(), NoMemory> {
+fn test_new_facts(rt: &impl Abort, alloc: Global) -> Result<(), NoMemory> {
     let mut branch = BranchFacts::new(alloc);
-    test_joins(rt, &mut branch)?;
-    branch = BranchFacts::new(alloc);
     test_facts(rt, &mut branch)
+}
+
+fn test_new_joins(rt: &impl Abort, alloc: Global) -> Result<(), NoMemory> {
+    let mut branch = BranchFacts::new(alloc);
+    test_joins(rt, &mut branch)
 }
 
 #[test]
 fn facts_are_read_through_joined_nodes(rt: HostRuntime) -> Result<(), Fail> {
-    test_branch(&rt, rt.alloc())?;
+    test_new_facts(&rt, rt.alloc())?;
+    test_new_joins(&rt, rt.alloc())?;
     Ok(())
 }

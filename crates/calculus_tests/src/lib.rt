@@ -1,5 +1,5 @@
-//! Tests of roles, of normal forms, and of what the checker of refutations stands on: facts of a branch, cached rows and rule
-//! lines.
+//! Tests of roles, of normal forms, and of what the checker of refutations stands on: facts of a branch, cached rows
+//! and rule lines.
 #![tactic(auto)]
 
 #[cfg(test)]

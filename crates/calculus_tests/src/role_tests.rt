@@ -14,8 +14,8 @@ enum Says {
     Functional(u32),
 }
 
-/// Axioms with their lines. The axioms 1 and 2 lead from role 0 by 1 to 2, 4 and 5 are a cycle, 5 makes 2 and 3 equivalent,
-/// and 6 and 7 make 1 and 3 transitive.
+/// Axioms with their lines. The axioms 1 and 2 lead from role 0 by 1 to 2, 4 and 5 are a cycle, 5 makes 2 and 3
+/// equivalent, and 6 and 7 make 1 and 3 transitive.
 const EIGHT: &[(Says, u32)] = &[
     (Says::Below(0, 1), 1),
     (Says::Below(1, 2), 1),
@@ -166,7 +166,18 @@ fn query(alloc: Global, role: u32) -> Result<Query, NoMemory> {
     Ok(Query { sub, sup })
 }
 
-// Whether both a class expression and a query that count the role are simple, or neither.
+// Whether both the right side of a query and the whole query are simple, or neither.
+fn is_simple_query(
+    alloc: Global,
+    ontology: &Ontology,
+    query: &Query,
+    wanted: bool,
+) -> Result<bool, NoMemory> {
+    let by_class = class_is_simple(alloc, ontology, &query.sup)?;
+    let by_query = query_is_simple(alloc, ontology, query)?;
+    Ok(by_class == wanted && by_query == wanted)
+}
+
 fn is_simple(
     alloc: Global,
     ontology: &Ontology,
@@ -174,9 +185,7 @@ fn is_simple(
     wanted: bool,
 ) -> Result<bool, NoMemory> {
     let query = query(alloc, role)?;
-    let by_class = class_is_simple(alloc, ontology, &query.sup)?;
-    let by_query = query_is_simple(alloc, ontology, &query)?;
-    Ok(by_class == wanted && by_query == wanted)
+    is_simple_query(alloc, ontology, &query, wanted)
 }
 
 // Whether the roles are simple as wanted, and which axiom is the first that counts one that is not.

@@ -177,8 +177,8 @@ fn told_range(alloc: Global, row: Option<CachedRange>) -> Result<String, NoMemor
     }
 }
 
-// The number of an axiom and that of a part, or none for the row of a range; the positions of the premises; and what is told, which
-// is nothing where there is no row.
+// The number of an axiom and that of a part, or none for the row of a range; the positions of the premises; and what
+// is told, which is nothing where there is no row.
 type Case = (u32, Option<u32>, &'static [u32], &'static str);
 
 fn told(alloc: Global, rows: &mut RowCache<'_>, case: &Case) -> Result<String, NoMemory> {

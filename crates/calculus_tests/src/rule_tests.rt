@@ -77,8 +77,8 @@ fn push_lines<'a>(lines: &mut Vec<&'a [u8]>, texts: &[&'a str]) -> Result<(), No
     Ok(())
 }
 
-// The lines of a refutation with one line of a rule. Its concepts have the numbers 1 to 10 in the table of the rules too; the
-// complement of class 1 gets 11 there, and bottom 12.
+// The lines of a refutation with one line of a rule. Its concepts have the numbers 1 to 10 in the table of the rules
+// too; the complement of class 1 gets 11 there, and bottom 12.
 fn push_refutation<'a>(lines: &mut Vec<&'a [u8]>, rule: &'a str) -> Result<(), NoMemory> {
     push_lines(
         lines,
@@ -143,8 +143,9 @@ fn learn_all(branch: &mut BranchFacts, len: u32, facts: &[Fact<u32>]) -> Result<
     Ok(())
 }
 
-// Nodes 0 to 3. Node 0 is in the first eight concepts. An edge of role 0 leads from it to 1 and one of role 1 to 2, which are in
-// class 0 and apart; 1 is in the complement of the class too, and 2 in bottom. Of node 3 nothing is known.
+// Nodes 0 to 3. Node 0 is in the first eight concepts. An edge of role 0 leads from it to 1 and one of role 1 to 2,
+// which are in class 0 and apart; 1 is in the complement of the class too, and 2 in bottom. Of node 3 nothing is
+// known.
 fn know_all(branch: &mut BranchFacts, len: u32) -> Result<(), NoMemory>
     requires { IsBranch len branch.old }
     ensures { OnOk result (IsBranch len branch.new) }

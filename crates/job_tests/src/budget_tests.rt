@@ -96,7 +96,7 @@ fn is_undecided(text: &str, front: &str) -> bool {
 }
 
 // What came of a budget, after an answer with a smaller one.
-fn tried(answer: &Answer, text: &str, front: &str, budget: u32, before: &str) -> Tried {
+fn outcome(answer: &Answer, text: &str, front: &str, budget: u32, before: &str) -> Tried {
     if !is_among(before, text) {
         Tried::Wrong
     } else if answer.status == Status::Done {
@@ -122,7 +122,7 @@ fn try_budget(
 ) -> Result<Tried, NoMemory> {
     let answer = answer_within(alloc, document, words, budget)?;
     let text = str::from_utf8(answer.text()).unwrap_or("");
-    let tried = tried(&answer, text, front, budget, before.as_str());
+    let tried = outcome(&answer, text, front, budget, before.as_str());
     before.clear();
     before.push_str(text)?;
     Ok(tried)

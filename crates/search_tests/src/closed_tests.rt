@@ -1,6 +1,6 @@
 // The refutation of a search that closes by one axiom of three, and one with a branching whose concepts are numbered
 // anew.
-ghost use Rattle.std.specs.Prelude.{◌≡◌, ◌≤◌, [], ◌∷◌, IfOk, OnOk, length, map};
+ghost use Rattle.std.specs.Prelude.{◌≡◌, ◌<◌, ◌≤◌, [], ◌∷◌, IfOk, OnOk, length, map};
 ghost use Rattle.shq_terms.specs.Concept.{name};
 ghost use Rattle.shq_nnf.specs.Numbers.{IsNumber};
 ghost use Rattle.calculus_specs.specs.Line.Line.{start_line, or_line, row_line, clash_line};
