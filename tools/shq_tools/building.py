@@ -1,7 +1,7 @@
 """Proves and builds the program, several crates at a time, and says on standard error how far it is.
 
-The libraries that the program stands on, and no others, are proved by the toolchain's own `rt all check` in the
-folder of the program. It keeps each library that it proved, so `rt run` proves none of them again.
+The libraries that the program stands on, and no others, are proved side by side and kept. The toolchain's own `rt
+run` then finds them, proves none of them again, and proves and makes the program.
 """
 import os
 import re
@@ -11,8 +11,8 @@ import sys
 import tempfile
 import time
 
-from shq_tools import kit_command
-from shq_tools.places import CRATE_LIST, CRATES, PROGRAM, PROGRAM_CRATE
+from shq_tools import kit_command, proving
+from shq_tools.places import CRATE_LIST, CRATES, PROGRAM, PROGRAM_CRATE, TOOLS
 
 # How long a build takes where nothing is kept: the one place that says so.
 TIME_FROM_NOTHING = "about half an hour on four processors"
@@ -80,13 +80,8 @@ def checks_at_once():
     return max(1, min(processors(), room))
 
 
-def kit(*words):
-    """The words that run a command of the toolchain."""
-    return [sys.executable, kit_command.__file__, *words]
-
-
 class Progress:
-    """Says of each crate whose check ended how many have, by the lines of the toolchain."""
+    """Says of each library that is proved how many are, by the lines of the prover."""
 
     def __init__(self, names):
         self.names = names
@@ -96,7 +91,8 @@ class Progress:
         name = line[3:].strip() if line.startswith("== ") else None
         if name in self.names:
             self.count += 1
-            say(f"crate {self.count} of {len(self.names)}: {name}")
+            # the program itself comes last
+            say(f"crate {self.count} of {len(self.names) + 1}: {name}")
 
 
 class Making:
@@ -109,13 +105,11 @@ class Making:
         self.is_made = self.is_made or line.startswith(f"rt: running out/{PROGRAM_CRATE};")
 
 
-def run(words, log, watcher):
-    """Runs a command of the toolchain in the folder of the program, shows each line to the watcher, and returns the
-    status.
-    """
+def run(words, folder, log, watcher):
+    """Runs a script in a folder, shows each line that it prints to the watcher, and returns the status."""
     how = {"stdin": subprocess.DEVNULL, "stdout": subprocess.PIPE, "stderr": subprocess.STDOUT}
     text = {"encoding": "utf-8", "errors": "replace"}
-    with subprocess.Popen(kit(*words), cwd=CRATES / PROGRAM_CRATE, **how, **text) as started:
+    with subprocess.Popen([sys.executable, "-B", *words], cwd=folder, **how, **text) as started:
         for line in started.stdout:
             log.write(line)
             watcher.line(line)
@@ -123,21 +117,24 @@ def run(words, log, watcher):
 
 
 def prove(log):
-    """Proves the program and all that it stands on, and returns whether that went well."""
+    """Proves all that the program stands on, and returns whether that went well."""
     crates = crate_lines(CRATE_LIST.read_text(encoding="utf-8"))
-    names = crates_below(crates, PROGRAM_CRATE) | {PROGRAM_CRATE}
-    at_once = checks_at_once()
-    say(f"proving and building the program: {len(names)} crates, {at_once} at a time")
+    names, at_once = crates_below(crates, PROGRAM_CRATE), checks_at_once()
+    say(f"proving and building the program: {len(names) + 1} crates, {at_once} at a time")
     say(f"where nothing is kept, this takes {TIME_FROM_NOTHING}")
-    return run(["all", "check", "--jobs", str(at_once)], log, Progress(names)) == 0
+    words = ["-m", "shq_tools.proving", str(CRATES / PROGRAM_CRATE), str(at_once)]
+    status = run(words, TOOLS, log, Progress(names))
+    if status == proving.NOT_KNOWN:
+        say("the toolchain has another form than is known here, so it proves one crate after the other")
+    return status in (0, proving.NOT_KNOWN)
 
 
 def make(log):
     """Makes the program over what was proved, and returns whether that went well."""
-    say("all crates are proved; making the program")
+    say(f"proving and making the program itself, {PROGRAM_CRATE}")
     making = Making()
     # the toolchain runs the program once, with no words, and its status is then that of bad words
-    run(["run"], log, making)
+    run([kit_command.__file__, "run"], CRATES / PROGRAM_CRATE, log, making)
     if making.is_made:
         # where the toolchain found nothing changed, the file is as old as it was
         os.utime(PROGRAM)

@@ -52,15 +52,17 @@ def loaded(path):
     return module if callable(getattr(module, "main", None)) else None
 
 
+def loaded_kit():
+    """The command of the toolchain that is on the path, as a module, or None."""
+    command = shutil.which("rt")
+    return loaded(os.path.realpath(command)) if command else None
+
+
 def main(words):
     """Runs `rt` with these words, and returns its status. One of another form runs as it is."""
-    command = shutil.which("rt")
-    if command is None:
-        print("shq: the toolchain's command rt is not on the path", file=sys.stderr)
-        return 127
-    module = loaded(os.path.realpath(command))
+    module = loaded_kit()
     if module is None:
-        os.execv(command, [command, *words])
+        os.execvp("rt", ["rt", *words])
     return module.main(list(words))
 
 
