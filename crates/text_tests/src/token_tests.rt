@@ -1,4 +1,5 @@
 // Texts with their tokens, and tokens with their trees.
+ghost use Rattle.std.specs.Prelude.{◌≤◌, length};
 
 use ofn_tree::{Form, Kind, TextFault, Token, Tree, end_line, tokens, tree};
 use std::alloc::{AllocError, Global};
@@ -6,7 +7,9 @@ use std::process::Abort;
 use std::test::Fail;
 
 /// The first bytes of a text, which are all that it has in each test.
-fn short(text: &[u8]) -> &[u8] {
+fn short(text: &[u8]) -> &[u8]
+    ensures { length result.now ≤ 1000 }
+{
     &text[..text.len().min(1000)]
 }
 
