@@ -1,0 +1,5 @@
+pub mod Hits
+pub mod Audited
+mod Growing
+mod Found
+mod Ascending

@@ -1,0 +1,4 @@
+pub mod Transversals
+pub mod Audits
+pub mod Listed
+pub mod Territory
