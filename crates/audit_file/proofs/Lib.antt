@@ -1,0 +1,4 @@
+pub mod Ordered
+pub mod Blocks
+pub mod Times
+pub mod Fitting

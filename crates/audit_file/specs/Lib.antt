@@ -1,0 +1,3 @@
+pub mod AuditLists
+pub mod AuditText
+pub mod Fitting
