@@ -1,0 +1,192 @@
+-- What facts say where their second one gives node 0 another concept than top.
+use Rattle.std.proofs.Common.{◌≡◌, ℕ, zero, suc, ◌+◌, ◌<◌, ◌&&◌, ◌||◌, ◌⊎◌, eqb, ltb, cond, Bool, true, false, List, [], ◌∷◌, ◌++◌, refl, ap, ◌∙◌, sym, subst, arith, inl, inr, eq-eqb}
+use Rattle.std.specs.Prelude.{slice_index_or}
+use Rattle.std.specs.List.{list_any, list_all}
+use Rattle.std.proofs.lemmas.Bool.{eqb-true, ltb-true, or_cases, cases_Bool, cases_lt, and_parts, or_left, ne_eqb}
+use Rattle.std.proofs.Math.Bool.{or-false, or_comm}
+use Rattle.calculus_specs.specs.declared.facts.Fact.{Fact}
+use Rattle.calculus_specs.specs.declared.facts.Fact.TheVariants.{Has, Edge, Apart, Same}
+use Rattle.calculus_specs.specs.Joins.{rep}
+use Rattle.calculus_specs.specs.State.{parent, gives_concept, has, has_edge, concepts_at, label, is_label_part, HasParentsBefore}
+use Rattle.calculus_specs.specs.Reading.{are_listed}
+use Rattle.calculus_specs.proofs.Joined.{rep-le}
+use Rattle.calculus_specs.proofs.State.{eqb-comm, any-label}
+use Rattle.tableau_specs.specs.declared.Block.{Block}
+use Rattle.tableau_specs.specs.declared.Block.TheVariants.{Clear, By, Under}
+use Rattle.tableau_specs.specs.Blocked.{is_clear, is_parent_clear, may_block, blocked_from, block_at, blocks_to, block_of}
+use Rattle.tableau_specs.specs.Clash.{is_filled_successor, filled_successors}
+use Rattle.tableau_specs.proofs.After.{IsAlike, filled_alike}
+use Rattle.tableau_specs.proofs.PlainClash.{successor_has_edge}
+
+-- ---- tests
+
+moved : (z t a s m r : Bool) → (z ≡ false → t ≡ false) → (z || ((a && s) || ((a && m) || r))) ≡ ((z || ((a && s) || ((a && t) || r))) || (a && m))
+moved true t a s m r h = refl
+moved false t true true m r h = refl
+moved false t false s m r h = sym (or-false r)
+moved false t true false m r h = or_comm m r ∙ ap (λ (b : Bool). (b || r) || m) (sym (h refl))
+
+and_last : (a b c d : Bool) → (b ≡ true → c ≡ d) → (a && b && c) ≡ (a && b && d)
+and_last true true c d h = h refl
+and_last true false c d h = refl
+and_last false b c d h = refl
+
+positive : (x : ℕ) → eqb x 0 ≡ false → 0 < x
+positive x other = elim (cases_lt 0 x) [ inl lt ↦ lt | inr ge ↦ (let k = eq-eqb x 0 (omega arith) in cc) ]
+
+-- two tests agree on a list where they agree on its members
+all_alike : (p q : ℕ → Bool) (cs : List ℕ) → ((c : ℕ) → list_any (λ d. eqb d c) cs ≡ true → p c ≡ q c) → list_all p cs ≡ list_all q cs
+all_alike p q [] same = refl
+all_alike p q (c ∷ cs) same =
+    ap (λ (b : Bool). b && list_all p cs) (same c (or_left (eqb c c) (list_any (λ d. eqb d c) cs) (eq-eqb c c refl)))
+    ∙ ap (λ (b : Bool). q c && b) (all_alike p q cs (λ d h. same d (later c d cs h)))
+  where
+    later : (c d : ℕ) (cs : List ℕ) → list_any (λ e. eqb e d) cs ≡ true → list_any (λ e. eqb e d) (c ∷ cs) ≡ true
+    later c d cs h = elim (eqb c d) as (λ b. (b || list_any (λ e. eqb e d) cs) ≡ true) [ true ↦ refl | false ↦ h ]
+
+-- concepts below a bound, on which two tests agree
+concepts_alike : (p q : ℕ → Bool) (bound : ℕ) → ((c : ℕ) → c < bound → p c ≡ q c) → (m : ℕ → ℕ) (at : ℕ) (fs : List (Fact ℕ)) → are_listed bound fs ≡ true
+    → list_any p (concepts_at m at fs) ≡ list_any q (concepts_at m at fs)
+concepts_alike p q bound same m at [] h = refl
+concepts_alike p q bound same m at (Has y d ∷ fs) h =
+    let t = and_parts (ltb d bound) (are_listed bound fs) h in
+    let here = same d (ltb-true d bound t.0) in
+    let rest = concepts_alike p q bound same m at fs t.1 in
+    elim (eqb (m y) at) as (λ b. list_any p (cond b (d ∷ concepts_at m at fs) (concepts_at m at fs)) ≡ list_any q (cond b (d ∷ concepts_at m at fs) (concepts_at m at fs)))
+    [ true ↦ (λ i. here i || rest i) | false ↦ rest ]
+concepts_alike p q bound same m at (Edge r y z ∷ fs) h = concepts_alike p q bound same m at fs h
+concepts_alike p q bound same m at (Apart y z ∷ fs) h = concepts_alike p q bound same m at fs h
+concepts_alike p q bound same m at (Same y z ∷ fs) h = concepts_alike p q bound same m at fs h
+
+given_listed : (bound c : ℕ) (m : ℕ → ℕ) (at : ℕ) (fs : List (Fact ℕ)) → are_listed bound fs ≡ true → list_any (gives_concept (λ d. eqb d c) m at) fs ≡ true → c < bound
+given_listed bound c m at [] h g = cc
+given_listed bound c m at (Has y d ∷ fs) h g =
+    let t = and_parts (ltb d bound) (are_listed bound fs) h in
+    elim (or_cases (eqb (m y) at && eqb d c) (list_any (gives_concept (λ e. eqb e c) m at) fs) g) [
+      | inl here ↦ omega (arith, eqb-true d c (and_parts (eqb (m y) at) (eqb d c) here).1, ltb-true d bound t.0)
+      | inr later ↦ given_listed bound c m at fs t.1 later
+    ]
+given_listed bound c m at (Edge r y z ∷ fs) h g = given_listed bound c m at fs h g
+given_listed bound c m at (Apart y z ∷ fs) h g = given_listed bound c m at fs h g
+given_listed bound c m at (Same y z ∷ fs) h g = given_listed bound c m at fs h g
+
+-- a concept that listed facts give is in the table
+pub has_listed : (bound : ℕ) (fs : List (Fact ℕ)) → 0 < bound → are_listed bound fs ≡ true → (x c : ℕ) → has fs x c ≡ true → c < bound
+has_listed bound fs some h x c held = elim (or_cases (eqb c 0) (list_any (gives_concept (λ d. eqb d c) (rep fs) (rep fs x)) fs) held) [
+  | inl z ↦ omega (arith, eqb-true c 0 z, some)
+  | inr g ↦ given_listed bound c (rep fs) (rep fs x) fs h g
+]
+
+-- ---- the two lists of facts
+
+module _ (sub n : ℕ) (gs : List (Fact ℕ)) where
+  abbrev pub old_facts : List (Fact ℕ)
+  old_facts = Has 0 sub ∷ Has 0 0 ∷ gs
+
+  abbrev pub new_facts : List (Fact ℕ)
+  new_facts = Has 0 sub ∷ Has 0 n ∷ gs
+
+  pub root_rep : rep old_facts 0 ≡ 0
+  root_rep = omega (arith, rep-le old_facts 0)
+
+  has_new : (x c : ℕ) → has new_facts x c ≡ (has old_facts x c || (eqb (rep old_facts 0) (rep old_facts x) && eqb n c))
+  has_new x c =
+      moved (eqb c 0) (eqb 0 c) (eqb (rep old_facts 0) (rep old_facts x)) (eqb sub c) (eqb n c) (list_any (gives_concept (λ d. eqb d c) (rep old_facts) (rep old_facts x)) gs)
+      (λ h. eqb-comm 0 c ∙ h)
+
+  pub has_up : (x c : ℕ) → has old_facts x c ≡ true → has new_facts x c ≡ true
+  has_up x c h = has_new x c ∙ or_left (has old_facts x c) (eqb (rep old_facts 0) (rep old_facts x) && eqb n c) h
+
+  pub has_cases : (x c : ℕ) → has new_facts x c ≡ true → (has old_facts x c ≡ true) ⊎ ((rep old_facts x ≡ 0) × (n ≡ c))
+  has_cases x c h = elim (or_cases (has old_facts x c) (eqb (rep old_facts 0) (rep old_facts x) && eqb n c) (sym (has_new x c) ∙ h)) [
+    | inl before ↦ inl before
+    | inr now ↦
+        let t = and_parts (eqb (rep old_facts 0) (rep old_facts x)) (eqb n c) now in
+        inr (sym (eqb-true (rep old_facts 0) (rep old_facts x) t.0) ∙ root_rep, eqb-true n c t.1)
+  ]
+
+  -- a node that is not node 0, or another concept, is as before
+  pub has_other : (x c : ℕ) → ¬ ((rep old_facts x ≡ 0) × (n ≡ c)) → has new_facts x c ≡ has old_facts x c
+  has_other x c other = elim (cases_Bool (has old_facts x c)) [
+    | inl held ↦ has_up x c held ∙ sym held
+    | inr out ↦ elim (cases_Bool (has new_facts x c)) [
+      | inr still ↦ still ∙ sym out
+      | inl now ↦ elim (has_cases x c now) [ inl before ↦ now ∙ sym before | inr root ↦ absurd (other root) ]
+    ]
+  ]
+
+  pub alike : IsAlike old_facts new_facts
+  alike = record { reps = refl; nodes = refl; edges = λ roles x y. refl; aparts = λ x y. refl }
+
+  -- ---- names in labels
+
+  pub label_alike : (p q : ℕ → Bool) (bound x : ℕ) → p n ≡ false → q 0 ≡ false → 0 < bound → ((c : ℕ) → c < bound → p c ≡ q c) → are_listed bound old_facts ≡ true
+      → list_any p (label new_facts x) ≡ list_any q (label old_facts x)
+  label_alike p q bound x none zero_out some same h =
+      let t = and_parts (ltb sub bound) (are_listed bound (Has 0 0 ∷ gs)) h in
+      let u = and_parts (ltb 0 bound) (are_listed bound gs) t.1 in
+      let top = same 0 some in
+      let first = same sub (ltb-true sub bound t.0) in
+      let rest = concepts_alike p q bound same (rep old_facts) (rep old_facts x) gs u.1 in
+      let R : List ℕ = concepts_at (rep old_facts) (rep old_facts x) gs in
+      elim (eqb (rep old_facts 0) (rep old_facts x)) as (λ b. (p 0 || list_any p (cond b (sub ∷ cond b (n ∷ R) R) (cond b (n ∷ R) R))) ≡ (q 0 || list_any q (cond b (sub ∷ cond b (0 ∷ R) R) (cond b (0 ∷ R) R)))) [
+        | true ↦ (λ i. top i || (first i || ((none ∙ sym zero_out) i || rest i)))
+        | false ↦ (λ i. top i || rest i)
+      ]
+
+  -- ---- blocks
+
+  module _ (ends : (roles : ℕ → Bool) (x y : ℕ) → has_edge old_facts roles x y ≡ true → ¬ (rep old_facts y ≡ 0)) where
+    -- successors are not node 0
+    pub filled_same : (below : ℕ → ℕ → Bool) (x s e : ℕ) → filled_successors below new_facts x s e ≡ filled_successors below old_facts x s e
+    filled_same below x s e =
+        filled_alike old_facts new_facts alike below x s e (λ y next. has_other y e (λ r. ends (λ t. below t s) x y (successor_has_edge old_facts (λ t. below t s) x y next) r.0))
+
+    filled_each : (below : ℕ → ℕ → Bool) (x s e y : ℕ) → is_filled_successor below new_facts x s e y ≡ is_filled_successor below old_facts x s e y
+    filled_each below x s e y =
+        and_last _ (has_edge old_facts (λ t. below t s) x y) (has new_facts y e) (has old_facts y e) (λ edge. has_other y e (λ r. ends (λ t. below t s) x y edge r.0))
+
+    pub run_same : (below : ℕ → ℕ → Bool) (x s e : ℕ) (ys : List ℕ) → list_all (is_filled_successor below new_facts x s e) ys ≡ list_all (is_filled_successor below old_facts x s e) ys
+    run_same below x s e ys = λ i. list_all (λ y. filled_each below x s e y i) ys
+
+  module _ (alone : (x : ℕ) → rep old_facts x ≡ 0 → x ≡ 0) (none : (x : ℕ) → has old_facts x n ≡ false) (before : HasParentsBefore old_facts) where
+    label_same : (x : ℕ) → 0 < x → label new_facts x ≡ label old_facts x
+    label_same x pos =
+        let R : List ℕ = concepts_at (rep old_facts) (rep old_facts x) gs in
+        let other : eqb (rep old_facts 0) (rep old_facts x) ≡ false = ne_eqb (rep old_facts 0) (rep old_facts x) (λ e. absurd (omega (arith, pos, alone x (sym e ∙ root_rep)))) in
+        ap (λ (b : Bool). 0 ∷ cond b (sub ∷ cond b (n ∷ R) R) (cond b (n ∷ R) R)) other ∙ sym (ap (λ (b : Bool). 0 ∷ cond b (sub ∷ cond b (0 ∷ R) R) (cond b (0 ∷ R) R)) other)
+
+    part_same : (x z : ℕ) → 0 < x → is_label_part new_facts x z ≡ is_label_part old_facts x z
+    part_same x z pos =
+        ap (list_all (has new_facts z)) (label_same x pos)
+        ∙ all_alike (has new_facts z) (has old_facts z) (label old_facts x)
+        (λ c there. has_other z c (λ r. (let held = sym (any-label old_facts x c) ∙ there in let k = subst (λ (d : ℕ). has old_facts x d ≡ false) r.1 (none x) in cc)))
+
+    may_same : (blocks : List Block) (x z : ℕ) → 0 < x → may_block new_facts blocks x z ≡ may_block old_facts blocks x z
+    may_same blocks x z pos = ap (λ (b : Bool). eqb (rep old_facts z) z && is_clear (slice_index_or blocks z Under) && b) (part_same x z pos)
+
+    from_same : (blocks : List Block) (x z k : ℕ) → 0 < x → blocked_from new_facts blocks x z k ≡ blocked_from old_facts blocks x z k
+    from_same blocks x z zero pos = refl
+    from_same blocks x z (suc k) pos =
+        let here = may_same blocks x z pos in
+        let rest = from_same blocks x (z + 1) k pos in
+        λ i. cond (here i) (By z) (rest i)
+
+    at_same : (blocks : List Block) (x : ℕ) → block_at new_facts blocks x ≡ block_at old_facts blocks x
+    at_same blocks x =
+        let up : Bool = is_parent_clear old_facts blocks (parent old_facts x) in
+        elim (cases_Bool (eqb x 0)) [
+          | inl root ↦
+              ap (λ (b : Bool). cond b Clear (cond up (blocked_from new_facts blocks x 0 x) Under)) root
+              ∙ sym (ap (λ (b : Bool). cond b Clear (cond up (blocked_from old_facts blocks x 0 x) Under)) root)
+          | inr other ↦ ap (λ (b : Block). cond (eqb x 0) Clear (cond up b Under)) (from_same blocks x 0 x (positive x other))
+        ]
+
+    to_same : (k : ℕ) → blocks_to new_facts k ≡ blocks_to old_facts k
+    to_same zero = refl
+    to_same (suc k) =
+        let earlier = to_same k in
+        ap (λ (b : List Block). b ++ block_at new_facts b k ∷ []) earlier ∙ ap (λ (b : Block). blocks_to old_facts k ++ b ∷ []) (at_same (blocks_to old_facts k) k)
+
+    pub block_same : (x : ℕ) → block_of new_facts x ≡ block_of old_facts x
+    block_same x = ap (λ (b : List Block). block_at new_facts b x) (to_same x) ∙ at_same (blocks_to old_facts x) x
