@@ -1,5 +1,5 @@
 -- What one run shows of other queries.
-use Rattle.std.specs.Prelude.{◌≡◌, ℕ, ◌<◌, ◌≤◌, ◌||◌, Bool, List, ◌∷◌, length, drop}
+use Rattle.std.specs.Prelude.{◌≡◌, ℕ, ◌-◌, ◌<◌, ◌≤◌, ◌||◌, Bool, List, ◌∷◌, length, drop}
 use Rattle.std.specs.List.{list_any}
 use Rattle.calculus_specs.specs.Concept.{Concept, name}
 use Rattle.calculus_specs.specs.Normal.{normal_form}
@@ -30,8 +30,8 @@ OneRunAnswersMore = (theory : Theory) (sub : Concept) (table : List Shape) (rows
     → IsSaturated (record { theory = theory; table = table; rows = rows }) trail → LeavesOut table (trail ∷ earlier) a
     → EndsSaturated theory sub (name a) k
 
--- What a legal step puts into a trail stands at its end: from any place on that is not past the end of the old trail, and before
--- the end of the new one. So who has noted all facts of the old trail need look no further back.
+-- What a legal step puts into a trail stands at its end: from any place on that is neither past the end of the old trail nor past
+-- the last item of the new one. So who has noted all facts of the old trail need look no further back.
 abbrev pub StepsPutLast : Type 0
-StepsPutLast = (w : SearchContext) (old new : List Item) → IsLegal w old new → (place : ℕ) → place ≤ length old → place < length new
+StepsPutLast = (w : SearchContext) (old new : List Item) → IsLegal w old new → (place : ℕ) → place ≤ length old → place ≤ length new - 1
     → (p : Fact ℕ → Bool) → (list_any p (facts_of new) || list_any p (facts_of old)) ≡ (list_any p (facts_of (drop place new)) || list_any p (facts_of old))
