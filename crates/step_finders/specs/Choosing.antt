@@ -115,6 +115,11 @@ module _ (w : SearchContext) (fs : List (Fact ℕ)) where
   NoMostByShape x (at_most n s e) = AllDecided x s e × NoPair x n s e
   NoMostByShape x _ = Unit {0}
 
+  -- no two successors are to be made one or kept apart since x has a concept of this shape
+  abbrev pub NoPairByShape : ℕ → Shape → Type 0
+  NoPairByShape x (at_most n s e) = NoPair x n s e
+  NoPairByShape x _ = Unit {0}
+
   pub record NoUnionAt (x : ℕ) : Type 0 where
     pub none : (c : ℕ) → has fs x c ≡ true → NoUnionByShape x (shape_of w.table c)
 

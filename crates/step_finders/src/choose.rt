@@ -6,7 +6,7 @@ ghost use Rattle.calculus_specs.specs.Shape.Shape.{union, at_most};
 ghost use Rattle.calculus_specs.specs.Joins.{rep};
 ghost use Rattle.calculus_specs.specs.State.{node_count, has as holds, is_successor};
 ghost use Rattle.tableau_specs.specs.Steps.{below_of};
-ghost use Rattle.step_finders.specs.Choosing.{IsChoosable, HasComplement, LacksComplement, IsDecided, IsUndecided, AllDecided, UndecidedAtEnd, NoPair, IsPair, IsRoleTo, NoUnionByShape, NoMostByShape, NoUnionAt, NoMostAt, NoUnion, NoMost, NothingToChoose};
+ghost use Rattle.step_finders.specs.Choosing.{IsChoosable, HasComplement, LacksComplement, IsDecided, IsUndecided, AllDecided, UndecidedAtEnd, NoPair, IsPair, IsRoleTo, NoUnionByShape, NoMostByShape, NoPairByShape, NoUnionAt, NoMostAt, NoUnion, NoMost, NothingToChoose};
 
 use crate::counted::filled_successors;
 use crate::unapart::find_unapart;
@@ -168,12 +168,32 @@ fn find_by_most<S: State, R: Rules>(
             role: by,
             concept,
         })),
-        None => match find_pair(alloc, state, rules, node, count, role, filler)? {
-            Some((first, second)) => Ok(pair_of(
-                state, rules, node, concept, count, role, filler, first, second,
-            )),
-            None => Ok(None),
-        },
+        None => find_pair_by_most(alloc, state, rules, node, concept, count, role, filler),
+    }
+}
+
+// What pair of successors there is to choose since the node has an 'at most'.
+fn find_pair_by_most<S: State, R: Rules>(
+    alloc: Global,
+    state: &S,
+    rules: &R,
+    node: u32,
+    concept: u32,
+    count: u32,
+    role: u32,
+    filler: u32,
+) -> Result<Option<Choosing>, NoMemory>
+    requires is_node { node < node_count (S.facts state.now) }
+    requires holds { holds (S.facts state.now) node concept ≡ true }
+    requires shape { shape_of (R.context rules.now).table concept ≡ at_most count role filler }
+    ensures { let w = R.context rules.now in let fs = S.facts state.now in
+        IfOk result (λ found. MatchOption found (NoPair w fs node count role filler) (IsChoosable w fs)) }
+{
+    match find_pair(alloc, state, rules, node, count, role, filler)? {
+        Some((first, second)) => Ok(pair_of(
+            state, rules, node, concept, count, role, filler, first, second,
+        )),
+        None => Ok(None),
     }
 }
 
@@ -221,6 +241,33 @@ pub fn find_most_by<S: State, R: Rules>(
     match rules.shape(concept) {
         Shape::Max(count, role, filler) => {
             find_by_most(alloc, state, rules, node, concept, count, role, filler)
+        }
+        _ => Ok(None),
+    }
+}
+
+/// Two successors to be made one or kept apart since the node has the concept, where that is an 'at most'; none exactly where
+/// there are none.
+///
+/// # Errors
+///
+/// Want of memory.
+pub fn find_pair_by<S: State, R: Rules>(
+    alloc: Global,
+    state: &S,
+    rules: &R,
+    node: u32,
+    concept: u32,
+) -> Result<Option<Choosing>, NoMemory>
+    requires is_node { node < node_count (S.facts state.now) }
+    requires holds { holds (S.facts state.now) node concept ≡ true }
+    ensures { let w = R.context rules.now in let fs = S.facts state.now in
+        IfOk result (λ found. MatchOption found (NoPairByShape w fs node (shape_of w.table concept))
+        (IsChoosable w fs)) }
+{
+    match rules.shape(concept) {
+        Shape::Max(count, role, filler) => {
+            find_pair_by_most(alloc, state, rules, node, concept, count, role, filler)
         }
         _ => Ok(None),
     }

@@ -19,8 +19,8 @@ mod unapart;
 
 pub use add::{find_add, find_from};
 pub use choose::{
-    find_choice, find_most, find_most_at, find_most_by, find_union, find_union_at, find_union_by,
-    role_to,
+    find_choice, find_most, find_most_at, find_most_by, find_pair_by, find_union, find_union_at,
+    find_union_by, role_to,
 };
 pub use choosing::Choosing;
 pub use clash::{
