@@ -1,6 +1,6 @@
 -- A fact of a trail's state holds by the facts that say it and the joins of its nodes.
 use Rattle.std.proofs.Common.{◌≡◌, ℕ, zero, suc, ◌+◌, ◌<◌, ◌≤◌, ◌≢◌, Bool, true, false, List, [], ◌∷◌, ◌++◌, length, take, get_or, refl, ap, sym, subst, ◌∙◌, arith, inl, inr}
-use Rattle.std.specs.Prelude.{◌==◌, ◌&&◌, ◌||◌, not, ◌⊎◌, if◌then◌else◌, Result, Ok, Err, IfOk}
+use Rattle.std.specs.Prelude.{◌==◌, ◌&&◌, ◌||◌, not, ◌⊎◌, if◌then◌else◌, Some, slice_get, Result, Ok, Err, IfOk}
 use Rattle.std.specs.List.{list_any}
 use Rattle.std.specs.Cmp.{nat_cmp_total}
 use Rattle.std.proofs.lemmas.List.{take_more}
@@ -20,7 +20,7 @@ use Rattle.completion_tree.specs.Trail.{facts_in}
 use Rattle.calculus_specs.specs.State.{is_so}
 use Rattle.fact_tree.specs.Told.{gives, IsAlone}
 use Rattle.fact_tree.proofs.Agreeing.{any-on, concept_on, edge_on, apart_on}
-use Rattle.completion_tree.specs.Marks.{facts_within, first_node, second_node, is_join, is_top, is_joining, AreWithin, SomeWithin, passes, marks_at}
+use Rattle.completion_tree.specs.Marks.{facts_within, first_node, second_node, is_join, is_top, is_joining, AreWithin, SomeWithin, IsGroundedBy, passes, marks_at}
 
 -- ---- facts within marks
 
@@ -252,6 +252,38 @@ top-within u es (Has x c) h = or_left (c == 0) _ h
 top-within u es (Edge r x y) h = cc
 top-within u es (Apart x y) h = cc
 top-within u es (Same x y) h = cc
+
+-- a fact that is said by one alone says itself, whatever nodes are one
+says_itself : (m n : ℕ → ℕ) (q f : Fact ℕ) → gives m q f ≡ true → gives n q q ≡ true
+says_itself m n (Has x c) f h = and_from (n x == n x) (c == c) (eq-eqb (n x) (n x) refl) (eq-eqb c c refl)
+says_itself m n (Edge r x y) f h =
+    and_from (r == r && n x == n x) (n y == n y) (and_from (r == r) (n x == n x) (eq-eqb r r refl) (eq-eqb (n x) (n x) refl)) (eq-eqb (n y) (n y) refl)
+says_itself m n (Apart x y) f h =
+    or_left (n x == n x && n y == n y) (n x == n y && n y == n x) (and_from (n x == n x) (n y == n y) (eq-eqb (n x) (n x) refl) (eq-eqb (n y) (n y) refl))
+says_itself m n (Same x y) f h = cc
+
+-- what is said by a fact that stays is so
+said_is_so : (fs : List (Fact ℕ)) (q : Fact ℕ) → list_any (gives (rep fs) q) fs ≡ true → is_so fs q ≡ true
+said_is_so fs (Has x c) h = or_right (c == 0) (list_any (gives (rep fs) (Has x c)) fs) h
+said_is_so fs (Edge r x y) h = h
+said_is_so fs (Apart x y) h = h
+said_is_so fs (Same x y) h = absurd (false_says (rep fs) x y fs h)
+  where
+    false_says : (m : ℕ → ℕ) (x y : ℕ) (gs : List (Fact ℕ)) → list_any (gives m (Same x y)) gs ≡ true → ⊥
+    false_says m x y [] k = cc
+    false_says m x y (g ∷ gs) k = false_says m x y gs k
+
+pub at_place : (fs : List (Fact ℕ)) (i : ℕ) (f d : Fact ℕ) → slice_get fs i ≡ Some f → get_or fs i d ≡ f
+at_place [] i f d h = cc
+at_place (g ∷ fs) zero f d h = cc
+at_place (g ∷ fs) (suc i) f d h = at_place fs i f d h
+
+-- a fact of the trail is so in the state of the facts that rest on its marks
+pub own-within : (m : ℕ → ℕ) (q : Fact ℕ) (es : List Entry) (i : ℕ) (u : NumberSet) → gives m q (get_or (facts_in es) i (Has 0 0)) ≡ true → get_or (facts_in es) i (Has 0 0) ≡ q → IsGroundedBy es i u
+    → is_so (facts_within u es) q ≡ true
+own-within m q es i u says is grounded =
+    let n : ℕ → ℕ = rep (facts_within u es) in
+    said_is_so (facts_within u es) q (grounded (gives n q) (ap (gives n q) is ∙ says_itself m n q (get_or (facts_in es) i (Has 0 0)) says))
 
 -- that two nodes are one is said by no fact alone
 nothing_says : (m : ℕ → ℕ) (x y : ℕ) (fs : List (Fact ℕ)) → list_any (gives m (Same x y)) fs ≡ false

@@ -1,9 +1,9 @@
 // What a fact of the state rests on: a fact that says it, and the joins of its nodes.
-ghost use Rattle.std.specs.Prelude.{◌≡◌, ◌==◌, ◌&&◌, ◌||◌, not, ◌∷◌, [], true, false, IfOk, filter};
+ghost use Rattle.std.specs.Prelude.{◌≡◌, ◌==◌, ◌&&◌, ◌||◌, not, ◌∷◌, [], true, false, IfOk, IfSome, filter};
 ghost use Rattle.std.specs.FinSet as set;
 ghost use Rattle.calculus_specs.specs.Joins.{rep};
 ghost use Rattle.calculus_specs.specs.State.{is_so};
-ghost use Rattle.fact_tree.specs.Told.{gives};
+ghost use Rattle.fact_tree.specs.Told.{gives, IsGround};
 ghost use Rattle.completion_tree.specs.Trail.{facts_in, is_same, places};
 ghost use Rattle.completion_tree.specs.Marks.{facts_within, is_top, is_joining, first_node, second_node, is_join, passes, marks_at, AreWithin, SomeWithin, IsGroundedBy};
 
@@ -28,6 +28,73 @@ pub(crate) fn marks_behind<A: Allocator + Copy>(
     if is_top(asked) {
         return Ok(Deps::none());
     }
+    match own_marks(trail, facts, asked)? {
+        Some(marks) => Ok(marks),
+        None => marks_through_joins(alloc, trail, facts, asked),
+    }
+}
+
+// The marks of the very fact, where it is found among the facts. It holds in the state of those that rest on its marks, whatever
+// nodes are one there.
+fn own_marks<A: Allocator + Copy>(
+    trail: &Trail<A>,
+    facts: &FactTree<A>,
+    asked: Fact<u32>,
+) -> Result<Option<Deps>, NoMemory>
+    requires { facts.now ≡ facts_in trail.now }
+    ensures { IfOk result (λ found. IfSome found (λ u. is_so (facts_within u trail.now) asked ≡ true)) }
+{
+    match facts.ground(asked) {
+        Some(index) => own_marks_at(trail, facts, asked, index),
+        None => Ok(None),
+    }
+}
+
+fn own_marks_at<A: Allocator + Copy>(
+    trail: &Trail<A>,
+    facts: &FactTree<A>,
+    asked: Fact<u32>,
+    index: usize,
+) -> Result<Option<Deps>, NoMemory>
+    requires same { facts.now ≡ facts_in trail.now }
+    requires ground { IsGround facts.now asked index }
+    ensures { IfOk result (λ found. IfSome found (λ u. is_so (facts_within u trail.now) asked ≡ true)) }
+{
+    if !are_one(facts.fact(index), asked) {
+        return Ok(None);
+    }
+    let marks = trail.marks_of_fact(index)?;
+    Ok(Some(marks))
+}
+
+// Whether the two are one fact, which says something of one node or of two.
+fn are_one(fact: Fact<u32>, other: Fact<u32>) -> bool
+    ensures { result ≡ true → fact ≡ other }
+{
+    match (fact, other) {
+        (Fact::Has(node, concept), Fact::Has(end, part)) => node == end && concept == part,
+        (Fact::Edge(role, from, to), Fact::Edge(by, first, second)) => {
+            role == by && from == first && to == second
+        }
+        (Fact::Apart(first, second), Fact::Apart(node, end)) => first == node && second == end,
+        (Fact::Has(_, _), _) => false,
+        (Fact::Edge(_, _, _), _) => false,
+        (Fact::Apart(_, _), _) => false,
+        (Fact::Same(_, _), _) => false,
+    }
+}
+
+// The marks of a fact that says what is asked, and of the joins by which it speaks of the nodes that are asked about.
+fn marks_through_joins<A: Allocator + Copy>(
+    alloc: Global,
+    trail: &Trail<A>,
+    facts: &FactTree<A>,
+    asked: Fact<u32>,
+) -> Result<Deps, NoMemory>
+    requires same { facts.now ≡ facts_in trail.now }
+    requires holds { is_so facts.now asked ≡ true }
+    ensures { IfOk result (λ u. is_so (facts_within u trail.now) asked ≡ true) }
+{
     let (first, second) = ends(facts, asked);
     let ground = ground_marks(trail, facts, asked)?;
     with_joins(alloc, trail, facts, ground, first, second)
