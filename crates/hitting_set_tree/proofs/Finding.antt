@@ -13,7 +13,7 @@ use Rattle.pinpointing_specs.proofs.Explored.{laws_of_lists}
 use Rattle.set_questions.specs.Meaning.{Meaning}
 use Rattle.set_questions.specs.InOrder.{HaveOneLimit}
 use Rattle.hitting_set_tree.specs.declared.tree.Found.{Found}
-use Rattle.hitting_set_tree.specs.Tree.{Lists, HoldsLists, IsGrown}
+use Rattle.hitting_set_tree.specs.Tree.{Lists, LacksSome, HoldsLists, IsGrown}
 use Rattle.hitting_set_tree.specs.Open.{Closes, HasOpen, IsEnded}
 use Rattle.hitting_set_tree.specs.Found.{IsFound}
 use Rattle.hitting_set_tree.proofs.Opening.{settled_still}
@@ -42,6 +42,9 @@ module _ (justifications justifications' : List Limited) (same : (s : Limited) �
         ends = explored.ends;
         covered = λ t meets. explored.covered t (λ j at. meets j ((same j).1 at));
       }
+
+  lacks_same : (leaves : List Limited) → LacksSome justifications leaves → LacksSome justifications' leaves
+  lacks_same leaves lacks = (lacks.0, λ j at. lacks.1 j ((same j).0 at), lacks.2)
 
 -- all sets that are listed have one limit
 one_limit : (n : ℕ) (xs ys : List Limited) → ((x : Limited) → Contains xs x → x.limit ≡ n) → ((y : Limited) → Contains ys y → y.limit ≡ n) → HaveOneLimit (xs ++ ys)
@@ -74,6 +77,7 @@ found_lists m ls f grows order same leaves closes grown =
       all = λ e s limit smallest. (laws_of_lists m.holds m.size js f.leaves.items grows (explored e) s limit).1 smallest;
       explored = explored;
       spent = grown.spent;
+      lacks = λ e. subst (λ (xs : List Limited). LacksSome js xs) (sym leaves) (lacks_same ls.justifications js same ls.leaves (grown.lacks e));
     }
 
 -- the budget was spent
@@ -84,5 +88,5 @@ closes_ended taken ls end = (end.nodes, end.leaf_taken, end.settled)
 pub closes_open : (taken : List Limited) (ls : Lists) (rooted : ℕ) → HasOpen taken ls rooted → Closes taken ls true
 closes_open taken ls rooted state = ((state.0, state.1.tree), state.1.leaf_taken, state.1.settled)
 
-pub grown_spent : (m : Meaning) (ls : Lists) → HoldsLists m ls → m.left ≡ 0 → IsGrown m ls false
-grown_spent m ls listed spent = record { listed = listed; explored = λ e. absurd (true≢false (sym e)); spent = λ _. spent }
+pub grown_spent : (m : Meaning) (ls : Lists) → HoldsLists m ls → m.left ≡ 0 → LacksSome ls.justifications ls.leaves → IsGrown m ls false
+grown_spent m ls listed spent lacks = record { listed = listed; explored = λ e. absurd (true≢false (sym e)); spent = λ _. spent; lacks = λ _. lacks }

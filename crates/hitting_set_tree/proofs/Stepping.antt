@@ -1,12 +1,12 @@
 -- What a look at a node does to the lists.
-use Rattle.std.proofs.Common.{◌≡◌, ℕ, ◌+◌, ◌<◌, ◌++◌, ◌∷◌, [], List, length, get_or, Bool, true, false, sym, ap, ◌∙◌, subst, arith, inl, inr}
-use Rattle.std.specs.Prelude.{Option, None, Some, IfSome, is_some}
+use Rattle.std.proofs.Common.{◌≡◌, ℕ, ◌+◌, ◌<◌, ◌++◌, ◌∷◌, [], List, length, get_or, Bool, true, false, refl, sym, ap, ◌∙◌, subst, arith, inl, inr}
+use Rattle.std.specs.Prelude.{Option, None, Some, IfSome, IfNone, is_some}
 use Rattle.std.specs.Ordering.{nat_cmp}
-use Rattle.std.specs.List.{Contains}
+use Rattle.std.specs.List.{All, Contains}
 use Rattle.std.specs.FinSet as set
 use Rattle.std.proofs.lemmas.Bool.{true≢false}
-use Rattle.std.proofs.lemmas.List.Elements.{Contains-append_left, Contains-get_or, Contains-push, Contains-push_cases}
-use Rattle.lane_sieve.specs.Sets.{NumberSet, IsPart}
+use Rattle.std.proofs.lemmas.List.Elements.{All-contains, Contains-append_left, Contains-get_or, Contains-push, Contains-push_cases}
+use Rattle.lane_sieve.specs.Sets.{NumberSet, IsPart, DoMeet}
 use Rattle.axiom_sets.specs.Sets.{Limited, IsWithin}
 use Rattle.pinpointing_specs.specs.Smallest.{AreApart, rest, IsMinimalYes, HasPart, IsExplored}
 use Rattle.pinpointing_specs.proofs.Choices.{in_rest}
@@ -16,7 +16,7 @@ use Rattle.hitting_set_tree.specs.declared.frames.Node.{Node}
 use Rattle.hitting_set_tree.specs.declared.frames.Look.TheVariants.{Done}
 use Rattle.hitting_set_tree.specs.Territory.{InNode, InFrame, IsFrame, IsNextChild, Frames, Looks}
 use Rattle.hitting_set_tree.specs.Weight.{weight, frame_weight, node_weight, free_count}
-use Rattle.hitting_set_tree.specs.Tree.{Lists, with_frame, HoldsLists, IsCovered, IsStep}
+use Rattle.hitting_set_tree.specs.Tree.{Lists, with_frame, HoldsLists, IsCovered, IsOutstanding, IsStep}
 use Rattle.hitting_set_tree.proofs.Counts.{pow_pos}
 
 pub keeps_minimal : (m m' : Meaning) → Keeps m m' → (s : Limited) → IsMinimalYes m.holds s → IsMinimalYes m'.holds s
@@ -51,8 +51,14 @@ abbrev pub with_leaf : Lists → Limited → Lists
 with_leaf ls l = record { justifications = ls.justifications; leaves = ls.leaves ++ l ∷ []; frames = ls.frames }
 
 module _ (m : Meaning) (ls : Lists) (node : Node) (listed : HoldsLists m ls) where
-  pub step_spent : m.left ≡ 0 → IsStep m ls ls (InNode node) (node_weight node) false
-  step_spent none = record { listed = listed; covered = λ e. absurd (true≢false (sym e)); lighter = λ e. absurd (true≢false (sym e)); spent = λ _. none }
+  pub step_spent : m.left ≡ 0 → IsOutstanding ls node → IsStep m ls ls (InNode node) (node_weight node) false
+  step_spent none out = record {
+    listed = listed;
+    covered = λ e. absurd (true≢false (sym e));
+    lighter = λ e. absurd (true≢false (sym e));
+    spent = λ _. none;
+    lacks = λ _. (node.hit.members, out.0, out.1);
+  }
 
   -- nothing is to be done, since each set beside the lists has a leaf as part
   pub step_pruned : HasPart ls.leaves node.hit.members → IsStep m ls ls (InNode node) (node_weight node) true
@@ -65,6 +71,7 @@ module _ (m : Meaning) (ls : Lists) (node : Node) (listed : HoldsLists m ls) whe
         ];
         lighter = λ _. omega (arith, pow_pos (free_count node.hit node.barred));
         spent = λ e. absurd (true≢false e);
+        lacks = λ e. absurd (true≢false e);
       }
 
   pub step_leaf : node.hit.limit ≡ m.size → IsWithin node.hit.limit node.hit.members → ¬ m.holds (rest node.hit) → m.shown_no (rest node.hit) → IsStep m ls (with_leaf ls node.hit) (InNode node) (node_weight node) true
@@ -85,6 +92,7 @@ module _ (m : Meaning) (ls : Lists) (node : Node) (listed : HoldsLists m ls) whe
         ];
         lighter = λ _. omega (arith, pow_pos (free_count node.hit node.barred));
         spent = λ e. absurd (true≢false e);
+        lacks = λ e. absurd (true≢false e);
       }
 
   -- a frame takes over from its node, whose label each set meets
@@ -115,6 +123,7 @@ module _ (m : Meaning) (ls : Lists) (node : Node) (listed : HoldsLists m ls) whe
         covered = λ _. framed (ls.justifications ++ j ∷ []) j f e stands (Contains-push ls.justifications j) (λ x at. Contains-append_left ls.justifications (j ∷ []) x at);
         lighter = λ _. omega (arith, weight_push ls.frames f, stands.lighter);
         spent = λ e. absurd (true≢false e);
+        lacks = λ e. absurd (true≢false e);
       }
 
   pub step_frame : (j : Limited) (f : Frame) → node.hit.limit ≡ m.size → Contains ls.justifications j → Frames node j f → IsStep m ls (with_frame ls f) (InNode node) (node_weight node) true
@@ -132,6 +141,7 @@ module _ (m : Meaning) (ls : Lists) (node : Node) (listed : HoldsLists m ls) whe
         covered = λ _. framed ls.justifications j f e stands at (λ x x_at. x_at);
         lighter = λ _. omega (arith, weight_push ls.frames f, stands.lighter);
         spent = λ e. absurd (true≢false e);
+        lacks = λ e. absurd (true≢false e);
       }
 
 -- a part of the rest is apart
@@ -153,6 +163,7 @@ step_child m ls new frame left node went_on looks step =
       ]);
       lighter = λ e. omega (arith, step.lighter e, weight_push ls.frames left, looks.lighter);
       spent = step.spent;
+      lacks = step.lacks;
     }
 
 -- a frame that has no child left
@@ -166,6 +177,7 @@ step_done m ls frame left listed looks =
       ];
       lighter = λ _. omega arith;
       spent = λ e. absurd (true≢false e);
+      lacks = λ e. absurd (true≢false e);
     }
 
 -- the frame that was taken off the lists
@@ -242,3 +254,22 @@ uncovered ls f covered t meets =
         | inr never ↦ absurd never
       ]
     ]
+
+-- ---- a node that is outstanding
+
+-- no listed set is apart from it, and no leaf is part of it
+pub outstanding : (ls : Lists) (node : Node) (justifications leaves : List Limited) → justifications ≡ ls.justifications → leaves ≡ ls.leaves → All (λ s. DoMeet s.members node.hit.members) justifications
+    → All (λ s. ¬ IsPart s.members node.hit.members) leaves → IsOutstanding ls node
+outstanding ls node justifications leaves js lvs meet none = (
+  λ j at. All-contains (λ s. DoMeet s.members node.hit.members) justifications j meet (subst (λ (xs : List Limited). Contains xs j) (sym js) at),
+  λ part. All-contains (λ s. ¬ IsPart s.members node.hit.members) leaves part.0 none (subst (λ (xs : List Limited). Contains xs part.0) (sym lvs) part.1) part.2,
+)
+
+-- what holds where there is none
+pub if_nothing : (o : Option ℕ) (P : Type 0) → ((n : ℕ) → ¬ (o ≡ Some n)) → IfNone o P → P
+if_nothing None P not_some h = h
+if_nothing (Some n) P not_some h = absurd (not_some n refl)
+
+pub if_not_some : (o : Option ℕ) (P : Type 0) → is_some o ≡ false → IfNone o P → P
+if_not_some None P e h = h
+if_not_some (Some n) P e h = absurd (true≢false e)

@@ -8,6 +8,7 @@ use Rattle.pinpointing_specs.specs.Nodes.{AreNodes, AreSettled}
 use Rattle.set_questions.specs.Meaning.{Meaning}
 use Rattle.set_questions.specs.InOrder.{HaveOneLimit}
 use Rattle.hitting_set_tree.specs.declared.tree.Found.{Found}
+use Rattle.hitting_set_tree.specs.Tree.{LacksSome}
 
 pub record IsFound (m : Meaning) (f : Found) : Type 0 where
   -- smallest yes-sets, in order, each of which was shown to be a yes-set
@@ -24,7 +25,8 @@ pub record IsFound (m : Meaning) (f : Found) : Type 0 where
   -- the taken nodes are those of a hitting-set tree, and settled, the last one apart where the budget was spent
   pub nodes : AreNodes f.justifications.items m.taken
   pub settled : AreSettled f.justifications.items f.leaves.items m.taken (cond f.finished (length m.taken) (length m.taken - 1))
-  -- a finished list is whole
+  -- a finished list is whole, and one that is not finished is not: nothing is told as partial that lacks nothing
   pub all : f.finished ≡ true → (s : Limited) → s.limit ≡ m.size → IsMinimalYes m.holds s → Contains f.justifications.items s
   pub explored : f.finished ≡ true → IsExplored m.holds m.size f.justifications.items f.leaves.items
   pub spent : f.finished ≡ false → m.left ≡ 0
+  pub lacks : f.finished ≡ false → LacksSome f.justifications.items f.leaves.items

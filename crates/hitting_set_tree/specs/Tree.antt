@@ -63,6 +63,14 @@ pub record AddsLeaf (old new : Lists) (rooted : ℕ) (node : Node) : Type 0 wher
 abbrev pub IsCovered : Lists → (NumberSet → Type 0) → Type 0
 IsCovered ls beside = (t : NumberSet) → MeetsEach ls.justifications t → HasPart ls.leaves t ⊎ (InFrames ls.frames t ⊎ beside t)
 
+-- the lists are not whole: some set meets each listed one and has no leaf as part
+abbrev pub LacksSome : List Limited → List Limited → Type 0
+LacksSome justifications leaves = (t : NumberSet) × MeetsEach justifications t × (¬ HasPart leaves t)
+
+-- so it is by this node
+abbrev pub IsOutstanding : Lists → Node → Type 0
+IsOutstanding ls node = MeetsEach ls.justifications node.hit.members × (¬ HasPart ls.leaves node.hit.members)
+
 -- what a look at a node or a frame does, which stands for the sets `beside` and weighs `heavy`: where the budget sufficed,
 -- the lists take these sets over, and weigh less
 pub record IsStep (m : Meaning) (old new : Lists) (beside : NumberSet → Type 0) (heavy : ℕ) (went_on : Bool) : Type 0 where
@@ -70,9 +78,11 @@ pub record IsStep (m : Meaning) (old new : Lists) (beside : NumberSet → Type 0
   pub covered : went_on ≡ true → IsCovered old beside → IsCovered new (λ _. ⊥)
   pub lighter : went_on ≡ true → weight new.frames + 1 ≤ weight old.frames + heavy
   pub spent : went_on ≡ false → m.left ≡ 0
+  pub lacks : went_on ≡ false → LacksSome new.justifications new.leaves
 
--- what the lists are in the end: explored, or nothing is left of the budget
+-- what the lists are in the end: explored, or not whole, and nothing is left of the budget
 pub record IsGrown (m : Meaning) (ls : Lists) (finished : Bool) : Type 0 where
   pub listed : HoldsLists m ls
   pub explored : finished ≡ true → IsExplored m.holds m.size ls.justifications ls.leaves
   pub spent : finished ≡ false → m.left ≡ 0
+  pub lacks : finished ≡ false → LacksSome ls.justifications ls.leaves

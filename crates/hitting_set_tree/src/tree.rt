@@ -10,7 +10,7 @@ ghost use Rattle.set_questions.specs.Meaning.{Keeps};
 ghost use Rattle.set_questions.specs.Asked.{Answers};
 ghost use Rattle.hitting_set_tree.specs.Territory.{IsNode, IsFrame, InNode, InFrame, Frames};
 ghost use Rattle.hitting_set_tree.specs.Weight.{node_weight, frame_weight};
-ghost use Rattle.hitting_set_tree.specs.Tree.{lists, with_frame, others, HoldsLists, AreFrames, IsCovered, IsStep, IsGrown, AddsLabel, AddsLeaf};
+ghost use Rattle.hitting_set_tree.specs.Tree.{lists, with_frame, others, HoldsLists, AreFrames, IsCovered, IsOutstanding, IsStep, IsGrown, AddsLabel, AddsLeaf};
 ghost use Rattle.hitting_set_tree.specs.Open.{HasOpen, HasPending, IsBeside, StaysOpen, TakesPath, Closes, AsksFew};
 ghost use Rattle.hitting_set_tree.specs.Found.{IsFound};
 
@@ -46,7 +46,8 @@ pub struct Found {
 }
 
 /// Lists the smallest yes-sets in their order, and leaves whose rests are no yes-sets: all of them where the budget
-/// suffices.
+/// suffices. It is told as too small only where something is lacking: where some set meets each listed yes-set, and has no
+/// leaf as part.
 pub fn enumerate<E: Entail>(alloc: Global, entail: &mut E) -> Result<Found, NoMemory>
     requires { (E.meaning entail.old).taken ≡ [] }
     ensures keeps { Keeps (E.meaning entail.old) (E.meaning entail.new) }
@@ -208,6 +209,7 @@ fn take_and_ask<E: Entail>(
     requires listed { HoldsLists (E.meaning entail.old) (lists tree.old) }
     requires open { HasOpen (E.meaning entail.old).taken (lists tree.old) tree.old.rooted }
     requires beside { IsBeside (E.meaning entail.old).taken (lists tree.old).frames node }
+    requires outstanding { IsOutstanding (lists tree.old) node }
     ensures keeps { Keeps (E.meaning entail.old) (E.meaning entail.new) }
     ensures same { E.origin entail.new ≡ E.origin entail.old }
     ensures open { IfOk result (StaysOpen (E.meaning entail.new).taken (lists tree.new) tree.new.rooted) }
@@ -256,6 +258,7 @@ fn ask_node<E: Entail>(
     requires node { IsNode (E.meaning entail.old).size node }
     requires listed { HoldsLists (E.meaning entail.old) (lists tree.old) }
     requires pending { HasPending (E.meaning entail.old).taken (lists tree.old) node }
+    requires outstanding { IsOutstanding (lists tree.old) node }
     ensures keeps { Keeps (E.meaning entail.old) (E.meaning entail.new) }
     ensures same { E.origin entail.new ≡ E.origin entail.old }
     ensures taken { (E.meaning entail.new).taken ≡ (E.meaning entail.old).taken }
@@ -282,6 +285,7 @@ fn settle<E: Entail>(
     requires within { IsWithin node.hit.limit node.hit.members }
     requires listed { HoldsLists (E.meaning entail.old) (lists tree.old) }
     requires pending { HasPending (E.meaning entail.old).taken (lists tree.old) node }
+    requires outstanding { IsOutstanding (lists tree.old) node }
     requires answer { Answers (E.meaning entail.old) (others node) answer }
     ensures keeps { Keeps (E.meaning entail.old) (E.meaning entail.new) }
     ensures same { E.origin entail.new ≡ E.origin entail.old }
@@ -312,6 +316,7 @@ fn label_node<E: Entail>(
     requires node { IsNode (E.meaning entail.old).size node }
     requires listed { HoldsLists (E.meaning entail.old) (lists tree.old) }
     requires pending { HasPending (E.meaning entail.old).taken (lists tree.old) node }
+    requires outstanding { IsOutstanding (lists tree.old) node }
     requires part { Answers (E.meaning entail.old) (others node) (Reply.Yes part.now) }
     ensures keeps { Keeps (E.meaning entail.old) (E.meaning entail.new) }
     ensures same { E.origin entail.new ≡ E.origin entail.old }

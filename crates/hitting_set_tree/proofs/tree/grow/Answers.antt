@@ -17,7 +17,7 @@ returns-then-not-went_on-clause-closed g c =
 pub returns-then-not-went_on-clause-grown : goal.returns-then-not-went_on-clause-grown
 returns-then-not-went_on-clause-grown g c =
     let step = c.in_ok-went_on.ensures.step in
-    grown_spent (g.E.Entail.meaning c.visit.new.entail) (lists c.visit.new.tree) step.listed (step.spent c.if-not-went_on.true)
+    grown_spent (g.E.Entail.meaning c.visit.new.entail) (lists c.visit.new.tree) step.listed (step.spent c.if-not-went_on.true) (step.lacks c.if-not-went_on.true)
 
 pub run-requires-clause-open : goal.run-requires-clause-open
 run-requires-clause-open g c =

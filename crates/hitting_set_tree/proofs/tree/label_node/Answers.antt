@@ -53,7 +53,7 @@ returns-in-Spent-clause-step g c =
     let m = g.E.Entail.meaning c.args.entail.now in
     let m' = g.E.Entail.meaning c.shrink.new.entail in
     let spent : ShrinksTo m' c.args.part.now Spent = rw c.in-Spent.is at c.in_ok-just.ensures.shrunk in
-    step_spent m' (lists c.args.tree.now) c.args.node (keeps_listed m m' (lists c.args.tree.now) c.shrink.ensures.keeps c.requires.listed) spent
+    step_spent m' (lists c.args.tree.now) c.args.node (keeps_listed m m' (lists c.args.tree.now) c.shrink.ensures.keeps c.requires.listed) spent c.requires.outstanding
 
 pub returns-in-Spent-clause-open : goal.returns-in-Spent-clause-open
 returns-in-Spent-clause-open g c =

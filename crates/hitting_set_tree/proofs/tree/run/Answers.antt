@@ -81,7 +81,7 @@ returns-then-not-went_on-clause-closed g c =
 pub returns-then-not-went_on-clause-grown : goal.returns-then-not-went_on-clause-grown
 returns-then-not-went_on-clause-grown g c =
     let step = c.in_ok-went_on.ensures.step in
-    grown_spent (g.E.Entail.meaning c.look_on.new.entail) (lists c.look_on.new.tree) step.listed (step.spent c.if-not-went_on.true)
+    grown_spent (g.E.Entail.meaning c.look_on.new.entail) (lists c.look_on.new.tree) step.listed (step.spent c.if-not-went_on.true) (step.lacks c.if-not-went_on.true)
 
 pub returns-then-not-went_on-clause-asked : goal.returns-then-not-went_on-clause-asked
 returns-then-not-went_on-clause-asked g c =

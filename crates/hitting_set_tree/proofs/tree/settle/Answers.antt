@@ -20,7 +20,7 @@ pub returns-in-Spent-clause-step : goal.returns-in-Spent-clause-step
 returns-in-Spent-clause-step g c =
     let m = g.E.Entail.meaning c.args.entail.now in
     let answer : Answers m (others c.args.node) Spent = rw c.in-Spent.is at c.requires.answer in
-    step_spent m (lists c.args.tree.now) c.args.node c.requires.listed answer
+    step_spent m (lists c.args.tree.now) c.args.node c.requires.listed answer c.requires.outstanding
 
 pub returns-in-Spent-clause-open : goal.returns-in-Spent-clause-open
 returns-in-Spent-clause-open g c = ended_pending (g.E.Entail.meaning c.args.entail.now).taken (lists c.args.tree.now) c.args.node c.requires.pending.0 c.requires.pending.1

@@ -19,7 +19,7 @@ returns-then-not-taken-clause-step g c =
     let m = g.E.Entail.meaning c.args.entail.now in
     let m' = g.E.Entail.meaning c.take_path.new.entail in
     let path : TakesPath m' (lists c.args.tree.now) c.args.node false = rw c.if-not-taken.true at c.in_ok-taken.ensures.taken in
-    step_spent m' (lists c.args.tree.now) c.args.node (keeps_listed m m' (lists c.args.tree.now) c.take_path.ensures.keeps c.requires.listed) path.1
+    step_spent m' (lists c.args.tree.now) c.args.node (keeps_listed m m' (lists c.args.tree.now) c.take_path.ensures.keeps c.requires.listed) path.1 c.requires.outstanding
 
 pub returns-then-not-taken-clause-asked : goal.returns-then-not-taken-clause-asked
 returns-then-not-taken-clause-asked g c = few_still _ _ _ _ _ c.take_path.ensures.asks c.in_ok-taken.ensures.grown

@@ -1,7 +1,7 @@
 use Rattle.std.proofs.Common.{◌≡◌, ◌∙◌, ◌<◌, List, length, get_or, true, sym, subst}
 use Rattle.std.specs.List.{Contains, All}
 use Rattle.std.proofs.lemmas.List.Elements.{Contains-get_or}
-use Rattle.lane_sieve.specs.Sets.{IsPart}
+use Rattle.lane_sieve.specs.Sets.{IsPart, DoMeet}
 use Rattle.axiom_sets.specs.Sets.{Limited}
 use Rattle.hitting_set_tree.specs.declared.frames.Frame.{Frame}
 use Rattle.hitting_set_tree.specs.Territory.{InNode}
@@ -9,7 +9,7 @@ use Rattle.hitting_set_tree.specs.Weight.{node_weight}
 use Rattle.hitting_set_tree.specs.Tree.{Lists, IsStep}
 use Rattle.hitting_set_tree.specs.Open.{HasOpen}
 use Rattle.hitting_set_tree.proofs.Opening.{frame_open}
-use Rattle.hitting_set_tree.proofs.Stepping.{step_pruned, step_frame, all_limits, some_of}
+use Rattle.hitting_set_tree.proofs.Stepping.{step_pruned, step_frame, all_limits, some_of, outstanding, if_nothing, if_not_some}
 use Rattle.hitting_set_tree.proofs.tree.visit.Goals as goal
 
 pub place_of_part-requires : goal.place_of_part-requires
@@ -55,3 +55,12 @@ returns-in-Some-clause-open g c =
     let state = c.requires.open in
     subst (λ (fs : List Frame). HasOpen m.taken (record { justifications = ls.justifications; leaves = ls.leaves; frames = fs }) tree.rooted) (sym c.in_ok-push.ensures.items)
     (state.0, frame_open m.taken ls tree.rooted state.0 c.args.node found.0 c.in_ok-frame.frame state.1 c.requires.beside (subst (λ (xs : List Limited). Contains xs found.0) c.deref-in-Some.ensures.value found.1) found.2)
+
+pub take_and_ask-requires-clause-outstanding : goal.take_and_ask-requires-clause-outstanding
+take_and_ask-requires-clause-outstanding g c =
+    let hit = c.args.node.hit in
+    let tree = c.args.tree.now in
+    let ls : Lists = record { justifications = tree.justifications.items; leaves = tree.leaves.items; frames = tree.frames.items } in
+    outstanding ls c.args.node c.deref.result.now c.deref-2.result.now c.deref.ensures.value c.deref-2.ensures.value
+    (if_nothing c.place_apart.result (All (λ s. DoMeet s.members hit.members) c.deref.result.now) c.in_default.not-Some c.place_apart.ensures.none)
+    (if_not_some c.place_of_part.result (All (λ s. ¬ IsPart s.members hit.members) c.deref-2.result.now) (sym c.is_some.ensures ∙ c.if-is_some.false) c.place_of_part.ensures.none)
