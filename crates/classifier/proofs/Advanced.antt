@@ -31,7 +31,7 @@ use Rattle.classifier.proofs.Mirrored.{mirrors_no, mirrors_yes}
 pub stopped_as_before : (before after : OracleLists) (p : Progress) → IsGoing before p → AreAlike before after → after.log ≡ before.log → HasStopped after stop.NoMemory
 stopped_as_before before after p going alike same =
     let is : before ≡ after = λ i. record { ontology = sym alike.ontology i; budget = sym alike.budget i; log = sym same i } in
-    subst (λ (l : OracleLists). HasStopped l stop.NoMemory) is (record { honest = going.honest; excluded = going.excluded; is_stop = tt })
+    subst (λ (l : OracleLists). HasStopped l stop.NoMemory) is (record { honest = going.honest; excluded = going.excluded; is_stop = going.goes_on })
 
 module _ (before : OracleLists) (p : Progress) (going : IsGoing before p) (x y : ℕ) (lx : x < p.known.count + 2) (ly : y < p.known.count + 2) (open_yet : is_settled p x y ≡ false) where
   below : (z : ℕ) → z < p.known.count + 2 → z < length before.ontology.classes + 2
@@ -181,7 +181,7 @@ module _ (before : OracleLists) (p : Progress) (going : IsGoing before p) (x y :
 
     -- or memory was refused when its answer was to be noted
     noted_by_end : (steps : ℕ) (e : TestEnd) → EndsAs Yes e → after.log ≡ before.log ++ entry steps e ∷ [] → IsHonestEntry before.ontology (entry steps e) → HasStopped after stop.NoMemory
-    noted_by_end steps (E.Yes u) ends same so = subst (λ (l : OracleLists). HasStopped l stop.NoMemory) (is_with steps (E.Yes u) same) (record { honest = honest_with steps (E.Yes u) same so (λ h. absurd (cc h)); excluded = excluded_with steps (E.Yes u) so; is_stop = tt })
+    noted_by_end steps (E.Yes u) ends same so = subst (λ (l : OracleLists). HasStopped l stop.NoMemory) (is_with steps (E.Yes u) same) (record { honest = honest_with steps (E.Yes u) same so (λ h. absurd (cc h)); excluded = excluded_with steps (E.Yes u) so; is_stop = goes_on_with steps (E.Yes u) refl })
     noted_by_end steps E.No ends same so = absurd ends
     noted_by_end steps (E.Spent t) ends same so = absurd ends
 

@@ -11,3 +11,5 @@ pub mod InLimit
 pub mod Logged
 pub mod Mirrored
 pub mod Settled
+pub mod Firsts
+pub mod Begun

@@ -1,11 +1,12 @@
 -- What a classification says, and how the log of one ends that spent the budget.
 use Rattle.std.specs.Prelude.{◌≡◌, ℕ, ◌+◌, List, [], ◌∷◌, ◌++◌, length}
 use Rattle.axiom_sets.specs.Sets.{Limited}
+use Rattle.shq_terms.specs.Concept.{top, bottom}
 use Rattle.shq_terms.specs.Listed.{Listed}
 use Rattle.shq_terms.specs.declared.axioms.Query.{Query}
 use Rattle.run_log.specs.Trails.{TrailLists}
 use Rattle.run_log.specs.declared.entry.Entry.{Entry}
-use Rattle.run_log.specs.declared.entry.Entry.TheVariants.{Test}
+use Rattle.run_log.specs.declared.entry.Entry.TheVariants.{Test, Node}
 use Rattle.run_log.specs.declared.entry.TestEnd.TheVariants.{Spent}
 use Rattle.run_log.specs.Entries.{spent_of}
 use Rattle.run_log.specs.Shown.{ShowsClasses}
@@ -28,3 +29,13 @@ pub record EndsSpent (budget : ℕ) (log : List Entry) : Type 0 where
   pub trail : TrailLists
   pub is_log : log ≡ before ++ Test asked query steps (Spent trail) ∷ []
   pub whole : spent_of log ≡ budget
+
+-- whether all things are in the class of none
+abbrev pub all_in_none : Query
+all_in_none = record { sub = top; sup = bottom }
+
+-- where the log has an entry, the first is a test of the query
+abbrev pub BeginsWith : Query → List Entry → Type 0
+BeginsWith q [] = Unit {0}
+BeginsWith q (Test s p steps e ∷ es) = p ≡ q
+BeginsWith q (Node s ∷ es) = ⊥

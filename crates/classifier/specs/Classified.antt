@@ -1,11 +1,13 @@
 -- How a classification stops before its end.
-use Rattle.std.specs.Prelude.{ℕ, List}
+use Rattle.std.specs.Prelude.{◌≡◌, ℕ, false, List}
+use Rattle.std.specs.List.{list_any}
 use Rattle.run_log.specs.declared.entry.Entry.{Entry}
+use Rattle.run_log.specs.Entries.{is_spent}
 use Rattle.classifier.specs.ClassificationClassified.{EndsSpent}
 use Rattle.classifier.specs.declared.stop.Stop.{Stop}
 use Rattle.classifier.specs.declared.stop.Stop.TheVariants.{NoMemory, Spent}
 
--- what the log says of such a stop
+-- what the log says of such a stop: a test that spent the budget is never told as want of memory
 abbrev pub IsStop : ℕ → List Entry → Stop → Type 0
-IsStop budget log NoMemory = Unit {0}
+IsStop budget log NoMemory = list_any is_spent log ≡ false
 IsStop budget log Spent = EndsSpent budget log

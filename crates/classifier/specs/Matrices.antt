@@ -1,5 +1,5 @@
 -- Relations on the numbers below a size, as one set of numbers for each.
-use Rattle.std.specs.Prelude.{◌≡◌, ℕ, ◌+◌, ◌^◌, ◌<◌, ◌&&◌, ◌||◌, Bool, List, length, slice_index_or, refl}
+use Rattle.std.specs.Prelude.{◌≡◌, ℕ, ◌+◌, ◌^◌, ◌<◌, ◌&&◌, ◌||◌, Bool, true, List, length, slice_index_or, refl}
 use Rattle.std.specs.FinSet as set
 use Rattle.std.specs.Coded.{Coded, code_by, coded×, coded_ℕ, coded_list}
 use Rattle.axiom_sets.specs.Sets.{Limited, limited_code}
@@ -41,6 +41,12 @@ pub record IsSquare (size : ℕ) (rows : List Limited) : Type 0 where
   pub small : size < 2 ^ 32
   pub long : length rows ≡ size
   pub wide : (x : ℕ) → x < size → (row_in rows x).limit ≡ size
+
+-- and each number that is in a row is in the set of columns
+pub record IsCovered (size : ℕ) (rows : List Limited) (columns : Limited) : Type 0 where
+  pub square : IsSquare size rows
+  pub limit : columns.limit ≡ size
+  pub covers : (x y : ℕ) → x < size → y < size → set.contains (row_in rows x).members (y + 1) ≡ true → set.contains columns.members (y + 1) ≡ true
 
 -- whether numbers are related is as a test says
 pub record IsMatrix (size : ℕ) (test : ℕ → ℕ → Bool) (m : Matrix) : Type 0 where

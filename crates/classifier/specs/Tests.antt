@@ -1,23 +1,26 @@
 -- One test of a query by all axioms.
-use Rattle.std.specs.Prelude.{◌≡◌, ℕ, [], ◌∷◌, ◌++◌}
+use Rattle.std.specs.Prelude.{◌≡◌, ℕ, List, [], ◌∷◌, ◌++◌, Some, slice_get}
 use Rattle.axiom_sets.specs.Sets.{Limited}
 use Rattle.shq_terms.specs.declared.axioms.Query.{Query}
+use Rattle.run_log.specs.declared.entry.Entry.{Entry}
 use Rattle.run_log.specs.declared.entry.Entry.TheVariants.{Test}
 use Rattle.run_log.specs.declared.entry.TestEnd.{TestEnd}
 use Rattle.run_log.specs.declared.entry.TestEnd.TheVariants as E
 use Rattle.run_log.specs.Entries.{spent_of}
 use Rattle.run_log.specs.HonestLog.{IsHonestEntry}
 use Rattle.shq_oracle.specs.OracleLists.{OracleLists}
-use Rattle.shq_oracle.specs.declared.answer.Answer.{Answer}
-use Rattle.shq_oracle.specs.declared.answer.Answer.TheVariants as A
+use Rattle.shq_oracle.specs.declared.answer.Outcome.{Outcome}
+use Rattle.shq_oracle.specs.declared.answer.Outcome.TheVariants as O
+use Rattle.classifier.specs.Subsumption.{query_at}
+use Rattle.classifier.specs.ClassificationClassified.{BeginsWith}
 use Rattle.classifier.specs.declared.testing.Verdict.{Verdict}
 use Rattle.classifier.specs.declared.testing.Verdict.TheVariants.{Yes, No, Spent}
 
--- an answer without its evidence
-abbrev pub verdict_of : Answer → Verdict
-verdict_of (A.Entailed r) = Yes
-verdict_of (A.NotEntailed m) = No
-verdict_of A.Undecided = Spent
+-- an outcome without its axioms
+abbrev pub verdict_of : Outcome → Verdict
+verdict_of (O.Yes u) = Yes
+verdict_of O.No = No
+verdict_of O.Undecided = Spent
 
 -- a test ended so
 abbrev pub EndsAs : Verdict → TestEnd → Type 0
@@ -40,7 +43,20 @@ pub record IsTested (before after : OracleLists) (s : Limited) (q : Query) (v : 
   pub honest : IsHonestEntry before.ontology (Test s q steps ended)
   pub spends : SpendsAll after v
 
--- only the log differs
+-- the log began so: its first entry tests whether x is part of y
+abbrev pub FirstAsks : ℕ → ℕ → ℕ → List Entry → Type 0
+FirstAsks count x y log = (s : Limited) × (steps : ℕ) × (e : TestEnd) × (slice_get log 0 ≡ Some (Test s (query_at count x y) steps e))
+
+-- where nothing was logged, the log began so, or it has not begun
+abbrev pub Begins : ℕ → ℕ → ℕ → OracleLists → OracleLists → Type 0
+Begins count x y before after = before.log ≡ [] → BeginsWith (query_at count x y) after.log
+
+-- where nothing was logged, the log began so
+abbrev pub HasBegun : ℕ → ℕ → ℕ → OracleLists → OracleLists → Type 0
+HasBegun count x y before after = before.log ≡ [] → FirstAsks count x y after.log
+
+-- only the log differs, and its first entry stays
 pub record AreAlike (before after : OracleLists) : Type 0 where
   pub ontology : after.ontology ≡ before.ontology
   pub budget : after.budget ≡ before.budget
+  pub first : (e : Entry) → slice_get before.log 0 ≡ Some e → slice_get after.log 0 ≡ Some e

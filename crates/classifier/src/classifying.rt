@@ -2,7 +2,7 @@
 ghost use Rattle.std.specs.Prelude.{◌≡◌, [], IfOk, IfErr};
 ghost use Rattle.ontology_limits.specs.Limits.{IsOntologyInLimit};
 ghost use Rattle.run_log.specs.HonestLog.{IsClassificationLog};
-ghost use Rattle.classifier.specs.ClassificationClassified.{IsClassified};
+ghost use Rattle.classifier.specs.ClassificationClassified.{IsClassified, all_in_none, BeginsWith};
 ghost use Rattle.classifier.specs.Excluded.{AsksNoExcluded};
 ghost use Rattle.classifier.specs.Classified.{IsStop};
 
@@ -15,12 +15,12 @@ use shq_terms::Ontology;
 use std::alloc::Global;
 
 /// Which class of the ontology is part of which, by all of its axioms (OWL 2 Direct Semantics, section 2.5), where the oracle
-/// is one for this ontology that was asked nothing yet. The log shows each pair. Nothing is asked whose answer follows from the
-/// answers before, be it yes or no.
+/// is one for this ontology that was asked nothing yet. The log shows each pair. The first question is whether all things are
+/// in the class of none, and nothing is asked whose answer follows from the answers before, be it yes or no.
 ///
 /// # Errors
-/// The budget of the oracle was spent in the middle of a test, which is the last of the log; or memory was refused. The log is
-/// honest in each case, and asks nothing that follows.
+/// The budget of the oracle was spent in the middle of a test, which is the last of the log; or memory was refused, and no
+/// test spent the budget. The log is honest in each case, and asks nothing that follows.
 pub fn classify(
     alloc: Global,
     oracle: &mut Oracle<'_>,
@@ -34,6 +34,7 @@ pub fn classify(
     ensures stopped { IfErr result (IsStop oracle.old.budget oracle.new.log) }
     ensures honest { IsClassificationLog ontology.now oracle.old.budget oracle.new.log }
     ensures fresh { AsksNoExcluded oracle.new.log }
+    ensures first { BeginsWith all_in_none oracle.new.log }
 
     ensures same_ontology { oracle.new.ontology ≡ oracle.old.ontology }
     ensures same_budget { oracle.new.budget ≡ oracle.old.budget }

@@ -15,10 +15,13 @@ use std::marker::Model;
 pub struct BitMatrix {
     size: u32,
     rows: Vec<AxiomSet>,
+
+    /// What some number is paired with, each greater by one, so that no row is looked at for what none has.
+    columns: AxiomSet,
 }
 
 impl Model for BitMatrix {
-    ghost use Rattle.classifier.specs.Matrices.{Matrix, matrix_code, IsSquare};
+    ghost use Rattle.classifier.specs.Matrices.{Matrix, matrix_code, IsCovered};
 
     ghost Value = { Matrix };
 
@@ -26,7 +29,7 @@ impl Model for BitMatrix {
 
     ghost view = { λ m. record { size = m.size; rows = m.rows.items } };
 
-    ghost invariant = { λ m. IsSquare m.size m.rows.items };
+    ghost invariant = { λ m. IsCovered m.size m.rows.items m.columns };
 }
 
 impl BitMatrix {
@@ -41,7 +44,12 @@ impl BitMatrix {
         for _ in 0..size {
             rows.push(AxiomSet::empty(alloc, size)?)?;
         }
-        Ok(BitMatrix { size, rows })
+        let columns = AxiomSet::empty(alloc, size)?;
+        Ok(BitMatrix {
+            size,
+            rows,
+            columns,
+        })
     }
 
     /// The size, below which the numbers are.
@@ -75,25 +83,32 @@ impl BitMatrix {
         requires second { y < self.old.size }
         ensures { Adds (λ a b. a == x && b == y) self.old self.new }
     {
+        self.columns.put(y + 1);
         self.rows[x as usize].put(y + 1);
     }
 
-    /// Pairs each number of one set with each of another, where the numbers in both sets are greater by one.
+    /// Pairs each number of one set with each of another, where the numbers in both sets are greater by one. The work is a row
+    /// of bits for each number of the first set.
     pub fn unite(&mut self, chosen: &AxiomSet, added: &AxiomSet)
         requires chosen { chosen.now.limit ≡ self.old.size }
         requires added { added.now.limit ≡ self.old.size }
         ensures { Adds (λ x y. set.contains chosen.now.members (x + 1) && set.contains added.now.members (y + 1)) self.old self.new }
     {
+        self.columns.put_all(added);
         unite_rows(&mut self.rows, chosen, added);
     }
 
-    /// Pairs each number that is paired with `column` with each of a set, where the numbers in the set are greater by one.
+    /// Pairs each number that is paired with `column` with each of a set, where the numbers in the set are greater by one. Where
+    /// there is none, no row is looked at.
     pub fn unite_where(&mut self, column: u32, added: &AxiomSet)
         requires column { column < self.old.size }
         requires added { added.now.limit ≡ self.old.size }
         ensures { Adds (λ x y. has self.old x column && set.contains added.now.members (y + 1)) self.old self.new }
     {
-        unite_rows_where(&mut self.rows, column, added);
+        if self.columns.has(column + 1) {
+            self.columns.put_all(added);
+            unite_rows_where(&mut self.rows, column, added);
+        }
     }
 }
 
@@ -104,10 +119,8 @@ fn unite_rows(rows: &mut [AxiomSet], chosen: &AxiomSet, added: &AxiomSet)
     ensures square { IsSquare chosen.now.limit rows.new }
     ensures rows { Gains chosen.now.limit (both_have chosen.now added.now) rows.old rows.new }
 {
-    for place in 0..chosen.limit() {
-        if chosen.has(place + 1) {
-            rows[place as usize].put_all(added);
-        }
+    for number in chosen.numbers() {
+        rows[number as usize - 1].put_all(added);
     }
 }
 

@@ -6,7 +6,8 @@ ghost use Rattle.ontology_limits.specs.Limits.{IsOntologyInLimit};
 ghost use Rattle.run_log.specs.HonestLog.{IsWhole};
 ghost use Rattle.classifier.specs.Matrices.{has, IsMatrix, Adds};
 ghost use Rattle.classifier.specs.Rows.{holds, IsAtFirst, Relates};
-ghost use Rattle.classifier.specs.Tests.{AreAlike};
+ghost use Rattle.classifier.specs.Tests.{AreAlike, Begins, HasBegun};
+ghost use Rattle.classifier.specs.ClassificationClassified.{all_in_none, BeginsWith};
 
 use crate::finding::most_general;
 use crate::stop::Stop;
@@ -63,14 +64,16 @@ impl Progress {
         told: &[Inclusion],
     ) -> Result<(), Stop>
         requires going { IsGoing oracle.old self.old }
+        requires unlogged { oracle.old.log ≡ [] }
         requires told { AreOf self.old.known.count told.now }
         ensures ok { OnOk result (IsGoing oracle.new self.new) }
         ensures done { OnOk result ((x : ℕ) → x < self.new.known.count + 2 → IsDone self.new x) }
         ensures err { IfErr result (HasStopped oracle.new) }
+        ensures first { BeginsWith all_in_none oracle.new.log }
         ensures alike { AreAlike oracle.old oracle.new }
     {
         let count = self.known.class_count();
-        self.settle(oracle, count, count + 1)?;
+        self.ask(oracle, count, count + 1)?;
         self.settle_told(oracle, told)?;
         self.settle_classes(oracle)
     }
@@ -142,6 +145,8 @@ impl Progress {
         ensures ok { OnOk result (Advances oracle.new self.old self.new) }
         ensures settled { OnOk result (is_settled self.new x y ≡ true) }
         ensures err { IfErr result (HasStopped oracle.new) }
+        ensures begins { Begins self.old.known.count x y oracle.old oracle.new }
+        ensures begun { OnOk result (HasBegun self.old.known.count x y oracle.old oracle.new) }
         ensures alike { AreAlike oracle.old oracle.new }
     {
         match test(oracle, &self.axioms, self.known.class_count(), x, y)? {
@@ -163,7 +168,7 @@ impl Progress {
         let mut open = self.classes.try_clone()?;
         open.take_all(self.known.above(class));
         open.take_all(self.ruled_out.row(class));
-        Ok(most_general(&self.known, &open))
+        most_general(&self.known, &open)
     }
 
     // It is known that x is part of y, with all that follows from it.

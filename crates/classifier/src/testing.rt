@@ -1,13 +1,13 @@
-// One question to the oracle, and the answer without its evidence.
-ghost use Rattle.std.specs.Prelude.{◌≡◌, ◌+◌, ◌<◌, ◌≤◌, false, length, IfOk, OnErr};
+// One question to the oracle, and its outcome.
+ghost use Rattle.std.specs.Prelude.{◌≡◌, ◌≤◌, false, length, IfOk, OnOk, OnErr};
 ghost use Rattle.std.specs.List.{list_any};
 ghost use Rattle.ontology_limits.specs.Limits.{IsInLimit};
 ghost use Rattle.run_log.specs.Entries.{spent_of, is_spent, IsAnswered};
 ghost use Rattle.classifier.specs.Subsumption.{class_at, query_at};
-ghost use Rattle.classifier.specs.Tests.{verdict_of, IsTested, AreAlike};
+ghost use Rattle.classifier.specs.Tests.{verdict_of, IsTested, AreAlike, Begins, HasBegun};
 
 use axiom_sets::AxiomSet;
-use shq_oracle::{Answer, Oracle};
+use shq_oracle::{Oracle, Outcome};
 use shq_terms::{Concept, MAX_CLASSES, NoMemory, Node, Query};
 
 /// What a test found.
@@ -39,6 +39,8 @@ pub(crate) fn test(
     requires is_new { IsAnswered oracle.old.log axioms.now (query_at count x y) → ⊥ }
     ensures tested { IfOk result (IsTested oracle.old oracle.new axioms.now (query_at count x y)) }
     ensures within { spent_of oracle.new.log ≤ oracle.new.budget }
+    ensures begins { Begins count x y oracle.old oracle.new }
+    ensures begun { OnOk result (HasBegun count x y oracle.old oracle.new) }
     ensures alike { AreAlike oracle.old oracle.new }
     ensures unchanged { OnErr result (oracle.new.log ≡ oracle.old.log) }
 {
@@ -59,23 +61,20 @@ fn decide(oracle: &mut Oracle<'_>, axioms: &AxiomSet, query: &Query) -> Result<V
     ensures alike { AreAlike oracle.old oracle.new }
     ensures unchanged { OnErr result (oracle.new.log ≡ oracle.old.log) }
 {
-    Ok(verdict_of(oracle.decide(axioms, query)?))
+    Ok(verdict_of(oracle.test(axioms, query)?))
 }
 
-// Lets the evidence of an answer go.
-fn verdict_of(answer: Answer) -> Verdict
-    ensures { result ≡ verdict_of answer }
+// Lets the axioms of an outcome go.
+fn verdict_of(outcome: Outcome) -> Verdict
+    ensures { result ≡ verdict_of outcome }
 {
-    match answer {
-        Answer::Entailed(refutation) => {
-            drop(refutation);
+    match outcome {
+        Outcome::Yes(used) => {
+            drop(used);
             Verdict::Yes
         }
-        Answer::NotEntailed(model) => {
-            drop(model);
-            Verdict::No
-        }
-        Answer::Undecided => Verdict::Spent,
+        Outcome::No => Verdict::No,
+        Outcome::Undecided => Verdict::Spent,
     }
 }
 

@@ -9,6 +9,7 @@ use Rattle.std.proofs.lemmas.List.Elements.{All-contains, All-weaker, All-contai
 use Rattle.std.proofs.lemmas.List.Sums.{sum_by-append}
 use Rattle.lane_sieve.specs.Sets.{NumberSet, IsPart}
 use Rattle.axiom_sets.specs.Sets.{Limited}
+use Rattle.axiom_sets.proofs.Same.{same_limited}
 use Rattle.shq_terms.specs.Listed.{Listed}
 use Rattle.shq_terms.specs.declared.axioms.Query.{Query}
 use Rattle.set_questions.specs.Meaning.{Keeps}
@@ -24,7 +25,7 @@ use Rattle.run_log.specs.HonestLog.{IsHonestEntry, EachIsHonest, IsTestOf, Follo
 use Rattle.run_log.specs.Shown.{IsShownYes}
 use Rattle.run_log.proofs.Named.{follows_from}
 use Rattle.query_asker.specs.AskerLists.{AskerLists}
-use Rattle.query_asker.specs.Told.{IsShownNoIn, asker_meaning, IsAskerLog}
+use Rattle.query_asker.specs.Told.{IsShownNoIn, asker_meaning, IsAskerLog, part_in, IsUnknown}
 use Rattle.query_asker.specs.Memory.{yes_of, no_of, yes_sets, no_sets, Recalls}
 use Rattle.query_asker.specs.Asking.{IsLocalPart, IsRecalled, IsLater}
 use Rattle.query_asker.proofs.Remembered.{of_log, found_yes, found_no, one_member}
@@ -108,7 +109,7 @@ module _ (a : AskerLists) (is_log : IsAskerLog a) (s : Limited) where
   recalled limit None h = λ found. not_answered h found.0 found.1 found.2
   recalled limit (Some (Yes u)) h = let f = found_yes a.gained u h.0 in yes_by_log f.asked f.query f.steps u f.is_test limit h.1
   recalled limit (Some No) h = let f = found_no a.gained h.0 h.1 in no_by_log h.0 f.query f.steps f.is_test h.2
-  recalled limit (Some Spent) h = absurd h
+  recalled limit (Some Spent) h = h
 
 -- ---- one ask
 
@@ -123,8 +124,16 @@ answers_counted a b asks s answer e h =
     by_answer No k = k
     by_answer Spent k = k
 
+-- what the log answers is so, and is no want of budget
 pub known_is : (a : AskerLists) (p : Limited) (o : Option Reply) (known : Reply) → o ≡ Some known → IsRecalled a p o → Answers (asker_meaning a) p known
-known_is a p o known e h = subst (IsRecalled a p) e h
+known_is a p o (Yes u) e h = subst (IsRecalled a p) e h
+known_is a p o No e h = subst (IsRecalled a p) e h
+known_is a p o Spent e h = absurd (subst (IsRecalled a p) e h)
+
+pub known_answers : (a b : AskerLists) (s p : Limited) (o : Option Reply) (known : Reply) → o ≡ Some known → IsRecalled a p o → IsUnknown b s known
+known_answers a b s p o (Yes u) e h = tt
+known_answers a b s p o No e h = tt
+known_answers a b s p o Spent e h = absurd (subst (IsRecalled a p) e h)
 
 pub new_if_none : (a : AskerLists) (p : Limited) (o : Option Reply) → ((known : Reply) → ¬ (o ≡ Some known)) → IsRecalled a p o → ¬ IsAnswered a.gained p a.query
 new_if_none a p None not_some h = h
@@ -135,6 +144,15 @@ local_inside a s p h k x = (and_parts (set.contains s.members k) (set.contains a
 
 pub local_later : (old new : AskerLists) (s p : Limited) → IsLater old new → IsLocalPart old s p → IsLocalPart new s p
 local_later old new s p later h = subst (λ (a : AskerLists). IsLocalPart a s p) (sym later.is_more) (record { limit = h.limit; members = h.members; keeps = h.keeps })
+
+-- the local part of a set is the set's part
+part_is : (a : AskerLists) (s p : Limited) → IsLocalPart a s p → p ≡ part_in a s
+part_is a s p h = same_limited p (part_in a s) h.limit h.members
+
+pub unknown_whole : (a : AskerLists) (s p : Limited) → IsLocalPart a s p → (reply : Reply) → IsUnknown a p reply → IsUnknown a (part_in a s) reply
+unknown_whole a s p h (Yes u) unknown = tt
+unknown_whole a s p h No unknown = tt
+unknown_whole a s p h Spent unknown = subst (λ (t : Limited). ¬ IsAnswered a.gained t a.query) (part_is a s p h) unknown
 
 -- ---- limits
 

@@ -1,8 +1,7 @@
 -- The axioms of a set that are in a part of all axioms.
 use Rattle.std.proofs.Common.{◌≡◌, ℕ, ◌+◌, ◌<◌, ◌≤◌, Bool, true, false, List, [], ◌∷◌, length, not, refl, ap, sym, ◌∙◌, subst, arith}
-use Rattle.std.specs.Prelude.{◌&&◌, ◌||◌, Option, None, Some, if◌then◌else◌}
+use Rattle.std.specs.Prelude.{◌&&◌, Option, None, Some, if◌then◌else◌}
 use Rattle.std.specs.Cmp.{nat_cmp_total}
-use Rattle.std.specs.Ordering.{nat_cmp}
 use Rattle.std.specs.FinSet as set
 use Rattle.std.proofs.lemmas.Bool.{and_from}
 use Rattle.shq_terms.proofs.Bools.{same_truth}
@@ -86,9 +85,3 @@ without_outside s m =
     twice true true = refl
     twice true false = refl
     twice false b = refl
-
--- what is put into an empty set
-pub into_empty : (s : NumberSet) → set.union set.empty s ≡ s
-into_empty s =
-    same_members (set.union set.empty s) s
-    (λ k. set.contains-union nat_cmp_total set.empty s k ∙ ap (λ (b : Bool). b || set.contains s k) (set.contains-empty nat_cmp k))

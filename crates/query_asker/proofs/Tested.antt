@@ -1,14 +1,15 @@
 -- What a test or a node that is put into the log makes of an asker.
 use Rattle.std.proofs.Common.{◌≡◌, ℕ, ◌+◌, ◌-◌, ◌<◌, ◌≤◌, true, false, List, [], ◌∷◌, ◌++◌, length, take, drop, refl, ap, sym, ◌∙◌, subst, arith, inl, inr, length-append, append_assoc}
-use Rattle.std.specs.Prelude.{Option}
+use Rattle.std.specs.Prelude.{Option, Result, Ok, Err, IfOk, OnErr, Bool}
 use Rattle.std.specs.List.{Contains, list_any}
-use Rattle.std.proofs.lemmas.List.{take-append-drop, take-append-le, drop-append-le}
-use Rattle.std.proofs.lemmas.List.Elements.{All-contains, Contains-append_cases, Contains-push}
+use Rattle.std.proofs.lemmas.List.{append-nil, take-append-drop, take-append-le, drop-append-le}
+use Rattle.std.proofs.lemmas.List.Elements.{All-contains, Contains-append_cases, Contains-append_left, Contains-push, Contains-push_cases}
 use Rattle.std.proofs.lemmas.List.Sums.{sum_by-append}
-use Rattle.lane_sieve.specs.Sets.{IsPart}
+use Rattle.lane_sieve.specs.Sets.{NumberSet, IsPart}
 use Rattle.axiom_sets.specs.Sets.{Limited}
+use Rattle.shq_terms.specs.NoMemory.{NoMemory}
 use Rattle.shq_terms.specs.declared.axioms.Query.{Query}
-use Rattle.set_questions.specs.Meaning.{one_more}
+use Rattle.set_questions.specs.Meaning.{ShowsTheSame, one_more}
 use Rattle.set_questions.specs.Asked.{Answers, Takes}
 use Rattle.set_questions.specs.declared.entail.Reply.{Reply}
 use Rattle.set_questions.specs.declared.entail.Reply.TheVariants.{Yes, No, Spent}
@@ -18,15 +19,16 @@ use Rattle.run_log.specs.declared.entry.TestEnd.{TestEnd}
 use Rattle.run_log.specs.declared.entry.TestEnd.TheVariants as E
 use Rattle.run_log.specs.Entries.{cost_of, spent_of, nodes_of, is_spent, ended_spent, AnswersQuery, IsAnswered}
 use Rattle.run_log.specs.HonestLog.{IsAxiomSet, IsHonestEnd, EndsWhenSpent}
+use Rattle.run_log.specs.Shown.{IsShownYes}
 use Rattle.shq_oracle.specs.OracleLists.{OracleLists}
-use Rattle.shq_oracle.specs.Decided.{Matches, AppendsTest, LeavesNothing}
-use Rattle.shq_oracle.specs.declared.answer.Answer.{Answer}
-use Rattle.shq_oracle.specs.declared.answer.Answer.TheVariants as Answered
+use Rattle.shq_oracle.specs.Decided.{EndsAs, AddsTest, SpendsAll, TakesNode}
+use Rattle.shq_oracle.specs.declared.answer.Outcome.{Outcome}
+use Rattle.shq_oracle.specs.declared.answer.Outcome.TheVariants as Found
 use Rattle.query_asker.specs.declared.memo.Memo.{Memo}
-use Rattle.query_asker.specs.AskerLists.{AskerLists}
-use Rattle.query_asker.specs.Told.{IsTestOfOther, AreTestsOfOthers, asker_meaning, IsAskerLog}
+use Rattle.query_asker.specs.AskerLists.{AskerLists, origin_of}
+use Rattle.query_asker.specs.Told.{IsTestOfOther, AreTestsOfOthers, IsShownNoIn, asker_meaning, IsAskerLog, IsUnknown, LogsNode}
 use Rattle.query_asker.specs.Memory.{yes_of, no_of, IsMemo}
-use Rattle.query_asker.specs.Asking.{lists_of, CanAsk, IsAsker, IsLater, Hands}
+use Rattle.query_asker.specs.Asking.{lists_of, CanAsk, IsAsker, IsLater, reply_of}
 use Rattle.query_asker.proofs.Remembered.{kept_still}
 use Rattle.query_asker.proofs.Logged.{goes_on, with_entry, MayBeLast, log_with, log_counted}
 use Rattle.query_asker.proofs.Answering.{yes_by_log, no_by_log}
@@ -116,21 +118,21 @@ module _ (o : OracleLists) (q : Query) (among : Option Limited) (first asks : �
 
   -- ---- a test
 
-  module _ (o' : OracleLists) (s : Limited) (answer : Answer) (is_log : IsAskerLog a) (some : ¬ (spent_of o.log ≡ o.budget)) (ontology : o'.ontology ≡ o.ontology) (budget : o'.budget ≡ o.budget)
-      (appends : AppendsTest o.ontology s q o.log o'.log answer) (leaves : LeavesNothing o' answer) (within : spent_of o'.log ≤ o'.budget) (part : IsPart s.members a.local_part) (new : ¬ IsAnswered a.gained s q) where
+  module _ (o' : OracleLists) (s : Limited) (v : Outcome) (is_log : IsAskerLog a) (some : ¬ (spent_of o.log ≡ o.budget)) (ontology : o'.ontology ≡ o.ontology) (budget : o'.budget ≡ o.budget)
+      (appends : AddsTest o.ontology s q o.log o'.log v) (spends : SpendsAll o' v) (within : spent_of o'.log ≤ o'.budget) (part : IsPart s.members a.local_part) (new : ¬ IsAnswered a.gained s q) where
     abbrev pub entry : Entry
     entry = Test s q appends.steps appends.ended
 
-    spent_is : (b : Answer) (d : TestEnd) → Matches b d → ended_spent d ≡ true → LeavesNothing o' b → spent_of o'.log ≡ o'.budget
-    spent_is (Answered.Entailed r) (E.Yes u) m e l = cc
-    spent_is (Answered.Entailed r) E.No m e l = absurd m
-    spent_is (Answered.Entailed r) (E.Spent t) m e l = absurd m
-    spent_is (Answered.NotEntailed i) (E.Yes u) m e l = absurd m
-    spent_is (Answered.NotEntailed i) E.No m e l = cc
-    spent_is (Answered.NotEntailed i) (E.Spent t) m e l = absurd m
-    spent_is Answered.Undecided (E.Yes u) m e l = absurd m
-    spent_is Answered.Undecided E.No m e l = absurd m
-    spent_is Answered.Undecided (E.Spent t) m e l = l
+    spent_is : (w : Outcome) (d : TestEnd) → EndsAs w d → ended_spent d ≡ true → SpendsAll o' w → spent_of o'.log ≡ o'.budget
+    spent_is (Found.Yes x) (E.Yes u) m e l = cc
+    spent_is (Found.Yes x) E.No m e l = absurd m
+    spent_is (Found.Yes x) (E.Spent t) m e l = absurd m
+    spent_is Found.No (E.Yes u) m e l = absurd m
+    spent_is Found.No E.No m e l = cc
+    spent_is Found.No (E.Spent t) m e l = absurd m
+    spent_is Found.Undecided (E.Yes u) m e l = absurd m
+    spent_is Found.Undecided E.No m e l = absurd m
+    spent_is Found.Undecided (E.Spent t) m e l = l
 
     longer : (a.before ++ a.gained) ++ entry ∷ [] ≡ o'.log
     longer = ap (λ (log : List Entry). log ++ entry ∷ []) whole ∙ sym appends.is_log
@@ -140,7 +142,7 @@ module _ (o : OracleLists) (q : Query) (among : Option Limited) (first asks : �
       goes_on = ap (list_any is_spent) whole ∙ none_spent is_log some;
       honest = appends.honest;
       within = subst (λ (log : List Entry). spent_of log ≤ o.budget) (sym longer) (subst (λ (n : ℕ). spent_of o'.log ≤ n) budget within);
-      whole = λ e. ap spent_of longer ∙ spent_is answer appends.ended appends.matches e leaves ∙ budget;
+      whole = λ e. ap spent_of longer ∙ spent_is v appends.ended appends.matches e spends ∙ budget;
       of_query = refl;
       new = new;
       in_part = part;
@@ -160,33 +162,46 @@ module _ (o : OracleLists) (q : Query) (among : Option Limited) (first asks : �
         let spent : spent_of (a.before ++ (a.gained ++ entry ∷ [])) ≡ o.budget = ap spent_of same ∙ e ∙ budget in
         omega (arith, spent)
 
-    by_end : (b : Answer) (d : TestEnd) (t : Reply) → IsAskerLog after → s.limit ≡ length o.ontology.axioms → Contains after.gained (Test s q appends.steps d) → IsHonestEnd o.ontology s q appends.steps d
-        → Matches b d → LeavesNothing o' b → Hands b t → Answers (asker_meaning after) s t
-    by_end (Answered.Entailed r) (E.Yes u) (Yes v) log' limit at honest m l e =
-        subst (λ (w : Limited). Answers (asker_meaning after) s (Yes w)) (m ∙ sym e) (yes_by_log after log' s s q appends.steps u at limit honest.part)
-    by_end (Answered.NotEntailed i) E.No No log' limit at honest m l e = no_by_log after log' s s q appends.steps at (λ k h. h)
-    by_end Answered.Undecided (E.Spent x) Spent log' limit at honest m l e = nothing_left l
-    by_end (Answered.Entailed r) (E.Yes u) No log' limit at honest m l e = absurd e
-    by_end (Answered.Entailed r) (E.Yes u) Spent log' limit at honest m l e = absurd e
-    by_end (Answered.Entailed r) E.No t log' limit at honest m l e = absurd m
-    by_end (Answered.Entailed r) (E.Spent x) t log' limit at honest m l e = absurd m
-    by_end (Answered.NotEntailed i) (E.Yes u) t log' limit at honest m l e = absurd m
-    by_end (Answered.NotEntailed i) E.No (Yes v) log' limit at honest m l e = absurd e
-    by_end (Answered.NotEntailed i) E.No Spent log' limit at honest m l e = absurd e
-    by_end (Answered.NotEntailed i) (E.Spent x) t log' limit at honest m l e = absurd m
-    by_end Answered.Undecided (E.Yes u) t log' limit at honest m l e = absurd m
-    by_end Answered.Undecided E.No t log' limit at honest m l e = absurd m
-    by_end Answered.Undecided (E.Spent x) (Yes v) log' limit at honest m l e = absurd e
-    by_end Answered.Undecided (E.Spent x) No log' limit at honest m l e = absurd e
+    by_end : (w : Outcome) (d : TestEnd) → IsAskerLog after → s.limit ≡ length o.ontology.axioms → Contains after.gained (Test s q appends.steps d) → IsHonestEnd o.ontology s q appends.steps d
+        → EndsAs w d → SpendsAll o' w → Answers (asker_meaning after) s (reply_of w)
+    by_end (Found.Yes x) (E.Yes u) log' limit at honest m l = subst (λ (y : Limited). Answers (asker_meaning after) s (Yes y)) m (yes_by_log after log' s s q appends.steps u at limit honest.part)
+    by_end Found.No E.No log' limit at honest m l = no_by_log after log' s s q appends.steps at (λ k h. h)
+    by_end Found.Undecided (E.Spent x) log' limit at honest m l = nothing_left l
+    by_end (Found.Yes x) E.No log' limit at honest m l = absurd m
+    by_end (Found.Yes x) (E.Spent t) log' limit at honest m l = absurd m
+    by_end Found.No (E.Yes u) log' limit at honest m l = absurd m
+    by_end Found.No (E.Spent t) log' limit at honest m l = absurd m
+    by_end Found.Undecided (E.Yes u) log' limit at honest m l = absurd m
+    by_end Found.Undecided E.No log' limit at honest m l = absurd m
+
+    -- a test that spent the budget answers nothing
+    no_answer : (d : TestEnd) → EndsAs Found.Undecided d → ¬ AnswersQuery (Test s q appends.steps d) s q
+    no_answer (E.Yes u) m answers = absurd m
+    no_answer E.No m answers = absurd m
+    no_answer (E.Spent t) m answers = answers.1
+
+    still_unknown : (w : Outcome) → EndsAs w appends.ended → IsUnknown after s (reply_of w)
+    still_unknown (Found.Yes x) m = tt
+    still_unknown Found.No m = tt
+    still_unknown Found.Undecided m = λ found. elim (Contains-push_cases a.gained entry found.0 found.1) [
+      | inl old ↦ new (found.0, old, found.2)
+      | inr is ↦ no_answer appends.ended m (subst (λ (e : Entry). AnswersQuery e s q) (sym is) found.2)
+    ]
 
     is_after : first ≤ length o.log → lists_of o' q among first (one_more asks) ≡ after
     is_after le = ap (λ (l : OracleLists). lists_of l q among first (one_more asks)) (is_logged o o' entry ontology budget appends.is_log) ∙ lists_logged o q among first asks (one_more asks) entry le
 
-    pub answered : (memo : Memo) → IsAsker o q among first memo asks → s.limit ≡ length o.ontology.axioms → (t : Reply) → Hands answer t → Answers (asker_meaning (lists_of o' q among first (one_more asks))) s t
+    pub answered : (memo : Memo) → IsAsker o q among first memo asks → s.limit ≡ length o.ontology.axioms → (t : Reply) → t ≡ reply_of v → Answers (asker_meaning (lists_of o' q among first (one_more asks))) s t
     answered memo h limit t e =
         let log' : IsAskerLog after = log_with a entry (one_more asks) h.is_log may_test in
-        subst (λ (l : AskerLists). Answers (asker_meaning l) s t) (sym (is_after h.first_within))
-        (by_end answer appends.ended t log' limit (Contains-push a.gained entry) appends.honest.1 appends.matches leaves e)
+        subst (λ (r : Reply). Answers (asker_meaning (lists_of o' q among first (one_more asks))) s r) (sym e)
+        (subst (λ (l : AskerLists). Answers (asker_meaning l) s (reply_of v)) (sym (is_after h.first_within))
+        (by_end v appends.ended log' limit (Contains-push a.gained entry) appends.honest.1 appends.matches spends))
+
+    pub unknown : first ≤ length o.log → (t : Reply) → t ≡ reply_of v → IsUnknown (lists_of o' q among first (one_more asks)) s t
+    unknown le t e =
+        subst (λ (r : Reply). IsUnknown (lists_of o' q among first (one_more asks)) s r) (sym e)
+        (subst (λ (l : AskerLists). IsUnknown l s (reply_of v)) (sym (is_after le)) (still_unknown v appends.matches))
 
     pub later : first ≤ length o.log → IsLater a (lists_of o' q among first (one_more asks))
     later le = record { more = entry ∷ []; is_more = is_after le }
@@ -216,15 +231,12 @@ module _ (o : OracleLists) (q : Query) (among : Option Limited) (first asks : �
       counted = inl (refl, refl);
     }
 
-    pub after_node : (memo : Memo) → IsAsker o q among first memo asks → IsAsker o' q among first memo asks
+    after_node : (memo : Memo) → IsAsker o q among first memo asks → IsAsker o' q among first memo asks
     after_node memo h =
         subst (λ (l : OracleLists). IsAsker l q among first memo asks) (sym (is_logged o o' (Node s) ontology budget appends)) (asker_logged o q among first memo asks asks (Node s) h may_take)
 
     is_after_node : first ≤ length o.log → lists_of o' q among first asks ≡ with_entry a (Node s) asks
     is_after_node le = ap (λ (l : OracleLists). lists_of l q among first asks) (is_logged o o' (Node s) ontology budget appends) ∙ lists_logged o q among first asks asks (Node s) le
-
-    pub node_later : first ≤ length o.log → IsLater a (lists_of o' q among first asks)
-    node_later le = record { more = Node s ∷ []; is_more = is_after_node le }
 
     node_left : (asker_meaning (with_entry a (Node s) asks)).left ≡ (asker_meaning a).left - 1
     node_left =
@@ -232,7 +244,93 @@ module _ (o : OracleLists) (q : Query) (among : Option Limited) (first asks : �
         let old : spent_of (a.before ++ a.gained) ≡ spent_of o.log = ap spent_of whole in
         omega (arith, same, old)
 
-    pub takes : first ≤ length o.log → Takes (asker_meaning a) (asker_meaning (lists_of o' q among first asks)) s true
-    takes le =
+    takes_one : first ≤ length o.log → Takes (asker_meaning a) (asker_meaning (lists_of o' q among first asks)) s true
+    takes_one le =
         let old : spent_of (a.before ++ a.gained) ≡ spent_of o.log = ap spent_of whole in
         subst (λ (l : AskerLists). Takes (asker_meaning a) (asker_meaning l) s true) (sym (is_after_node le)) ((λ e. absurd (omega (arith, old, some))), node_left, nodes_node a.gained s)
+
+  -- ---- a call that takes a node, or finds nothing left, or is refused memory
+
+  module _ (o' : OracleLists) (s : Limited) (memo : Memo) (h : IsAsker o q among first memo asks) (ontology : o'.ontology ≡ o.ontology) (budget : o'.budget ≡ o.budget) (is_set : IsAxiomSet o.ontology s) where
+    abbrev b : AskerLists
+    b = lists_of o' q among first asks
+
+    same_oracle : o'.log ≡ o.log → o' ≡ o
+    same_oracle e = λ i. record { ontology = ontology i; budget = budget i; log = e i }
+
+    same_asker : o'.log ≡ o.log → b ≡ a
+    same_asker e = ap (λ (l : OracleLists). lists_of l q among first asks) (same_oracle e)
+
+    asker_still : o'.log ≡ o.log → IsAsker o' q among first memo asks
+    asker_still e = subst (λ (l : OracleLists). IsAsker l q among first memo asks) (sym (same_oracle e)) h
+
+    pub after_take : (r : Result Bool NoMemory) → IfOk r (TakesNode o o' s) → OnErr r (o'.log ≡ o.log) → IsAsker o' q among first memo asks
+    after_take (Ok true) t e = after_node o' s h.is_log t.0 ontology budget t.1 is_set memo h
+    after_take (Ok false) t e = asker_still t.1
+    after_take (Err x) t e = asker_still e
+
+    pub logs_node : (r : Result Bool NoMemory) → IfOk r (TakesNode o o' s) → IfOk r (LogsNode a b s)
+    logs_node (Ok true) t = is_after_node o' s h.is_log t.0 ontology budget t.1 is_set h.first_within
+    logs_node (Ok false) t = same_asker t.1
+    logs_node (Err x) t = tt
+
+    pub logs_nothing : (r : Result Bool NoMemory) → OnErr r (o'.log ≡ o.log) → OnErr r (b ≡ a)
+    logs_nothing (Ok x) e = tt
+    logs_nothing (Err x) e = same_asker e
+
+    nothing_left_of : spent_of o.log ≡ o.budget → (asker_meaning a).left ≡ 0
+    nothing_left_of e = let old : spent_of (a.before ++ a.gained) ≡ spent_of o.log = ap spent_of whole in omega (arith, old, e)
+
+    pub takes_by : (r : Result Bool NoMemory) → IfOk r (TakesNode o o' s) → IfOk r (Takes (asker_meaning a) (asker_meaning b) s)
+    takes_by (Ok true) t = takes_one o' s h.is_log t.0 ontology budget t.1 is_set h.first_within
+    takes_by (Ok false) t = (nothing_left_of t.0, ap (λ (l : AskerLists). nodes_of l.gained) (same_asker t.1))
+    takes_by (Err x) t = tt
+
+-- ---- what such a call leaves as it is
+
+module _ (a b : AskerLists) (s : Limited) where
+  -- a test is among the entries with a node behind them just where it is among them
+  test_among : (log : List Entry) (t : Limited) (q : Query) (steps : ℕ) (d : TestEnd) → Contains (log ++ Node s ∷ []) (Test t q steps d) → Contains log (Test t q steps d)
+  test_among log t q steps d at = elim (Contains-push_cases log (Node s) (Test t q steps d) at) [ inl there ↦ there | inr is ↦ absurd (cc is) ]
+
+  yes_more : (log : List Entry) (j : NumberSet) → IsShownYes log a.query j → IsShownYes (log ++ Node s ∷ []) a.query j
+  yes_more log j h = record { tested = h.tested; steps = h.steps; enough = h.enough; is_yes = Contains-append_left log (Node s ∷ []) _ h.is_yes; is_set = h.is_set }
+
+  yes_fewer : (log : List Entry) (j : NumberSet) → IsShownYes (log ++ Node s ∷ []) a.query j → IsShownYes log a.query j
+  yes_fewer log j h = record { tested = h.tested; steps = h.steps; enough = h.enough; is_yes = test_among log h.tested a.query h.steps (E.Yes h.enough) h.is_yes; is_set = h.is_set }
+
+  no_more : (log : List Entry) (j : NumberSet) → IsShownNoIn log a.query a.local_part j → IsShownNoIn (log ++ Node s ∷ []) a.query a.local_part j
+  no_more log j h = record { tested = h.tested; steps = h.steps; is_no = Contains-append_left log (Node s ∷ []) _ h.is_no; has_part = h.has_part }
+
+  no_fewer : (log : List Entry) (j : NumberSet) → IsShownNoIn (log ++ Node s ∷ []) a.query a.local_part j → IsShownNoIn log a.query a.local_part j
+  no_fewer log j h = record { tested = h.tested; steps = h.steps; is_no = test_among log h.tested a.query h.steps E.No h.is_no; has_part = h.has_part }
+
+  shows_still : b ≡ a → ShowsTheSame (asker_meaning a) (asker_meaning b)
+  shows_still e = subst (λ (x : AskerLists). ShowsTheSame (asker_meaning a) (asker_meaning x)) (sym e) (record { same_yes = λ j. (λ y. y, λ y. y); same_no = λ j. (λ n. n, λ n. n) })
+
+  nothing_later : b ≡ a → IsLater a b
+  nothing_later e =
+      let none : a.gained ≡ a.gained ++ [] = sym (append-nil a.gained) in
+      record { more = []; is_more = λ i. record { ontology = (e i).ontology; query = (e i).query; budget = (e i).budget; local_part = (e i).local_part; before = (e i).before; gained = (ap (λ (x : AskerLists). x.gained) e ∙ none) i; asks = b.asks } }
+
+  pub later_by : (r : Result Bool NoMemory) → IfOk r (LogsNode a b s) → OnErr r (b ≡ a) → IsLater a b
+  later_by (Ok true) l e = record { more = Node s ∷ []; is_more = l ∙ ap (λ (n : ℕ). with_entry a (Node s) n) (sym (ap (λ (x : AskerLists). x.asks) l)) }
+  later_by (Ok false) l e = nothing_later l
+  later_by (Err x) l e = nothing_later e
+
+  pub shows_by : (r : Result Bool NoMemory) → IfOk r (LogsNode a b s) → OnErr r (b ≡ a) → ShowsTheSame (asker_meaning a) (asker_meaning b)
+  shows_by (Ok true) l e = subst (λ (x : AskerLists). ShowsTheSame (asker_meaning a) (asker_meaning x)) (sym l) (record {
+    same_yes = λ j. (λ y. yes_more a.gained j y, λ y. yes_fewer a.gained j y);
+    same_no = λ j. (λ n. no_more a.gained j n, λ n. no_fewer a.gained j n);
+  })
+  shows_by (Ok false) l e = shows_still l
+  shows_by (Err x) l e = shows_still e
+
+  pub origin_by : (r : Result Bool NoMemory) → IfOk r (LogsNode a b s) → OnErr r (b ≡ a) → origin_of b ≡ origin_of a
+  origin_by (Ok true) l e = ap origin_of l
+  origin_by (Ok false) l e = ap origin_of l
+  origin_by (Err x) l e = ap origin_of e
+
+  pub refused_by : (r : Result Bool NoMemory) → OnErr r (b ≡ a) → OnErr r (nodes_of b.gained ≡ nodes_of a.gained)
+  refused_by (Ok x) e = tt
+  refused_by (Err x) e = ap (λ (l : AskerLists). nodes_of l.gained) e

@@ -14,8 +14,8 @@ use Rattle.set_questions.specs.declared.entail.Reply.TheVariants.{Yes, No, Spent
 use Rattle.run_log.specs.declared.entry.Entry.{Entry}
 use Rattle.run_log.specs.Entries.{IsAnswered}
 use Rattle.shq_oracle.specs.OracleLists.{OracleLists}
-use Rattle.shq_oracle.specs.declared.answer.Answer.{Answer}
-use Rattle.shq_oracle.specs.declared.answer.Answer.TheVariants as Answered
+use Rattle.shq_oracle.specs.declared.answer.Outcome.{Outcome}
+use Rattle.shq_oracle.specs.declared.answer.Outcome.TheVariants as Found
 use Rattle.query_asker.specs.declared.memo.Memo.{Memo}
 use Rattle.query_asker.specs.AskerLists.{AskerLists}
 use Rattle.query_asker.specs.Told.{KeepsAnswers, AreTestsOfOthers, asker_meaning, IsAskerLog}
@@ -58,24 +58,20 @@ pub record IsLocalPart (a : AskerLists) (s p : Limited) : Type 0 where
   pub members : p.members ≡ set.intersection s.members a.local_part
   pub keeps : FollowsFrom a.ontology.axioms a.query s.members → FollowsFrom a.ontology.axioms a.query p.members
 
--- the answer of the log, where it has one
+-- the answer of the log, where it has one: a yes or a no
 abbrev pub IsRecalled : AskerLists → Limited → Option Reply → Type 0
 IsRecalled a s None = ¬ IsAnswered a.gained s a.query
-IsRecalled a s (Some answer) = Answers (asker_meaning a) s answer
+IsRecalled a s (Some (Yes u)) = Answers (asker_meaning a) s (Yes u)
+IsRecalled a s (Some No) = Answers (asker_meaning a) s No
+IsRecalled a s (Some Spent) = ⊥
 
 -- some entries more, and perhaps another count of asks
 pub record IsLater (old new : AskerLists) : Type 0 where
   pub more : List Entry
   pub is_more : new ≡ record old { gained = old.gained ++ more; asks = new.asks }
 
--- what a refutation names are numbers up to the limit
-abbrev pub HasLimit : ℕ → Answer → Type 0
-HasLimit n (Answered.Entailed r) = r.axioms.limit ≡ n
-HasLimit n a = Unit {0}
-
--- the answer about a set of axioms that an oracle's answer is
-abbrev pub Hands : Answer → Reply → Type 0
-Hands (Answered.Entailed r) (Yes u) = u ≡ r.axioms
-Hands (Answered.NotEntailed m) No = Unit {0}
-Hands Answered.Undecided Spent = Unit {0}
-Hands a b = ⊥
+-- what the outcome of a test says of the set
+abbrev pub reply_of : Outcome → Reply
+reply_of (Found.Yes u) = Yes u
+reply_of Found.No = No
+reply_of Found.Undecided = Spent

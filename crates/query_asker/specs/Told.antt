@@ -1,5 +1,5 @@
 -- What an asker means, and what its part of the log is.
-use Rattle.std.specs.Prelude.{◌≡◌, ◌⊎◌, ◌↔◌, ℕ, ◌-◌, ◌^◌, ◌≤◌, true, List, ◌++◌, length, All, Contains}
+use Rattle.std.specs.Prelude.{◌≡◌, ◌⊎◌, ◌↔◌, ℕ, ◌-◌, ◌^◌, ◌≤◌, Bool, true, false, List, [], ◌∷◌, ◌++◌, length, All, Contains}
 use Rattle.std.specs.FinSet as set
 use Rattle.lane_sieve.specs.Sets.{NumberSet}
 use Rattle.axiom_sets.specs.Sets.{Limited}
@@ -7,12 +7,14 @@ use Rattle.pinpointing_specs.specs.Smallest.{Grows}
 use Rattle.shq_terms.specs.declared.axioms.Numbered.{Numbered}
 use Rattle.shq_terms.specs.declared.axioms.Query.{Query}
 use Rattle.set_questions.specs.Meaning.{Meaning}
+use Rattle.set_questions.specs.declared.entail.Reply.{Reply}
+use Rattle.set_questions.specs.declared.entail.Reply.TheVariants.{Yes, No as NoReply, Spent}
 use Rattle.pinpointing_specs.specs.LocalModule.{FollowsFrom, IsLocalModule}
 use Rattle.pinpointing_specs.proofs.Kept.{grows}
 use Rattle.run_log.specs.declared.entry.Entry.{Entry}
 use Rattle.run_log.specs.declared.entry.Entry.TheVariants.{Test, Node}
 use Rattle.run_log.specs.declared.entry.TestEnd.TheVariants.{No}
-use Rattle.run_log.specs.Entries.{spent_of, nodes_of, test_count}
+use Rattle.run_log.specs.Entries.{spent_of, nodes_of, test_count, IsAnswered}
 use Rattle.run_log.specs.HonestLog.{EachIsHonest, EndsWhenSpent, AreTestsOf, AsksNoAnswer, IsTestIn}
 use Rattle.run_log.specs.Shown.{IsShownYes}
 use Rattle.query_asker.specs.AskerLists.{AskerLists}
@@ -65,3 +67,20 @@ pub record IsAskerLog (a : AskerLists) : Type 0 where
   pub in_module : All (IsTestIn a.local_part) a.gained
   -- there are no more tests than asks, of which so many at least are counted as fit 64 bits
   pub few : (test_count a.gained ≤ a.asks) ⊎ (a.asks ≡ 2 ^ 64 - 1)
+
+-- ---- calls
+
+-- of the set those axioms among which it asks
+abbrev pub part_in : AskerLists → Limited → Limited
+part_in a s = record { limit = s.limit; members = set.intersection s.members a.local_part }
+
+-- want of budget is answered only where no entry of the log answers
+abbrev pub IsUnknown : AskerLists → Limited → Reply → Type 0
+IsUnknown a s (Yes u) = Unit {0}
+IsUnknown a s NoReply = Unit {0}
+IsUnknown a s Spent = ¬ IsAnswered a.gained s a.query
+
+-- just the node was logged, or nothing has changed
+abbrev pub LogsNode : AskerLists → AskerLists → Limited → Bool → Type 0
+LogsNode old new node true = new ≡ record old { gained = old.gained ++ Node node ∷ [] }
+LogsNode old new node false = new ≡ old

@@ -1,21 +1,23 @@
 // An object that answers for one query.
 ghost use Rattle.std.specs.Prelude.{◌≡◌, [], ◌++◌, false, length, IfOk, IfSome, OnOk, OnErr};
-ghost use Rattle.std.specs.List.{list_any};
+ghost use Rattle.std.specs.List.{list_any, Contains};
 ghost use Rattle.std.specs.FinSet as set;
 ghost use Rattle.lane_sieve.specs.Sets.{IsPart};
 ghost use Rattle.pinpointing_specs.specs.Smallest.{numbers_to};
 ghost use Rattle.ontology_limits.specs.Limits.{IsInLimit};
-ghost use Rattle.set_questions.specs.Asked.{Answers};
-ghost use Rattle.set_questions.specs.Meaning.{one_more};
+ghost use Rattle.set_questions.specs.Asked.{Answers, Takes};
+ghost use Rattle.set_questions.specs.Meaning.{Keeps, ShowsTheSame, one_more};
 ghost use Rattle.run_log.specs.Entries.{is_spent, nodes_of, IsAnswered};
+ghost use Rattle.query_asker.specs.AskerLists.{origin_of};
 ghost use Rattle.query_asker.specs.Told.{KeepsAnswers, AreTestsOfOthers, asker_meaning, IsAskerLog};
-ghost use Rattle.query_asker.specs.Asking.{part_of, IsPartIn, IsLocalPart, IsRecalled, IsLater, HasLimit, Hands};
+ghost use Rattle.query_asker.specs.Told.{part_in, IsUnknown, LogsNode};
+ghost use Rattle.query_asker.specs.Asking.{part_of, IsPartIn, IsLocalPart, IsRecalled, IsLater, reply_of};
 
 use crate::NoMemory;
 use crate::memo::Memo;
 use axiom_sets::AxiomSet;
 use set_questions::{Entail, Reply};
-use shq_oracle::{Answer, Oracle};
+use shq_oracle::{Oracle, Outcome};
 use shq_terms::Query;
 use std::alloc::Global;
 use std::marker::Model;
@@ -174,42 +176,37 @@ impl<'a> Asker<'a> {
         self.asks = self.asks.saturating_add(1);
     }
 
-    // Lets the oracle decide about a set of which the log says nothing. Once it has decided, no memory is taken.
+    // Lets the oracle test a set of which the log says nothing. Once it has, no memory is taken.
     fn test(&mut self, part: &AxiomSet) -> Result<Reply, NoMemory>
         requires limit { part.now.limit ≡ length self.old.ontology.axioms }
         requires local_part { IsPart part.now.members self.old.local_part }
         requires is_new { ¬ IsAnswered self.old.gained part.now self.old.query }
         ensures answer { IfOk result (Answers (asker_meaning self.new) part.now) }
+        ensures unknown { IfOk result (IsUnknown self.new part.now) }
         ensures later { IsLater self.old self.new }
         ensures nodes { nodes_of self.new.gained ≡ nodes_of self.old.gained }
         ensures counted { OnOk result (self.new.asks ≡ one_more self.old.asks) }
         ensures uncounted { OnErr result (self.new.asks ≡ self.old.asks) }
     {
-        let room = AxiomSet::empty(self.alloc, part.limit())?;
         let counted = self.asks.saturating_add(1);
         if self.oracle.left() == 0 {
             self.asks = counted;
             return Ok(Reply::Spent);
         }
-        let answer = self.oracle.decide(part, self.query)?;
+        let outcome = self.oracle.test(part, self.query)?;
         self.asks = counted;
-        Ok(told(answer, room))
+        Ok(reply_to(outcome))
     }
 }
 
-// What an answer tells of the set, where the axioms that a refutation names are put into an empty set.
-fn told(answer: Answer, mut room: AxiomSet) -> Reply
-    requires limit { HasLimit room.limit answer }
-    requires room { room.members ≡ set.empty }
-    ensures { Hands answer result }
+// What the outcome of a test says of the set.
+fn reply_to(outcome: Outcome) -> Reply
+    ensures { result ≡ reply_of outcome }
 {
-    match answer {
-        Answer::Entailed(refutation) => {
-            room.put_all(refutation.axioms_used());
-            Reply::Yes(room)
-        }
-        Answer::NotEntailed(_) => Reply::No,
-        Answer::Undecided => Reply::Spent,
+    match outcome {
+        Outcome::Yes(found) => Reply::Yes(found),
+        Outcome::No => Reply::No,
+        Outcome::Undecided => Reply::Spent,
     }
 }
 
@@ -254,11 +251,20 @@ impl<'a> Entail for Asker<'a> {
     }
 
     /// Asks whether the query follows from the set: first the log, and then, where it has no answer and something of the budget is
-    /// left, the oracle.
+    /// left, the oracle. Where nothing is left, too, the log is asked first.
     ///
     /// # Errors
     /// Memory may be refused. The log is as before then.
-    fn ask(&mut self, set: &AxiomSet) -> Result<Reply, NoMemory> {
+    fn ask(&mut self, set: &AxiomSet) -> Result<Reply, NoMemory>
+        requires { set.now.limit ≡ (asker_meaning self.old).size }
+        ensures answer { IfOk result (Answers (asker_meaning self.new) set.now) }
+        ensures unknown { IfOk result (IsUnknown self.new (part_in self.new set.now)) }
+        ensures keeps { Keeps (asker_meaning self.old) (asker_meaning self.new) }
+        ensures counted { OnOk result ((asker_meaning self.new).asks ≡ one_more (asker_meaning self.old).asks) }
+        ensures uncounted { OnErr result ((asker_meaning self.new).asks ≡ (asker_meaning self.old).asks) }
+        ensures taken { (asker_meaning self.new).taken ≡ (asker_meaning self.old).taken }
+        ensures same { origin_of self.new ≡ origin_of self.old }
+    {
         let part = self.local_part(set)?;
         if let Some(known) = self.recall(&part)? {
             self.count_ask();
@@ -267,16 +273,23 @@ impl<'a> Entail for Asker<'a> {
         self.test(&part)
     }
 
-    /// Takes one unit of the budget for a node, where one is left.
+    /// Takes one unit of the budget for a node, where one is left, and logs just the node.
     ///
     /// # Errors
     /// Memory may be refused. The log is as before then.
-    fn take_node(&mut self, hit: &AxiomSet) -> Result<bool, NoMemory> {
-        if self.oracle.left() == 0 {
-            return Ok(false);
-        }
+    fn take_node(&mut self, hit: &AxiomSet) -> Result<bool, NoMemory>
+        requires limit { hit.now.limit ≡ (asker_meaning self.old).size }
+        requires fresh { ¬ Contains (asker_meaning self.old).taken hit.now }
+        ensures logged { IfOk result (LogsNode self.old self.new hit.now) }
+        ensures unlogged { OnErr result (self.new ≡ self.old) }
+        ensures answer { IfOk result (Takes (asker_meaning self.old) (asker_meaning self.new) hit.now) }
+        ensures refused { OnErr result ((asker_meaning self.new).taken ≡ (asker_meaning self.old).taken) }
+        ensures keeps { Keeps (asker_meaning self.old) (asker_meaning self.new) }
+        ensures shown { ShowsTheSame (asker_meaning self.old) (asker_meaning self.new) }
+        ensures asks { (asker_meaning self.new).asks ≡ (asker_meaning self.old).asks }
+        ensures same { origin_of self.new ≡ origin_of self.old }
+    {
         let _limit = hit.limit();
-        self.oracle.take_node(hit)?;
-        Ok(true)
+        self.oracle.take_node(hit)
     }
 }

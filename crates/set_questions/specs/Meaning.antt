@@ -26,6 +26,11 @@ pub record Keeps (m m' : Meaning) : Type 0 where
   pub keeps_yes : (s : NumberSet) → m.shown_yes s → m'.shown_yes s
   pub keeps_no : (s : NumberSet) → m.shown_no s → m'.shown_no s
 
+-- just the same sets were shown
+pub record ShowsTheSame (m m' : Meaning) : Type 0 where
+  pub same_yes : (s : NumberSet) → m.shown_yes s ↔ m'.shown_yes s
+  pub same_no : (s : NumberSet) → m.shown_no s ↔ m'.shown_no s
+
 -- a count that is one higher, or stands at its greatest value
 abbrev pub one_more : ℕ → ℕ
 one_more n = min (n + 1) (2 ^ 64 - 1)

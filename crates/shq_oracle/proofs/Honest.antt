@@ -15,11 +15,14 @@ use Rattle.tableau.specs.Steps.{IsAtModel, IsAtRefutation, IsEnd}
 use Rattle.run_log.specs.Trails.{TrailLists}
 use Rattle.run_log.specs.HonestLog.{IsAxiomSet, FollowsIn, IsHonestYes, IsHonestNo, GoesOn}
 use Rattle.run_log.proofs.Named.{more}
+use Rattle.run_log.specs.declared.entry.TestEnd.{TestEnd}
 use Rattle.run_log.specs.declared.entry.TestEnd.TheVariants as E
 use Rattle.tableau.specs.RuleLists.{RuleLists}
-use Rattle.shq_oracle.specs.declared.answer.Answer.TheVariants as Answered
+use Rattle.shq_oracle.specs.declared.answer.Outcome.{Outcome}
+use Rattle.shq_oracle.specs.declared.answer.Outcome.TheVariants.{Yes, No, Undecided}
 use Rattle.shq_oracle.specs.declared.found.Found.{Found}
-use Rattle.shq_oracle.specs.Decided.{IsProof, IsFound, IsFoundBy, MayGoOn, HasEnded}
+use Rattle.shq_oracle.specs.declared.tested.Tested.{Tested}
+use Rattle.shq_oracle.specs.Decided.{IsProof, IsFound, IsFoundBy, IsTested, IsTestedBy, EndsTest, MayGoOn, HasEnded}
 
 -- one item more
 pub taken_one : {X : Type 0} (xs : List X) (n : ℕ) (x : X) → slice_get xs n ≡ Some x → take (n + 1) xs ≡ take n xs ++ x ∷ []
@@ -54,42 +57,59 @@ module _ (s : SearchState) (reached : IsReachedBy s) where
       }
 
   pub is_proof : (r : RefutationLists) → IsAtRefutation r s → IsProof s.rules.ontology s.rules.set s.query r
-  is_proof r c = record { named = c.refutes.named; refutes = c.refutes.refutes; writable = c.refutes.writable }
+  is_proof r c = record { named = c.refutes.named; standing = c.refutes.standing; refutes = c.refutes.refutes; writable = c.refutes.writable }
 
   -- a search that went on until its fuel was spent has one more step
   pub honest_spent : MayGoOn s → GoesOn s.rules.ontology s.rules.set s.query s.steps (record { items = trail_of s; table = s.rules.table })
   honest_spent h = record { rows = (context_of s).rows; reached = reached; next = h.0; is_legal = h.1 }
 
-  pub found_yes : (r : RefutationLists) → IsAxiomSet s.rules.ontology s.rules.set → IsAtRefutation r s → (u : Limited) → u ≡ r.axioms → (k : ℕ) → k ≡ s.steps
-      → (fuel : ℕ) → s.steps ≤ fuel → IsFoundBy s fuel (record { answer = Answered.Entailed r; steps = k; ended = E.Yes u })
-  found_yes r is_set c u e k f fuel le =
+  -- how a test ends by such a search, and that its steps are counted
+  abbrev pub EndsSo : ℕ → Outcome → ℕ → TestEnd → Type 0
+  EndsSo fuel v steps ended = EndsTest s.rules.ontology s.rules.set s.query fuel v steps ended
+
+  pub ends_yes : (r : RefutationLists) → IsAxiomSet s.rules.ontology s.rules.set → IsAtRefutation r s → (v u : Limited) → v ≡ r.axioms → u ≡ r.axioms → (k : ℕ) → k ≡ s.steps
+      → (fuel : ℕ) → s.steps ≤ fuel → EndsSo fuel (Yes v) k (E.Yes u)
+  ends_yes r is_set c v u d e k f fuel le =
       let honest : IsHonestYes s.rules.ontology s.rules.set s.query k r.axioms = subst (λ (n : ℕ). IsHonestYes s.rules.ontology s.rules.set s.query n r.axioms) (sym f) (honest_yes r is_set c) in
       record {
-        answer = is_proof r c;
-        matches = e;
-        honest = subst (λ (v : Limited). IsHonestYes s.rules.ontology s.rules.set s.query k v) (sym e) honest;
+        matches = e ∙ sym d;
+        honest = subst (λ (w : Limited). IsHonestYes s.rules.ontology s.rules.set s.query k w) (sym e) honest;
         fueled = omega (arith, f, le);
       }
 
-  pub found_spent : MayGoOn s → (t : TrailLists) → t ≡ record { items = trail_of s; table = s.rules.table } → (k : ℕ) → k ≡ s.steps
-      → (fuel : ℕ) → s.steps ≡ fuel → IsFoundBy s fuel (record { answer = Answered.Undecided; steps = k; ended = E.Spent t })
-  found_spent h t e k f fuel whole =
+  pub ends_no : IsInLimit s.rules.ontology s.query → IsAtModel s → (k : ℕ) → k ≡ s.steps → (fuel : ℕ) → s.steps ≤ fuel → EndsSo fuel No k E.No
+  ends_no limit m k f fuel le = record {
+    matches = tt;
+    honest = subst (λ (n : ℕ). IsHonestNo s.rules.ontology s.rules.set s.query n) (sym f) (honest_no limit m);
+    fueled = omega (arith, f, le);
+  }
+
+  pub ends_spent : MayGoOn s → (t : TrailLists) → t ≡ record { items = trail_of s; table = s.rules.table } → (k : ℕ) → k ≡ s.steps → (fuel : ℕ) → s.steps ≡ fuel
+      → EndsSo fuel Undecided k (E.Spent t)
+  ends_spent h t e k f fuel whole =
       let honest : GoesOn s.rules.ontology s.rules.set s.query k (record { items = trail_of s; table = s.rules.table }) =
       subst (λ (n : ℕ). GoesOn s.rules.ontology s.rules.set s.query n (record { items = trail_of s; table = s.rules.table })) (sym f) (honest_spent h) in
       record {
-        answer = tt;
         matches = tt;
         honest = subst (λ (v : TrailLists). GoesOn s.rules.ontology s.rules.set s.query k v) (sym e) honest;
         fueled = f ∙ whole;
       }
 
--- what is found by a search is found for its rules and its query
+-- ---- for the rules and the query of the search
+
 pub moved : (s : SearchState) (r : RuleLists) (q : Query) (fuel : ℕ) → s.rules ≡ r → s.query ≡ q
     → (found : Result Found NoMemory) → IfOk found (IsFoundBy s fuel) → IfOk found (IsFound r.ontology r.set q fuel)
 moved s r q fuel er eq (Ok f) h =
     let m : IsFound r.ontology r.set s.query fuel f = subst (λ (v : RuleLists). IsFound v.ontology v.set s.query fuel f) er h in
     subst (λ (v : Query). IsFound r.ontology r.set v fuel f) eq m
 moved s r q fuel er eq (Err e) h = tt
+
+pub tested_moved : (s : SearchState) (r : RuleLists) (q : Query) (fuel : ℕ) → s.rules ≡ r → s.query ≡ q
+    → (tested : Result Tested NoMemory) → IfOk tested (IsTestedBy s fuel) → IfOk tested (IsTested r.ontology r.set q fuel)
+tested_moved s r q fuel er eq (Ok t) h =
+    let m : IsTested r.ontology r.set s.query fuel t = subst (λ (v : RuleLists). IsTested v.ontology v.set s.query fuel t) er h in
+    subst (λ (v : Query). IsTested r.ontology r.set v fuel t) eq m
+tested_moved s r q fuel er eq (Err e) h = tt
 
 -- how a search ended that began with no steps
 pub has_ended : (fuel : ℕ) (old new : SearchState) (e : End) → old.steps ≡ 0 → IsEnd fuel old new e → HasEnded fuel new e
@@ -98,11 +118,11 @@ has_ended fuel old new (Closed r) zero_steps (runs, at) = at
 has_ended fuel old new OutOfFuel zero_steps (runs, spent) = (omega (arith, zero_steps, spent.counted), (spent.next, spent.is_legal))
 
 -- with so much fuel at least, or just so much
-pub within_fuel : (s : SearchState) (fuel : ℕ) → s.steps ≤ fuel → (found : Result Found NoMemory) → IfOk found (λ f. (n : ℕ) → s.steps ≤ n → IsFoundBy s n f) → IfOk found (IsFoundBy s fuel)
-within_fuel s fuel le (Ok f) h = h fuel le
-within_fuel s fuel le (Err e) h = tt
+pub within_fuel : {F : Type 0} (P : ℕ → F → Type 0) (steps fuel : ℕ) → steps ≤ fuel → (found : Result F NoMemory) → IfOk found (λ f. (n : ℕ) → steps ≤ n → P n f) → IfOk found (P fuel)
+within_fuel P steps fuel le (Ok f) h = h fuel le
+within_fuel P steps fuel le (Err e) h = tt
 
-pub whole_fuel : (s : SearchState) (fuel : ℕ) (e : End) → e ≡ OutOfFuel → HasEnded fuel s e → (found : Result Found NoMemory) → IfOk found (λ f. (n : ℕ) → s.steps ≡ n → IsFoundBy s n f)
-    → IfOk found (IsFoundBy s fuel)
-whole_fuel s fuel e is ended (Ok f) h = let k : HasEnded fuel s OutOfFuel = subst (HasEnded fuel s) is ended in h fuel k.0
-whole_fuel s fuel e is ended (Err n) h = tt
+pub whole_fuel : {F : Type 0} (P : ℕ → F → Type 0) (s : SearchState) (fuel : ℕ) (e : End) → e ≡ OutOfFuel → HasEnded fuel s e → (found : Result F NoMemory) → IfOk found (λ f. (n : ℕ) → s.steps ≡ n → P n f)
+    → IfOk found (P fuel)
+whole_fuel P s fuel e is ended (Ok f) h = let k : HasEnded fuel s OutOfFuel = subst (HasEnded fuel s) is ended in h fuel k.0
+whole_fuel P s fuel e is ended (Err n) h = tt

@@ -1,10 +1,11 @@
 -- What the answer to a question is, and what the log says of it.
-use Rattle.std.specs.Prelude.{◌≡◌, ℕ, ◌≤◌, IsTrue, List, [], ◌∷◌, ◌++◌}
+use Rattle.std.specs.Prelude.{◌≡◌, ℕ, ◌≤◌, ◌<◌, Bool, true, false, IsTrue, List, [], ◌∷◌, ◌++◌}
 use Rattle.lane_sieve.specs.Sets.{IsPart}
 use Rattle.axiom_sets.specs.Sets.{Limited, member_list}
 use Rattle.shq_terms.specs.Listed.{Listed}
 use Rattle.shq_terms.specs.declared.axioms.Query.{Query}
 use Rattle.calculus_specs.specs.Valid.{IsRefutation}
+use Rattle.closed_search.specs.Named.{NamesAxioms}
 use Rattle.refutation_tree.specs.RefutationLists.{RefutationLists}
 use Rattle.refutation_tree.specs.ReadBack.{IsWritable}
 use Rattle.finite_model.specs.ModelLists.{ModelLists, meaning}
@@ -17,19 +18,24 @@ use Rattle.tableau.specs.declared.search.End.TheVariants.{Saturated, Closed, Spe
 use Rattle.tableau.specs.SearchState.{SearchState, context_of, trail_of}
 use Rattle.tableau.specs.Steps.{IsAtModel, IsAtRefutation}
 use Rattle.run_log.specs.declared.entry.Entry.{Entry}
-use Rattle.run_log.specs.declared.entry.Entry.TheVariants.{Test}
+use Rattle.run_log.specs.declared.entry.Entry.TheVariants.{Test, Node}
 use Rattle.run_log.specs.declared.entry.TestEnd.{TestEnd}
 use Rattle.run_log.specs.declared.entry.TestEnd.TheVariants as E
 use Rattle.run_log.specs.Entries.{spent_of}
 use Rattle.run_log.specs.HonestLog.{theory_in, IsHonestEnd, IsHonestEntry}
 use Rattle.shq_oracle.specs.declared.answer.Answer.{Answer}
 use Rattle.shq_oracle.specs.declared.answer.Answer.TheVariants as Answered
+use Rattle.shq_oracle.specs.declared.answer.Outcome.{Outcome}
+use Rattle.shq_oracle.specs.declared.answer.Outcome.TheVariants.{Yes, No, Undecided}
 use Rattle.shq_oracle.specs.declared.found.Found.{Found}
+use Rattle.shq_oracle.specs.declared.tested.Tested.{Tested}
 use Rattle.shq_oracle.specs.OracleLists.{OracleLists}
 
--- a refutation of the query over axioms of the set, which it names: it can be written
+-- a refutation of the query over axioms of the set, which it names, and which can be written; of the set it names the role
+-- axioms, and those others alone that stand in its lines
 pub record IsProof (o : Listed) (s : Limited) (q : Query) (r : RefutationLists) : Type 0 where
   pub named : IsPart r.axioms.members s.members
+  pub standing : NamesAxioms o.axioms s r.lines r.axioms
   pub refutes : IsRefutation (theory_in o r.axioms) q.sub q.sup r.shapes r.lines
   pub writable : IsWritable o r
 
@@ -44,43 +50,86 @@ IsAnswer o s q (Answered.Entailed r) = IsProof o s q r
 IsAnswer o s q (Answered.NotEntailed m) = IsRefuting o s q m
 IsAnswer o s q Answered.Undecided = Unit {0}
 
+-- an answer without its evidence
+abbrev pub outcome_of : Answer → Outcome
+outcome_of (Answered.Entailed r) = Yes r.axioms
+outcome_of (Answered.NotEntailed m) = No
+outcome_of Answered.Undecided = Undecided
+
+-- the axioms of a yes are those that some refutation names
+abbrev pub IsOutcome : Listed → Limited → Query → Outcome → Type 0
+IsOutcome o s q (Yes u) = (r : RefutationLists) × IsProof o s q r × (u ≡ r.axioms)
+IsOutcome o s q No = Unit {0}
+IsOutcome o s q Undecided = Unit {0}
+
+-- the end of a test has the outcome; a yes has its axioms
+abbrev pub EndsAs : Outcome → TestEnd → Type 0
+EndsAs (Yes v) (E.Yes u) = u ≡ v
+EndsAs No E.No = Unit {0}
+EndsAs Undecided (E.Spent t) = Unit {0}
+EndsAs v e = ⊥
+
 -- the end of a test is that of its answer; a yes has the axioms that the refutation names
 abbrev pub Matches : Answer → TestEnd → Type 0
-Matches (Answered.Entailed r) (E.Yes u) = u ≡ r.axioms
-Matches (Answered.NotEntailed m) E.No = Unit {0}
-Matches Answered.Undecided (E.Spent t) = Unit {0}
-Matches a e = ⊥
+Matches a e = EndsAs (outcome_of a) e
 
--- one entry more: an honest test of the set and the query, which ended as it was answered
-pub record AppendsTest (o : Listed) (s : Limited) (q : Query) (before after : List Entry) (a : Answer) : Type 0 where
+-- one entry more: an honest test of the set and the query, which ended with the outcome
+pub record AddsTest (o : Listed) (s : Limited) (q : Query) (before after : List Entry) (v : Outcome) : Type 0 where
   pub steps : ℕ
   pub ended : TestEnd
   pub is_log : after ≡ before ++ Test s q steps ended ∷ []
-  pub matches : Matches a ended
+  pub matches : EndsAs v ended
   pub honest : IsHonestEntry o (Test s q steps ended)
+
+-- the same, which ended as it was answered
+abbrev pub AppendsTest : Listed → Limited → Query → List Entry → List Entry → Answer → Type 0
+AppendsTest o s q before after a = AddsTest o s q before after (outcome_of a)
+
+-- where the budget is the outcome, nothing of it is left
+abbrev pub SpendsAll : OracleLists → Outcome → Type 0
+SpendsAll l (Yes u) = Unit {0}
+SpendsAll l No = Unit {0}
+SpendsAll l Undecided = spent_of l.log ≡ l.budget
 
 -- where the budget is the answer, nothing of it is left
 abbrev pub LeavesNothing : OracleLists → Answer → Type 0
-LeavesNothing l Answered.Undecided = spent_of l.log ≡ l.budget
-LeavesNothing l _ = Unit {0}
+LeavesNothing l a = SpendsAll l (outcome_of a)
+
+-- a node was logged by one unit of the budget, or nothing was left and nothing has changed
+abbrev pub TakesNode : OracleLists → OracleLists → Limited → Bool → Type 0
+TakesNode old new node true = (spent_of old.log < old.budget) × (new.log ≡ old.log ++ Node node ∷ [])
+TakesNode old new node false = (spent_of old.log ≡ old.budget) × (new.log ≡ old.log)
 
 -- ---- one search
 
--- whether so many steps are those that such an answer may take, of as many as there are
-abbrev pub IsFueled : ℕ → ℕ → Answer → Type 0
-IsFueled fuel steps Answered.Undecided = steps ≡ fuel
-IsFueled fuel steps _ = steps ≤ fuel
+-- whether so many steps are those that such an outcome may take, of as many as there are
+abbrev pub IsFueled : ℕ → ℕ → Outcome → Type 0
+IsFueled fuel steps (Yes u) = steps ≤ fuel
+IsFueled fuel steps No = steps ≤ fuel
+IsFueled fuel steps Undecided = steps ≡ fuel
+
+-- a search with so much fuel ended a test of the set and the query so, by so many steps
+pub record EndsTest (o : Listed) (s : Limited) (q : Query) (fuel : ℕ) (v : Outcome) (steps : ℕ) (ended : TestEnd) : Type 0 where
+  pub matches : EndsAs v ended
+  pub honest : IsHonestEnd o s q steps ended
+  pub fueled : IsFueled fuel steps v
 
 -- what a search finds, with so much fuel
 pub record IsFound (o : Listed) (s : Limited) (q : Query) (fuel : ℕ) (f : Found) : Type 0 where
   pub answer : IsAnswer o s q f.answer
-  pub matches : Matches f.answer f.ended
-  pub honest : IsHonestEnd o s q f.steps f.ended
-  pub fueled : IsFueled fuel f.steps f.answer
+  pub test : EndsTest o s q fuel (outcome_of f.answer) f.steps f.ended
+
+-- what the outcome of a search is, with so much fuel
+pub record IsTested (o : Listed) (s : Limited) (q : Query) (fuel : ℕ) (t : Tested) : Type 0 where
+  pub outcome : IsOutcome o s q t.outcome
+  pub test : EndsTest o s q fuel t.outcome t.steps t.ended
 
 -- the same of a search, with its rules and its query
 abbrev pub IsFoundBy : SearchState → ℕ → Found → Type 0
 IsFoundBy s fuel f = IsFound s.rules.ontology s.rules.set s.query fuel f
+
+abbrev pub IsTestedBy : SearchState → ℕ → Tested → Type 0
+IsTestedBy s fuel t = IsTested s.rules.ontology s.rules.set s.query fuel t
 
 -- one more step of the search is legal
 abbrev pub MayGoOn : SearchState → Type 0

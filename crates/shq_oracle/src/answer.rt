@@ -1,5 +1,6 @@
 // What a question is answered.
 
+use axiom_sets::AxiomSet;
 use finite_model::Interp;
 use refutation_tree::Refutation;
 
@@ -10,6 +11,17 @@ pub enum Answer {
     Entailed(Refutation),
     /// It does not follow: this interpretation meets the axioms, and has such an element.
     NotEntailed(Interp),
+    /// The budget was spent.
+    Undecided,
+}
+
+/// Whether a query follows from a set of axioms, without evidence.
+#[derive(Drop)]
+pub enum Outcome {
+    /// It follows, from these axioms of the set.
+    Yes(AxiomSet),
+    /// It does not follow.
+    No,
     /// The budget was spent.
     Undecided,
 }

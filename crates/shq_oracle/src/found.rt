@@ -3,6 +3,7 @@ ghost use Rattle.std.specs.Prelude.{◌≡◌, ◌≤◌, ℕ, false, IfOk};
 ghost use Rattle.ontology_limits.specs.Limits.{IsInLimit};
 ghost use Rattle.completion_tree.specs.Trail.{items_of};
 ghost use Rattle.tableau.specs.RuleLists.{AreNumbersOf};
+ghost use Rattle.tableau.specs.SearchState.{trail_of};
 ghost use Rattle.tableau.specs.Steps.{IsAtModel, IsAtRefutation};
 ghost use Rattle.run_log.specs.HonestLog.{IsAxiomSet};
 ghost use Rattle.shq_oracle.specs.Decided.{IsFound, IsFoundBy, MayGoOn, HasEnded};
@@ -134,13 +135,23 @@ fn with_trail<A: Allocator + Copy>(alloc: Global, search: &Search<'_, A>) -> Res
     ensures { IfOk result (λ f. (fuel : ℕ) → search.now.steps ≡ fuel → IsFoundBy search.now fuel f) }
 {
     let steps = search.steps();
-    let items = items(alloc, search.tree())?;
-    let trail = KeptTrail::new(alloc, items, search.rules().concepts())?;
+    let trail = kept_trail(alloc, search)?;
     Ok(Found {
         answer: Answer::Undecided,
         steps,
         ended: TestEnd::Spent(trail),
     })
+}
+
+/// The trail of a search, copied out.
+pub(crate) fn kept_trail<A: Allocator + Copy>(
+    alloc: Global,
+    search: &Search<'_, A>,
+) -> Result<KeptTrail, NoMemory>
+    ensures { IfOk result (λ t. t ≡ record { items = trail_of search.now; table = search.now.rules.table }) }
+{
+    let items = items(alloc, search.tree())?;
+    KeptTrail::new(alloc, items, search.rules().concepts())
 }
 
 // The facts and marks of a tree's trail.

@@ -1,15 +1,17 @@
 // Questions whether queries follow, answered within a budget.
-ghost use Rattle.std.specs.Prelude.{◌≡◌, ◌+◌, ◌<◌, ◌≤◌, [], ◌∷◌, ◌++◌, false, length, IfOk, IfSome, OnOk, OnErr};
-ghost use Rattle.run_log.specs.declared.entry.Entry.TheVariants.{Test, Node};
+ghost use Rattle.std.specs.Prelude.{◌≡◌, ◌+◌, ◌≤◌, [], ◌∷◌, ◌++◌, false, length, IfOk, IfSome, OnOk, OnErr};
+ghost use Rattle.run_log.specs.declared.entry.Entry.TheVariants.{Test};
 ghost use Rattle.std.specs.List.{list_any};
 ghost use Rattle.axiom_sets.specs.Sets.{IsWithin};
 ghost use Rattle.ontology_limits.specs.Limits.{IsOntologyInLimit, IsInLimit};
 ghost use Rattle.run_log.specs.Entries.{spent_of, is_spent, IsAnswered};
 ghost use Rattle.run_log.specs.HonestLog.{IsAxiomSet};
 ghost use Rattle.shq_oracle.specs.Decided.{IsAnswer, AppendsTest, LeavesNothing, IsFound};
+ghost use Rattle.shq_oracle.specs.Decided.{IsOutcome, AddsTest, SpendsAll, IsTested, TakesNode};
 
 use crate::found::{Found, search};
-use crate::{Answer, Entry, NoMemory, RunLog};
+use crate::tested::{Tested, test};
+use crate::{Answer, Entry, NoMemory, Outcome, RunLog, TestEnd};
 use axiom_sets::AxiomSet;
 use shq_terms::{Ontology, Query};
 use std::alloc::Global;
@@ -118,20 +120,47 @@ impl<'a> Oracle<'a> {
         self.note(set, query, found)
     }
 
-    /// Takes one unit of the budget, of which some is left, for a node of a hitting-set tree, and puts the node's entry last.
+    /// Whether the query follows, as [`decide`](Oracle::decide) answers it, with the same entry in the log but without evidence:
+    /// no model is made, and of a refutation the axioms alone are handed out.
     ///
     /// # Errors
     /// Memory may be refused; the log is as before then.
-    pub fn take_node(&mut self, node: &AxiomSet) -> Result<(), NoMemory>
-        requires { spent_of self.old.log < self.old.budget }
-        ensures entry { OnOk result (self.new.log ≡ self.old.log ++ Node node.now ∷ []) }
+    pub fn test(&mut self, set: &AxiomSet, query: &Query) -> Result<Outcome, NoMemory>
+        requires limit { set.now.limit ≡ length self.old.ontology.axioms }
+        requires in_limit { IsInLimit self.old.ontology query.now }
+        requires goes_on { list_any is_spent self.old.log ≡ false }
+        requires is_new { ¬ IsAnswered self.old.log set.now query.now }
+
+        ensures outcome { IfOk result (IsOutcome self.old.ontology set.now query.now) }
+        ensures entry { IfOk result (AddsTest self.old.ontology set.now query.now self.old.log self.new.log) }
+        ensures spent { IfOk result (SpendsAll self.new) }
+        ensures within { spent_of self.new.log ≤ self.new.budget }
+
         ensures same_ontology { self.new.ontology ≡ self.old.ontology }
         ensures same_budget { self.new.budget ≡ self.old.budget }
         ensures unchanged { OnErr result (self.new.log ≡ self.old.log) }
     {
-        let _budget = self.budget;
+        let fuel = self.left();
+        let tested = self.try_out(set, query, fuel)?;
+        self.note_outcome(set, query, tested)
+    }
+
+    /// Takes one unit of the budget for a node of a hitting-set tree, where one is left, and puts the node's entry last. Answers
+    /// whether one was left.
+    ///
+    /// # Errors
+    /// Memory may be refused; the log is as before then.
+    pub fn take_node(&mut self, node: &AxiomSet) -> Result<bool, NoMemory>
+        ensures taken { IfOk result (TakesNode self.old self.new node.now) }
+        ensures same_ontology { self.new.ontology ≡ self.old.ontology }
+        ensures same_budget { self.new.budget ≡ self.old.budget }
+        ensures unchanged { OnErr result (self.new.log ≡ self.old.log) }
+    {
+        if self.left() == 0 {
+            return Ok(false);
+        }
         self.log.push(Entry::Node(node.try_clone()?))?;
-        Ok(())
+        Ok(true)
     }
 
     // Searches by the rules of the set, which are kept. Nothing that contracts see changes.
@@ -144,6 +173,18 @@ impl<'a> Oracle<'a> {
     {
         let _limit = set.limit();
         find_by(self.alloc, &mut self.rules, self.ontology, set, query, fuel)
+    }
+
+    // The same for the outcome alone.
+    fn try_out(&mut self, set: &AxiomSet, query: &Query, fuel: u64) -> Result<Tested, NoMemory>
+        requires limit { set.now.limit ≡ length self.old.ontology.axioms }
+        requires in_limit { IsInLimit self.old.ontology query.now }
+        ensures tested { IfOk result (IsTested self.old.ontology set.now query.now fuel) }
+        ensures set { IsAxiomSet self.old.ontology set.now }
+        ensures same { self.new ≡ self.old }
+    {
+        let _limit = set.limit();
+        test_by(self.alloc, &mut self.rules, self.ontology, set, query, fuel)
     }
 
     // Puts the entry of a test, and hands the answer on.
@@ -161,10 +202,53 @@ impl<'a> Oracle<'a> {
             steps,
             ended,
         } = found;
+        self.log_test(set, query, steps, ended)?;
+        Ok(answer)
+    }
+
+    // Puts the entry of a test, and hands its outcome on.
+    fn note_outcome(
+        &mut self,
+        set: &AxiomSet,
+        query: &Query,
+        tested: Tested,
+    ) -> Result<Outcome, NoMemory>
+        requires within { tested.steps + spent_of self.old.log ≤ self.old.budget }
+        requires small { self.old.budget ≤ u32.MAX }
+        ensures outcome { IfOk result (λ v. v ≡ tested.outcome) }
+        ensures entry { IfOk result (λ v. self.new.log ≡ self.old.log ++ Test set.now query.now tested.steps tested.ended ∷ []) }
+        ensures same_ontology { self.new.ontology ≡ self.old.ontology }
+        ensures same_budget { self.new.budget ≡ self.old.budget }
+        ensures unchanged { OnErr result (self.new.log ≡ self.old.log) }
+    {
+        let Tested {
+            outcome,
+            steps,
+            ended,
+        } = tested;
+        self.log_test(set, query, steps, ended)?;
+        Ok(outcome)
+    }
+
+    // Puts the entry of a test.
+    fn log_test(
+        &mut self,
+        set: &AxiomSet,
+        query: &Query,
+        steps: u64,
+        ended: TestEnd,
+    ) -> Result<(), NoMemory>
+        requires within { steps + spent_of self.old.log ≤ self.old.budget }
+        requires small { self.old.budget ≤ u32.MAX }
+        ensures entry { OnOk result (self.new.log ≡ self.old.log ++ Test set.now query.now steps ended ∷ []) }
+        ensures same_ontology { self.new.ontology ≡ self.old.ontology }
+        ensures same_budget { self.new.budget ≡ self.old.budget }
+        ensures unchanged { OnErr result (self.new.log ≡ self.old.log) }
+    {
         let asked = set.try_clone()?;
         let query = copy_of(self.alloc, query)?;
         self.log.push(Entry::Test(asked, query, steps, ended))?;
-        Ok(answer)
+        Ok(())
     }
 }
 
@@ -187,6 +271,27 @@ fn find_by<'a>(
     let found = ask(alloc, &mut rules, query, fuel)?;
     *kept = Some(rules);
     Ok(found)
+}
+
+// The same for the outcome alone.
+fn test_by<'a>(
+    alloc: Global,
+    kept: &mut Option<SearchRules<'a>>,
+    ontology: &'a Ontology,
+    set: &AxiomSet,
+    query: &Query,
+    fuel: u64,
+) -> Result<Tested, NoMemory>
+    requires kept { IfSome kept.old (λ r. r.ontology ≡ ontology.now) }
+    requires set { IsAxiomSet ontology.now set.now }
+    requires in_limit { IsInLimit ontology.now query.now }
+    ensures tested { IfOk result (IsTested ontology.entry.now set.now query.now fuel) }
+    ensures kept { IfSome kept.new (λ r. r.ontology ≡ ontology.entry.now) }
+{
+    let mut rules = rules_of(alloc, kept.take(), ontology, set)?;
+    let tested = ask_outcome(alloc, &mut rules, query, fuel)?;
+    *kept = Some(rules);
+    Ok(tested)
 }
 
 // The rules of the axioms of the set: those that were kept, where they are of this set.
@@ -240,6 +345,22 @@ fn ask(
 {
     let numbers = rules.numbers_of(alloc, query)?;
     search(alloc, rules, query, numbers, fuel)
+}
+
+// The same for the outcome alone.
+fn ask_outcome(
+    alloc: Global,
+    rules: &mut SearchRules<'_>,
+    query: &Query,
+    fuel: u64,
+) -> Result<Tested, NoMemory>
+    requires set { IsAxiomSet rules.old.ontology rules.old.set }
+    requires in_limit { IsInLimit rules.old.ontology query.now }
+    ensures tested { IfOk result (IsTested rules.old.ontology rules.old.set query.now fuel) }
+    ensures same { rules.new.ontology ≡ rules.old.ontology }
+{
+    let numbers = rules.numbers_of(alloc, query)?;
+    test(alloc, rules, query, numbers, fuel)
 }
 
 // An equal query.

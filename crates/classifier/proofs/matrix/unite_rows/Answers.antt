@@ -1,25 +1,27 @@
-use Rattle.std.proofs.Common.{◌≡◌, sym, ap, subst, ℕ, ◌+◌, ◌&&◌, Bool, true, false, List, arith}
-use Rattle.std.specs.FinSet as sets
-use Rattle.axiom_sets.specs.Sets.{Limited}
-use Rattle.classifier.proofs.United.{IsGrown, passes_over, takes_in}
+use Rattle.std.proofs.Common.{◌≡◌, ◌∙◌, ◌-◌, refl, sym, arith}
+use Rattle.axiom_sets.specs.Sets.{member_list}
+use Rattle.classifier.proofs.United.{begins_uniting, next_within, next_limit, unites_next}
 use Rattle.classifier.proofs.matrix.unite_rows.Goals as goal
-use Rattle.classifier.proofs.matrix.unite_rows.Goals.{then-has, else-has}
 
-pub loop-place-preserved : goal.loop-place-preserved
-loop-place-preserved c =
-    let chosen = c.args.chosen.now in
-    let added = c.args.added.now in
-    let place = c.loop-place.place in
-    let test : ℕ → ℕ → Bool = λ x y. sets.contains chosen.members (x + 1) && sets.contains added.members (y + 1) in
-    let Next : List Limited → Type 0 = λ rows. IsGrown chosen.limit (place + 1) test c.args.rows.now rows in
-    elim c.if-has.branch [
-      | then-has w ↦
-          let is : sets.contains chosen.members (place + 1) ≡ true = sym w.if-has.ensures in
-          subst Next (sym w.rows-is)
-          (takes_in chosen.limit place test c.args.rows.now c.loop-place.rows c.loop-place.invariant added.members w.put_all.new.self w.index-rows-place.result (omega arith) w.put_all.ensures.limit w.put_all.ensures.members
-          (λ y. ap (λ (b : Bool). b && sets.contains added.members (y + 1)) is))
-      | else-has w ↦
-          let is : sets.contains chosen.members (place + 1) ≡ false = sym w.if-has.ensures in
-          subst Next (sym w.rows-is)
-          (passes_over chosen.limit place test c.args.rows.now c.loop-place.rows c.loop-place.invariant (λ y. ap (λ (b : Bool). b && sets.contains added.members (y + 1)) is))
-    ]
+pub loop-number-init : goal.loop-number-init
+loop-number-init c =
+    let all : c.into_iter-number-iterator.result ≡ member_list c.args.chosen.now = c.into_iter-number-iterator.ensures.into_iter_gives ∙ c.numbers-number-items.ensures.members in
+    begins_uniting c.args.chosen.now.limit c.args.chosen.now c.args.added.now c.args.rows.now _ c.requires.square refl c.numbers-number-items.ensures.within all
+
+pub overflow_sub-number : goal.overflow_sub-number
+overflow_sub-number c = (next_within c.args.chosen.now.limit c.args.chosen.now c.args.added.now c.args.rows.now c.loop-number.rows c.loop-number.number-iterator c.loop-number.invariant c.in-Some.number c.next.new.self c.in-Some.ensures.steps).0
+
+pub bounds-rows-number : goal.bounds-rows-number
+bounds-rows-number c =
+    let h = next_within c.args.chosen.now.limit c.args.chosen.now c.args.added.now c.args.rows.now c.loop-number.rows c.loop-number.number-iterator c.loop-number.invariant c.in-Some.number c.next.new.self c.in-Some.ensures.steps in
+    omega (arith, h.0, h.1, c.loop-number.invariant.square.long)
+
+pub put_all-requires : goal.put_all-requires
+put_all-requires c =
+    c.requires.added
+    ∙ sym (next_limit c.args.chosen.now.limit c.args.chosen.now c.args.added.now c.args.rows.now c.loop-number.rows c.loop-number.number-iterator c.loop-number.invariant c.in-Some.number c.next.new.self c.in-Some.ensures.steps c.index-rows-number.result)
+
+pub loop-number-preserved : goal.loop-number-preserved
+loop-number-preserved c =
+    unites_next c.args.chosen.now.limit c.args.chosen.now c.args.added.now c.args.rows.now c.loop-number.rows c.loop-number.number-iterator c.loop-number.invariant c.in-Some.number c.next.new.self c.in-Some.ensures.steps (c.in-Some.number - 1)
+    c.put_all.new.self c.index-rows-number.result refl c.put_all.ensures.limit c.put_all.ensures.members

@@ -1,7 +1,22 @@
 use Rattle.std.proofs.Common.{sym, subst}
+use Rattle.std.specs.Prelude.{IfOk}
 use Rattle.shq_terms.specs.declared.axioms.Query.{Query}
 use Rattle.run_log.specs.Entries.{IsAnswered}
+use Rattle.classifier.specs.Tests.{IsTested}
+use Rattle.classifier.proofs.Begun.{begins_by, begun_by}
 use Rattle.classifier.proofs.testing.test.Goals as goal
 
 pub decide-verdict-requires-clause-is_new : goal.decide-verdict-requires-clause-is_new
 decide-verdict-requires-clause-is_new c = subst (λ (q : Query). IsAnswered c.args.oracle.now.log c.args.axioms.now q → ⊥) (sym c.query_between-query.ensures) c.requires.is_new
+
+pub returns-clause-begins : goal.returns-clause-begins
+returns-clause-begins c =
+    let d = c.decide-verdict in
+    let tested = subst (λ (q : Query). IfOk d.result (IsTested c.args.oracle.now d.new.oracle c.args.axioms.now q)) c.query_between-query.ensures d.ensures.tested in
+    begins_by c.args.oracle.now d.new.oracle c.args.axioms.now c.args.count c.args.x c.args.y d.result tested d.ensures.unchanged
+
+pub returns-clause-begun : goal.returns-clause-begun
+returns-clause-begun c =
+    let d = c.decide-verdict in
+    let tested = subst (λ (q : Query). IfOk d.result (IsTested c.args.oracle.now d.new.oracle c.args.axioms.now q)) c.query_between-query.ensures d.ensures.tested in
+    begun_by c.args.oracle.now d.new.oracle c.args.axioms.now c.args.count c.args.x c.args.y d.result tested

@@ -4,6 +4,7 @@ use Rattle.classifier.specs.Subsumption.{query_at}
 use Rattle.classifier.specs.Tests.{IsTested}
 use Rattle.classifier.specs.Progress.{Advances, is_settled}
 use Rattle.classifier.proofs.Advanced.{stopped_as_before, is_new, after_yes, after_no, after_spent, after_refused}
+use Rattle.classifier.proofs.Begun.{begins_at, begun_at}
 use Rattle.classifier.proofs.progress.Progress.ask.Goals as goal
 
 pub test-requires-clause-is_new : goal.test-requires-clause-is_new
@@ -64,3 +65,24 @@ returns-in-No-clause-settled c =
     c.rule_out.new.self c.rule_out.ensures.known c.rule_out.ensures.ruled_out c.rule_out.ensures.axioms c.rule_out.ensures.classes
     c.class_count.result c.class_count.ensures.count tested in
     both.1
+
+pub returns-in_err-test-clause-begins : goal.returns-in_err-test-clause-begins
+returns-in_err-test-clause-begins c = begins_at c.class_count.result c.args.self.now.known.count c.args.x c.args.y c.args.oracle.now c.test.new.oracle c.class_count.ensures.count c.in_err-test.ensures.begins
+
+pub returns-in_err-take_in-in-Yes-clause-begins : goal.returns-in_err-take_in-in-Yes-clause-begins
+returns-in_err-take_in-in-Yes-clause-begins c = begins_at c.class_count.result c.args.self.now.known.count c.args.x c.args.y c.args.oracle.now c.test.new.oracle c.class_count.ensures.count c.in_ok-test.ensures.begins
+
+pub returns-in-Spent-clause-begins : goal.returns-in-Spent-clause-begins
+returns-in-Spent-clause-begins c = begins_at c.class_count.result c.args.self.now.known.count c.args.x c.args.y c.args.oracle.now c.test.new.oracle c.class_count.ensures.count c.in_ok-test.ensures.begins
+
+pub returns-in_ok-take_in-in-Yes-clause-begins : goal.returns-in_ok-take_in-in-Yes-clause-begins
+returns-in_ok-take_in-in-Yes-clause-begins c = begins_at c.class_count.result c.args.self.now.known.count c.args.x c.args.y c.args.oracle.now c.test.new.oracle c.class_count.ensures.count c.in_ok-test.ensures.begins
+
+pub returns-in-No-clause-begins : goal.returns-in-No-clause-begins
+returns-in-No-clause-begins c = begins_at c.class_count.result c.args.self.now.known.count c.args.x c.args.y c.args.oracle.now c.test.new.oracle c.class_count.ensures.count c.in_ok-test.ensures.begins
+
+pub returns-in_ok-take_in-in-Yes-clause-begun : goal.returns-in_ok-take_in-in-Yes-clause-begun
+returns-in_ok-take_in-in-Yes-clause-begun c = begun_at c.class_count.result c.args.self.now.known.count c.args.x c.args.y c.args.oracle.now c.test.new.oracle c.class_count.ensures.count c.in_ok-test.ensures.begun
+
+pub returns-in-No-clause-begun : goal.returns-in-No-clause-begun
+returns-in-No-clause-begun c = begun_at c.class_count.result c.args.self.now.known.count c.args.x c.args.y c.args.oracle.now c.test.new.oracle c.class_count.ensures.count c.in_ok-test.ensures.begun

@@ -1,8 +1,17 @@
-use Rattle.std.proofs.Common.{ℕ, ◌+◌, false, subst}
+use Rattle.std.proofs.Common.{◌∙◌, ℕ, ◌+◌, false, subst}
+use Rattle.axiom_sets.specs.Sets.{IsFull}
 use Rattle.classifier.specs.Matrices.{IsMatrix}
 use Rattle.classifier.specs.Rows.{IsAtFirst}
 use Rattle.classifier.proofs.Mirrored.{mirrors_none}
 use Rattle.classifier.proofs.progress.Progress.new.Goals as goal
+
+pub returns-clause-whole : goal.returns-clause-whole
+returns-clause-whole c =
+    let count = c.axiom_count.ensures.count in
+    record {
+      limit_is = c.in_ok-full.ensures.limit ∙ count;
+      is_full = subst (λ (n : ℕ). IsFull n c.in_ok-full.field-0.members) count c.in_ok-full.ensures.members;
+    }
 
 pub returns-clause-mirrors : goal.returns-clause-mirrors
 returns-clause-mirrors c =

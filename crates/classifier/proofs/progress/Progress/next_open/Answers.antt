@@ -1,9 +1,11 @@
 use Rattle.std.proofs.Common.{◌≡◌, ◌∙◌, ◌+◌, ap}
 use Rattle.std.specs.FinSet as sets
+use Rattle.std.proofs.lemmas.Result.{IfOk-weaker}
 use Rattle.lane_sieve.specs.Sets.{NumberSet}
 use Rattle.axiom_sets.specs.Sets.{Limited}
 use Rattle.classifier.specs.Matrices.{has}
 use Rattle.classifier.specs.Rows.{holds}
+use Rattle.classifier.specs.Progress.{IsOneOf, IsOpenAt}
 use Rattle.classifier.proofs.Open.{left_open, found_open}
 use Rattle.classifier.proofs.progress.Progress.next_open.Goals as goal
 
@@ -13,10 +15,13 @@ returns c =
     let x = c.args.class in
     let above = c.above.result.now.members in
     let row = c.row.result.now.members in
-    let members : c.take_all-2.new.self.members ≡ sets.difference (sets.difference p.classes.members above) row =
+    let open_ = c.take_all-2.new.self in
+    let members : open_.members ≡ sets.difference (sets.difference p.classes.members above) row =
     c.take_all-2.ensures.members
     ∙ ap (λ (s : NumberSet). sets.difference s row) (c.take_all.ensures.members ∙ ap (λ (s : Limited). sets.difference s.members above) c.in_ok-open.ensures) in
-    found_open p x c.take_all-2.new.self.members
+    IfOk-weaker c.most_general.result (IsOneOf (p.known.count + 2) open_) (IsOpenAt p x)
+    (λ r h. found_open p x open_.members
     (λ y lt. ap (λ (s : NumberSet). sets.contains s (y + 1)) members
     ∙ left_open (p.known.count + 2) y p.classes.members above row (holds p.known x y) (has p.ruled_out x y) c.requires.full lt (c.above.ensures.members y lt) (ap (λ (s : Limited). sets.contains s.members (y + 1)) c.row.ensures.row))
-    c.most_general.result c.most_general.ensures
+    r h)
+    c.most_general.ensures

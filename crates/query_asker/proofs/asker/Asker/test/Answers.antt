@@ -4,17 +4,20 @@ use Rattle.set_questions.specs.Meaning.{one_more}
 use Rattle.set_questions.specs.Asked.{Answers}
 use Rattle.run_log.specs.Entries.{spent_of, nodes_of, IsAnswered}
 use Rattle.query_asker.specs.AskerLists.{AskerLists}
-use Rattle.query_asker.specs.Told.{asker_meaning}
+use Rattle.query_asker.specs.Told.{asker_meaning, IsUnknown}
 use Rattle.query_asker.specs.Asking.{IsAsker, IsLater, lists_of}
-use Rattle.query_asker.proofs.Tested.{is_new, after_test, answered, later, same_nodes}
+use Rattle.query_asker.proofs.Tested.{is_new, after_test, answered, unknown, later, same_nodes}
 use Rattle.query_asker.proofs.asker.Asker.test.Goals as goal
 
-pub decide-requires-clause-is_new : goal.decide-requires-clause-is_new
-decide-requires-clause-is_new c =
+pub test-requires-clause-is_new : goal.test-requires-clause-is_new
+test-requires-clause-is_new c =
     let i = c.self.inside in
     let s = c.args.part.now in
     let new : ¬ IsAnswered (lists_of i.oracle i.query.now i.among i.first i.asks).gained s i.query.now = subst (λ (a : AskerLists). ¬ IsAnswered a.gained s a.query) (sym c.self.view_is) c.requires.is_new in
     is_new i.oracle i.query.now i.among i.first i.asks c.self.invariant.can_ask.others s new
+
+pub returns-then-left-eq0-clause-unknown : goal.returns-then-left-eq0-clause-unknown
+returns-then-left-eq0-clause-unknown c = subst (λ (a : AskerLists). ¬ IsAnswered a.gained c.args.part.now a.query) (sym c.self.view_is) c.requires.is_new
 
 pub invariant_of-self-2 : goal.invariant_of-self-2
 invariant_of-self-2 c =
@@ -22,13 +25,13 @@ invariant_of-self-2 c =
     let o = i.oracle in
     let s = c.args.part.now in
     let a = lists_of o i.query.now i.among i.first i.asks in
-    let d = c.decide.ensures in
-    let ok = c.in_ok-answer.ensures in
+    let d = c.test.ensures in
+    let ok = c.in_ok-outcome.ensures in
     let new : ¬ IsAnswered a.gained s i.query.now = subst (λ (b : AskerLists). ¬ IsAnswered b.gained s b.query) (sym c.self.view_is) c.requires.is_new in
     let part : IsPart s.members a.local_part = subst (λ (b : AskerLists). IsPart s.members b.local_part) (sym c.self.view_is) c.requires.local_part in
     let some : ¬ (spent_of o.log ≡ o.budget) = λ e. absurd (omega (arith, e, c.left.ensures.left, c.if-left-eq0.false)) in
-    subst (IsAsker c.decide.new.self i.query.now i.among i.first i.memo) (sym c.saturating_add-counted.ensures)
-    (after_test o i.query.now i.among i.first i.asks c.decide.new.self s c.in_ok-answer.answer c.self.invariant.is_log some d.same_ontology d.same_budget ok.entry ok.spent d.within part new i.memo c.self.invariant)
+    subst (IsAsker c.test.new.self i.query.now i.among i.first i.memo) (sym c.saturating_add-counted.ensures)
+    (after_test o i.query.now i.among i.first i.asks c.test.new.self s c.in_ok-outcome.outcome c.self.invariant.is_log some d.same_ontology d.same_budget ok.entry ok.spent d.within part new i.memo c.self.invariant)
 
 pub returns-clause-answer : goal.returns-clause-answer
 returns-clause-answer c =
@@ -36,14 +39,28 @@ returns-clause-answer c =
     let o = i.oracle in
     let s = c.args.part.now in
     let a = lists_of o i.query.now i.among i.first i.asks in
-    let d = c.decide.ensures in
-    let ok = c.in_ok-answer.ensures in
+    let d = c.test.ensures in
+    let ok = c.in_ok-outcome.ensures in
     let new : ¬ IsAnswered a.gained s i.query.now = subst (λ (b : AskerLists). ¬ IsAnswered b.gained s b.query) (sym c.self.view_is) c.requires.is_new in
     let part : IsPart s.members a.local_part = subst (λ (b : AskerLists). IsPart s.members b.local_part) (sym c.self.view_is) c.requires.local_part in
     let some : ¬ (spent_of o.log ≡ o.budget) = λ e. absurd (omega (arith, e, c.left.ensures.left, c.if-left-eq0.false)) in
     let limit : s.limit ≡ length o.ontology.axioms = c.requires.limit ∙ ap (λ (b : AskerLists). length b.ontology.axioms) (sym c.self.view_is) in
-    subst (λ (n : ℕ). Answers (asker_meaning (lists_of c.decide.new.self i.query.now i.among i.first n)) s c.told.result) (sym c.saturating_add-counted.ensures)
-    (answered o i.query.now i.among i.first i.asks c.decide.new.self s c.in_ok-answer.answer c.self.invariant.is_log some d.same_ontology d.same_budget ok.entry ok.spent d.within part new i.memo c.self.invariant limit c.told.result c.told.ensures)
+    subst (λ (n : ℕ). Answers (asker_meaning (lists_of c.test.new.self i.query.now i.among i.first n)) s c.reply_to.result) (sym c.saturating_add-counted.ensures)
+    (answered o i.query.now i.among i.first i.asks c.test.new.self s c.in_ok-outcome.outcome c.self.invariant.is_log some d.same_ontology d.same_budget ok.entry ok.spent d.within part new i.memo c.self.invariant limit c.reply_to.result c.reply_to.ensures)
+
+pub returns-clause-unknown : goal.returns-clause-unknown
+returns-clause-unknown c =
+    let i = c.self.inside in
+    let o = i.oracle in
+    let s = c.args.part.now in
+    let a = lists_of o i.query.now i.among i.first i.asks in
+    let d = c.test.ensures in
+    let ok = c.in_ok-outcome.ensures in
+    let new : ¬ IsAnswered a.gained s i.query.now = subst (λ (b : AskerLists). ¬ IsAnswered b.gained s b.query) (sym c.self.view_is) c.requires.is_new in
+    let part : IsPart s.members a.local_part = subst (λ (b : AskerLists). IsPart s.members b.local_part) (sym c.self.view_is) c.requires.local_part in
+    let some : ¬ (spent_of o.log ≡ o.budget) = λ e. absurd (omega (arith, e, c.left.ensures.left, c.if-left-eq0.false)) in
+    subst (λ (n : ℕ). IsUnknown (lists_of c.test.new.self i.query.now i.among i.first n) s c.reply_to.result) (sym c.saturating_add-counted.ensures)
+    (unknown o i.query.now i.among i.first i.asks c.test.new.self s c.in_ok-outcome.outcome c.self.invariant.is_log some d.same_ontology d.same_budget ok.entry ok.spent d.within part new c.self.invariant.first_within c.reply_to.result c.reply_to.ensures)
 
 pub returns-clause-later : goal.returns-clause-later
 returns-clause-later c =
@@ -51,14 +68,14 @@ returns-clause-later c =
     let o = i.oracle in
     let s = c.args.part.now in
     let a = lists_of o i.query.now i.among i.first i.asks in
-    let d = c.decide.ensures in
-    let ok = c.in_ok-answer.ensures in
+    let d = c.test.ensures in
+    let ok = c.in_ok-outcome.ensures in
     let new : ¬ IsAnswered a.gained s i.query.now = subst (λ (b : AskerLists). ¬ IsAnswered b.gained s b.query) (sym c.self.view_is) c.requires.is_new in
     let part : IsPart s.members a.local_part = subst (λ (b : AskerLists). IsPart s.members b.local_part) (sym c.self.view_is) c.requires.local_part in
     let some : ¬ (spent_of o.log ≡ o.budget) = λ e. absurd (omega (arith, e, c.left.ensures.left, c.if-left-eq0.false)) in
-    subst (λ (n : ℕ). IsLater c.args.self.now (lists_of c.decide.new.self i.query.now i.among i.first n)) (sym c.saturating_add-counted.ensures)
-    (subst (λ (b : AskerLists). IsLater b (lists_of c.decide.new.self i.query.now i.among i.first (one_more i.asks))) c.self.view_is
-    (later o i.query.now i.among i.first i.asks c.decide.new.self s c.in_ok-answer.answer c.self.invariant.is_log some d.same_ontology d.same_budget ok.entry ok.spent d.within part new c.self.invariant.first_within))
+    subst (λ (n : ℕ). IsLater c.args.self.now (lists_of c.test.new.self i.query.now i.among i.first n)) (sym c.saturating_add-counted.ensures)
+    (subst (λ (b : AskerLists). IsLater b (lists_of c.test.new.self i.query.now i.among i.first (one_more i.asks))) c.self.view_is
+    (later o i.query.now i.among i.first i.asks c.test.new.self s c.in_ok-outcome.outcome c.self.invariant.is_log some d.same_ontology d.same_budget ok.entry ok.spent d.within part new c.self.invariant.first_within))
 
 pub returns-clause-nodes : goal.returns-clause-nodes
 returns-clause-nodes c =
@@ -66,10 +83,10 @@ returns-clause-nodes c =
     let o = i.oracle in
     let s = c.args.part.now in
     let a = lists_of o i.query.now i.among i.first i.asks in
-    let d = c.decide.ensures in
-    let ok = c.in_ok-answer.ensures in
+    let d = c.test.ensures in
+    let ok = c.in_ok-outcome.ensures in
     let new : ¬ IsAnswered a.gained s i.query.now = subst (λ (b : AskerLists). ¬ IsAnswered b.gained s b.query) (sym c.self.view_is) c.requires.is_new in
     let part : IsPart s.members a.local_part = subst (λ (b : AskerLists). IsPart s.members b.local_part) (sym c.self.view_is) c.requires.local_part in
     let some : ¬ (spent_of o.log ≡ o.budget) = λ e. absurd (omega (arith, e, c.left.ensures.left, c.if-left-eq0.false)) in
-    same_nodes o i.query.now i.among i.first i.asks c.decide.new.self s c.in_ok-answer.answer c.self.invariant.is_log some d.same_ontology d.same_budget ok.entry ok.spent d.within part new c.self.invariant.first_within
+    same_nodes o i.query.now i.among i.first i.asks c.test.new.self s c.in_ok-outcome.outcome c.self.invariant.is_log some d.same_ontology d.same_budget ok.entry ok.spent d.within part new c.self.invariant.first_within
     ∙ ap (λ (b : AskerLists). nodes_of b.gained) c.self.view_is

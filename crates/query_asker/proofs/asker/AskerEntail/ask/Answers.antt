@@ -5,10 +5,10 @@ use Rattle.set_questions.specs.Asked.{Answers}
 use Rattle.set_questions.specs.Meaning.{one_more}
 use Rattle.run_log.specs.Entries.{IsAnswered}
 use Rattle.query_asker.specs.AskerLists.{AskerLists}
-use Rattle.query_asker.specs.Told.{asker_meaning}
+use Rattle.query_asker.specs.Told.{asker_meaning, part_in, IsUnknown}
 use Rattle.query_asker.specs.Asking.{IsLater}
 use Rattle.query_asker.proofs.Logged.{with_asks}
-use Rattle.query_asker.proofs.Answering.{keeps_later, lifted, answers_counted, known_is, new_if_none, local_inside, local_later}
+use Rattle.query_asker.proofs.Answering.{keeps_later, lifted, answers_counted, known_is, known_answers, unknown_whole, new_if_none, local_inside, local_later}
 use Rattle.query_asker.proofs.asker.AskerEntail.ask.Goals as goal
 
 pub returns-in-Some-clause-answer : goal.returns-in-Some-clause-answer
@@ -19,6 +19,12 @@ returns-in-Some-clause-answer c =
     let p = c.in_ok-part.part in
     let told : Answers (asker_meaning a) p known = known_is a p c.in_ok-known.field-0 known c.in-Some.is c.in_ok-known.ensures.recalled in
     answers_counted a c.count_ask.new.self (one_more a.asks) s known (c.count_ask.ensures ∙ ap (λ (b : AskerLists). with_asks b (one_more b.asks)) c.recall.ensures.same) (lifted a s p known c.in_ok-part.ensures.part told)
+
+pub returns-in-Some-clause-unknown : goal.returns-in-Some-clause-unknown
+returns-in-Some-clause-unknown c =
+    let a = c.args.self.now in
+    let new = c.count_ask.new.self in
+    known_answers a new (part_in new c.args.set.now) c.in_ok-part.part c.in_ok-known.field-0 c.in-Some.known c.in-Some.is c.in_ok-known.ensures.recalled
 
 pub test-requires-clause-local_part : goal.test-requires-clause-local_part
 test-requires-clause-local_part c =
@@ -37,6 +43,14 @@ returns-clause-answer c =
     let new = c.test.new.self in
     let later : IsLater c.args.self.now new = subst (λ (b : AskerLists). IsLater b new) c.recall.ensures.same c.test.ensures.later in
     IfOk-weaker c.test.result (Answers (asker_meaning new) p) (Answers (asker_meaning new) s) (λ answer h. lifted new s p answer (local_later c.args.self.now new s p later c.in_ok-part.ensures.part) h) c.test.ensures.answer
+
+pub returns-clause-unknown : goal.returns-clause-unknown
+returns-clause-unknown c =
+    let s = c.args.set.now in
+    let p = c.in_ok-part.part in
+    let new = c.test.new.self in
+    let later : IsLater c.args.self.now new = subst (λ (b : AskerLists). IsLater b new) c.recall.ensures.same c.test.ensures.later in
+    IfOk-weaker c.test.result (IsUnknown new p) (IsUnknown new (part_in new s)) (λ reply h. unknown_whole new s p (local_later c.args.self.now new s p later c.in_ok-part.ensures.part) reply h) c.test.ensures.unknown
 
 pub returns-clause-keeps : goal.returns-clause-keeps
 returns-clause-keeps c =
