@@ -1,5 +1,5 @@
 -- Where each pair is settled, the classification is done.
-use Rattle.std.proofs.Common.{◌≡◌, ◌⊎◌, ℕ, ◌+◌, ◌<◌, ◌||◌, not, true, List, length, sym, subst, arith, inl, inr}
+use Rattle.std.proofs.Common.{◌≡◌, ◌⊎◌, ℕ, ◌+◌, ◌<◌, ◌||◌, true, List, length, sym, subst, arith, inl, inr}
 use Rattle.std.proofs.lemmas.Bool.{or_cases}
 use Rattle.std.proofs.lemmas.List.Elements.{All-contains}
 use Rattle.shq_terms.specs.Concept.{Concept}

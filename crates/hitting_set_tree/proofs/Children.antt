@@ -3,7 +3,6 @@ use Rattle.std.proofs.Common.{◌≡◌, ◌≢◌, ℕ, ◌+◌, ◌*◌, ◌^�
 use Rattle.std.proofs.Math.Bool.{or-true, and-false}
 use Rattle.std.specs.FinSet as set
 use Rattle.std.proofs.lemmas.Bool.{cases_eq, cases_Bool, true≢false, ne_eqb, or_cases, and_parts, eqb-true}
-use Rattle.lane_sieve.proofs.Bools.{false_from_not}
 use Rattle.lane_sieve.specs.Sets.{NumberSet, IsPart, DoMeet}
 use Rattle.lane_sieve.proofs.Bits.{contains_insert, contains_remove}
 use Rattle.axiom_sets.specs.Sets.{Limited}

@@ -12,7 +12,7 @@ use Rattle.shq_terms.specs.declared.axioms.Query.{Query}
 use Rattle.set_questions.specs.Meaning.{ShowsTheSame, one_more}
 use Rattle.set_questions.specs.Asked.{Answers, Takes}
 use Rattle.set_questions.specs.declared.entail.Reply.{Reply}
-use Rattle.set_questions.specs.declared.entail.Reply.TheVariants.{Yes, No, Spent}
+use Rattle.set_questions.specs.declared.entail.Reply.TheVariants.{Yes}
 use Rattle.run_log.specs.declared.entry.Entry.{Entry}
 use Rattle.run_log.specs.declared.entry.Entry.TheVariants.{Test, Node}
 use Rattle.run_log.specs.declared.entry.TestEnd.{TestEnd}
