@@ -1,13 +1,13 @@
 -- The first malformed line of a certificate is that of the text after its verdict, or its first.
-use Rattle.std.proofs.Common.{◌≡◌, ℕ, ◌+◌, ◌-◌, ◌≤◌, Bool, true, false, List, [], ◌∷◌, length, drop, Option, Some, None, option_map, Result, Ok, Err, refl, ap, sym, ◌∙◌, subst, arith}
+use Rattle.std.proofs.Common.{◌≡◌, ◌⊎◌, inl, inr, ℕ, suc, ◌+◌, ◌-◌, ◌<◌, ◌≤◌, Bool, true, false, List, [], ◌∷◌, ◌++◌, length, take, drop, Option, Some, None, option_map, Result, Ok, Err, refl, ap, sym, ◌∙◌, subst, append_assoc, arith}
 use Rattle.std.specs.Prelude.{codes, min, ◌^◌, if◌then◌else◌}
 use Rattle.std.specs.Option.{option_and_then}
 use Rattle.std.specs.List.{prefix_len}
 use Rattle.std.specs.Result.{result_ok}
 use Rattle.std.proofs.Math.Nat.{min-eq_left}
-use Rattle.std.proofs.lemmas.List.{length-drop}
+use Rattle.std.proofs.lemmas.List.{length-drop, take-append-drop, take-take}
 use Rattle.certificate_lines.specs.Lines.{lines, is_blank}
-use Rattle.certificate_lines.specs.Malformed.{clamped_line, BeginsText, IsFirstMalformed, TellsMalformed}
+use Rattle.certificate_lines.specs.Malformed.{clamped_line, BeginsText, StopsAfter, IsFirstMalformed, TellsMalformed}
 use Rattle.certificate_lines.specs.Body.{after_line, malformed_after_line}
 use Rattle.certificate_lines.proofs.FirstMalformed.{line_tells, made_tells}
 use Rattle.shq_terms.specs.Listed.{Listed}
@@ -104,3 +104,33 @@ malformed_is_first o text n short is =
     let few : length ls ≤ 4294967294 = omega (arith, short, few_lines text, length-drop (prefix_len is_blank (lines text)) (lines text)) in
     let same : after_line verdict_in (text_after o) ≡ certificate_read o = λ i l. same_read o l i in
     subst (λ (reading : List (List ℕ) → Option Certificate). IsFirstMalformed 1 reading ls n) same ((certificate_tells o).is_first ls n (same_number o ls n few is))
+
+-- ---- one line is the first
+
+front_of : (j k : ℕ) (lines : List (List ℕ)) → suc j ≤ k → take k lines ≡ take (suc j) lines ++ drop (suc j) (take k lines)
+front_of j k lines less = sym (take-append-drop (suc j) (take k lines)) ∙ ap (λ l. l ++ drop (suc j) (take k lines)) (take-take (suc j) k lines less)
+
+-- no text that stops after some lines begins with more of them
+stops_once : {K : Type 0} (reading : List (List ℕ) → Option K) (lines : List (List ℕ)) (j k : ℕ) → j < k → StopsAfter reading lines j → StopsAfter reading lines k → ⊥
+stops_once reading lines j k less first second =
+    let begins = second.begins in
+    let front = front_of j k lines (omega (arith, less)) in
+    let more = drop (suc j) (take k lines) in
+    let whole : take k lines ++ begins.0 ≡ take (suc j) lines ++ (more ++ begins.0) = ap (λ l. l ++ begins.0) front ∙ append_assoc (take (suc j) lines) more begins.0 in
+    let within = second.within in
+    first.stops (omega (arith, less, within)) (more ++ begins.0, begins.1, ap reading (sym whole) ∙ begins.2)
+
+pub first_is_one : {K : Type 0} (first : ℕ) (reading : List (List ℕ) → Option K) (lines : List (List ℕ)) (m n : ℕ) → IsFirstMalformed first reading lines m → IsFirstMalformed first reading lines n → m ≡ n
+first_is_one first reading lines m n (j, is, a) (k, are, b) =
+    elim (order j k) [
+      | inl less ↦ absurd (stops_once reading lines j k less a b)
+      | inr (inl more) ↦ absurd (stops_once reading lines k j more b a)
+      | inr (inr same) ↦ is ∙ ap (λ i. first + i) same ∙ sym are
+    ]
+  where
+    order : (j k : ℕ) → (j < k) ⊎ ((k < j) ⊎ (j ≡ k))
+    order j k = grind arith
+
+-- a text that has a malformed line is no certificate
+pub malformed_is_none : (o : Listed) (text : List ℕ) (n : ℕ) (c : Certificate) → IsFirstMalformed 1 (certificate_read o) (certificate_lines text) n → certificate o text ≡ Ok c → ⊥
+malformed_is_none o text n c (k, is, stops) found = let clash : None ≡ Some c = sym stops.no_text ∙ ap result_ok found in absurd (cc clash)

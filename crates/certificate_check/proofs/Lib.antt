@@ -7,3 +7,4 @@ pub mod InLimit
 pub mod Truth
 pub mod Replied
 pub use Rattle.job_inputs.proofs.ReadInLimit
+pub use Rattle.job_inputs.proofs.OneReading

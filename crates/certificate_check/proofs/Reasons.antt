@@ -1,5 +1,5 @@
 -- What is read of an input, and what keeps it from being verified, from its parts to the whole.
-use Rattle.std.proofs.Common.{◌≡◌, ℕ, List, drop, Result, Ok, Err, refl, ap, sym, subst, ◌∙◌}
+use Rattle.std.proofs.Common.{◌≡◌, ℕ, ◌≤◌, List, length, drop, Result, Ok, Err, refl, ap, sym, subst, ◌∙◌}
 use Rattle.std.specs.Prelude.{IfErr}
 use Rattle.std.specs.Result.{result_map_both}
 use Rattle.shq_terms.specs.Listed.{Listed}
@@ -7,10 +7,13 @@ use Rattle.shq_terms.specs.declared.axioms.Query.{Query as Asked}
 use Rattle.ofn_expressions.specs.Counts.{Counts}
 use Rattle.ofn_reader.specs.DocumentContext.{DocumentContext}
 use Rattle.ofn_reader.specs.Documents.{IsDocument}
-use Rattle.certificate_check.specs.Certificates.{certificate, IsUnreadBy}
+use Rattle.certificate_lines.specs.Malformed.{IsFirstMalformed}
+use Rattle.certificate_check.specs.Certificates.{certificate_lines, certificate, IsUnreadBy}
+use Rattle.certificate_check.specs.Malformed.{certificate_read}
+use Rattle.certificate_check.proofs.FirstMalformed.{malformed_is_first}
 use Rattle.text_laws.specs.LimitLaws.{with_names}
 use Rattle.job_inputs.specs.Asked.{IsAsked, judged, malformed_line, IsUndocumented, IsUnasked}
-use Rattle.certificate_check.specs.Checking.{IsInput, IsVerdict, IsVerdictOn, Shows, IsReply, no_document, no_query, shown, IsUnclaimed, IsUnread}
+use Rattle.certificate_check.specs.Checking.{IsInput, IsVerdict, IsVerdictOn, IsReply, no_document, no_query, shown, IsUnclaimed, IsUnread}
 use Rattle.certificate_check.specs.declared.checking.Input.{Input}
 use Rattle.job_inputs.specs.declared.verdict.Verdict.{Verdict}
 use Rattle.job_inputs.specs.declared.unread.Unread.{Unread}
@@ -32,18 +35,23 @@ unasked o kept query rest (Query e) why = why
 unasked o kept query rest (Line n) why = absurd why
 unasked o kept query rest NoMemory why = tt
 
-pub uncertified : (o : Listed) (kept : DocumentContext) (query rest : List ℕ) (counts : Counts) (q : Asked) (both : Listed) → IsAsked o kept query counts q → both ≡ with_names o counts
+pub uncertified : (o : Listed) (kept : DocumentContext) (query rest : List ℕ) (counts : Counts) (q : Asked) (both : Listed) → IsAsked o kept query counts q → both ≡ with_names o counts → length rest ≤ 4294967293
     → (u : Unread) → IsUnreadBy (certificate both rest) u → IsUnclaimed o kept query rest u
-uncertified o kept query rest counts q both is_query names (Document e) why = absurd why
-uncertified o kept query rest counts q both is_query names (Query e) why = absurd why
-uncertified o kept query rest counts q both is_query names (Line n) why = record { counts = counts; asked = q; is_query = is_query; found = ap (λ l. certificate l rest) (sym names) ∙ why }
-uncertified o kept query rest counts q both is_query names NoMemory why = tt
+uncertified o kept query rest counts q both is_query names short (Document e) why = absurd why
+uncertified o kept query rest counts q both is_query names short (Query e) why = absurd why
+uncertified o kept query rest counts q both is_query names short (Line n) why = record {
+  counts = counts;
+  asked = q;
+  is_query = is_query;
+  is_first = subst (λ (l : Listed). IsFirstMalformed 1 (certificate_read l) (certificate_lines rest) n) names (malformed_is_first both rest n short why);
+}
+uncertified o kept query rest counts q both is_query names short NoMemory why = tt
 
 pub unclaimed : (query bytes : List ℕ) (o : Listed) (kept : DocumentContext) (end : ℕ) → IsDocument bytes o kept end → (u : Unread) → IsUnclaimed o kept query (drop end bytes) u → IsUnread query bytes u
 unclaimed query bytes o kept end is_document (Document e) why = absurd why
 unclaimed query bytes o kept end is_document (Query e) why = no_query o kept end e is_document why
 unclaimed query bytes o kept end is_document (Line n) why =
-    shown o kept end why.counts why.asked (malformed_line n) is_document why.is_query (subst (λ c. Shows (with_names o why.counts) why.asked c (malformed_line n)) (sym why.found) refl)
+    shown o kept end why.counts why.asked (malformed_line n) is_document why.is_query why.is_first
 unclaimed query bytes o kept end is_document NoMemory why = tt
 
 -- the verdict on an input that was read is what is replied
@@ -53,4 +61,4 @@ verdict_said query bytes x v is says =
     let both = with_names is.document c.counts in
     let verdict : IsVerdictOn both x.asked x.certificate v = subst (λ l. IsVerdictOn l x.asked x.certificate v) c.listed says in
     let found : certificate both (drop is.end bytes) ≡ Ok x.certificate = ap (λ l. certificate l (drop is.end bytes)) (sym c.listed) ∙ c.found in
-    shown is.document is.kept is.end c.counts x.asked (judged v) is.is_document c.is_query (subst (λ k. Shows both x.asked k (judged v)) (sym found) verdict)
+    shown is.document is.kept is.end c.counts x.asked (judged v) is.is_document c.is_query (x.certificate, found, verdict)

@@ -17,7 +17,9 @@ use Rattle.ofn_expressions.specs.declared.refusal.Refusal.{Refusal}
 use Rattle.ofn_reader.specs.DocumentContext.{DocumentContext}
 use Rattle.ofn_reader.specs.Documents.{IsDocument, IsNoDocument}
 use Rattle.text_laws.specs.LimitLaws.{with_names}
-use Rattle.certificate_check.specs.Certificates.{certificate, Fits}
+use Rattle.certificate_lines.specs.Malformed.{IsFirstMalformed}
+use Rattle.certificate_check.specs.Certificates.{certificate_lines, certificate, Fits}
+use Rattle.certificate_check.specs.Malformed.{certificate_read}
 use Rattle.certificate_check.specs.declared.certificate.Certificate.{Certificate}
 use Rattle.certificate_check.specs.declared.certificate.Certificate.TheVariants as C
 use Rattle.certificate_check.specs.declared.checking.Claim.{Claim}
@@ -90,11 +92,13 @@ IsVerdictOn o q (C.Refutation r) v = IsOfRefutation o q r v
 abbrev pub IsVerdict : Input → Verdict → Type 0
 IsVerdict input v = IsVerdictOn input.ontology input.asked input.certificate v
 
--- what is replied to a certificate for a query on an ontology, or to lines that are none
-abbrev pub Shows : Listed → Asked → Result Certificate ℕ → Reply → Type 0
-Shows o asked (Ok c) (judged v) = IsVerdictOn o asked c v
-Shows o asked (Err n) (malformed_line k) = n ≡ k
-Shows o asked c r = ⊥
+-- What is replied to a query on an ontology and to the text behind the document: the verdict on the certificate that it is; or
+-- the first line that keeps it from being one.
+abbrev pub Shows : Listed → Asked → List ℕ → Reply → Type 0
+Shows o asked rest (judged v) = (c : Certificate) × (certificate o rest ≡ Ok c) × IsVerdictOn o asked c v
+Shows o asked rest (malformed_line n) = IsFirstMalformed 1 (certificate_read o) (certificate_lines rest) n
+Shows o asked rest (refused_document e) = ⊥
+Shows o asked rest (refused_query e) = ⊥
 
 -- What is replied to a query and an input: the document is refused; else the query is; else it is what the certificate
 -- shows that follows the document.
@@ -102,7 +106,7 @@ pub data IsReply (query bytes : List ℕ) : Reply → Type 0 where
   no_document : (e : Refusal) → IsNoDocument bytes e → IsReply query bytes (refused_document e)
   no_query : (o : Listed) (kept : DocumentContext) (end : ℕ) (e : Refusal) → IsDocument bytes o kept end → IsNotAsked o kept query e → IsReply query bytes (refused_query e)
   shown : (o : Listed) (kept : DocumentContext) (end : ℕ) (counts : Counts) (asked : Asked) (r : Reply) → IsDocument bytes o kept end → IsAsked o kept query counts asked
-      → Shows (with_names o counts) asked (certificate (with_names o counts) (drop end bytes)) r → IsReply query bytes r
+      → Shows (with_names o counts) asked (drop end bytes) r → IsReply query bytes r
 
 -- why there is nothing to verify, unless memory was refused
 abbrev pub IsUnread : List ℕ → List ℕ → Unread → Type 0
@@ -111,16 +115,16 @@ IsUnread query bytes (U.Query e) = IsReply query bytes (refused_query e)
 IsUnread query bytes (U.Line n) = IsReply query bytes (malformed_line n)
 IsUnread query bytes U.NoMemory = Unit {0}
 
--- the query is read, and the text after the document is this certificate, or none
-pub record IsCertified (o : Listed) (kept : DocumentContext) (query rest : List ℕ) (c : Result Certificate ℕ) : Type 0 where
+-- the query is read, and this is the first malformed line of the text after the document
+pub record IsMalformed (o : Listed) (kept : DocumentContext) (query rest : List ℕ) (n : ℕ) : Type 0 where
   pub counts : Counts
   pub asked : Asked
   pub is_query : IsAsked o kept query counts asked
-  pub found : certificate (with_names o counts) rest ≡ c
+  pub is_first : IsFirstMalformed 1 (certificate_read (with_names o counts)) (certificate_lines rest) n
 
 -- why there is no claim on a document, unless memory was refused
 abbrev pub IsUnclaimed : Listed → DocumentContext → List ℕ → List ℕ → Unread → Type 0
 IsUnclaimed o kept query rest (U.Document e) = ⊥
 IsUnclaimed o kept query rest (U.Query e) = IsNotAsked o kept query e
-IsUnclaimed o kept query rest (U.Line n) = IsCertified o kept query rest (Err n)
+IsUnclaimed o kept query rest (U.Line n) = IsMalformed o kept query rest n
 IsUnclaimed o kept query rest U.NoMemory = Unit {0}

@@ -7,7 +7,7 @@ use Rattle.job_inputs.specs.declared.unread.Unread.TheVariants as U
 use Rattle.job_inputs.specs.declared.status.Status.{Status}
 use Rattle.job_inputs.specs.declared.status.Status.TheVariants.{Done, Undecided}
 use Rattle.job_inputs.specs.Questions.{IsNotAlone}
-use Rattle.classification_jobs.specs.Classifications.{IsFinished, IsUnfinished, OnDocument}
+use Rattle.classification_jobs.specs.Classifications.{IsFinished, IsUnfinished, OnDocument, HasBegun}
 
 -- the answer on an ontology
 abbrev pub IsAnsweredOn : ℕ → Listed → List Entry → Status → List ℕ → Type 0
@@ -20,8 +20,8 @@ abbrev pub IsAnswered : ℕ → List ℕ → List Entry → Status → List ℕ 
 IsAnswered budget bytes log s out = OnDocument (λ o. IsAnsweredOn budget o log s out) bytes
 
 -- why a document is not answered, and then nothing was asked; or memory was refused
-abbrev pub IsUnanswered : List ℕ → List Entry → Unread → Type 0
-IsUnanswered bytes log (U.Document e) = IsNotAlone bytes e × (log ≡ [])
-IsUnanswered bytes log (U.Query e) = ⊥
-IsUnanswered bytes log (U.Line n) = ⊥
-IsUnanswered bytes log U.NoMemory = Unit {0}
+abbrev pub IsUnanswered : ℕ → List ℕ → List Entry → Unread → Type 0
+IsUnanswered budget bytes log (U.Document e) = IsNotAlone bytes e × (log ≡ [])
+IsUnanswered budget bytes log (U.Query e) = ⊥
+IsUnanswered budget bytes log (U.Line n) = ⊥
+IsUnanswered budget bytes log U.NoMemory = HasBegun budget bytes log

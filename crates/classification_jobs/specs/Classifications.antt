@@ -1,5 +1,5 @@
 -- What is answered to the job of classification.
-use Rattle.std.specs.Prelude.{◌≡◌, ℕ, [], List, codes}
+use Rattle.std.specs.Prelude.{◌≡◌, ◌⊎◌, ℕ, [], List, codes}
 use Rattle.shq_terms.specs.Listed.{Listed}
 use Rattle.ofn_expressions.specs.declared.refusal.Refusal.{Refusal}
 use Rattle.ofn_reader.specs.DocumentContext.{DocumentContext}
@@ -12,12 +12,13 @@ use Rattle.classifier.specs.Excluded.{AsksNoExcluded}
 use Rattle.classification_jobs.specs.Taxonomies.{Parthood}
 use Rattle.classification_jobs.specs.TaxonomyText.{taxonomy_text}
 use Rattle.classification_jobs.specs.TaxonomyLaws.{taxonomy_by}
-use Rattle.job_inputs.specs.Answer.{line, no_memory, complaint_answer, IsAnswer}
+use Rattle.job_inputs.specs.Answer.{line, complaint_answer, IsAnswer}
 use Rattle.job_inputs.specs.Complaints.{complaint}
 use Rattle.job_inputs.specs.declared.complaint.Place.TheVariants.{Document}
 use Rattle.job_inputs.specs.declared.status.Status.{Status}
 use Rattle.job_inputs.specs.declared.status.Status.TheVariants.{Done, Undecided, NoMemory}
 use Rattle.job_inputs.specs.Questions.{IsDocumentAlone, IsNotAlone}
+use Rattle.job_inputs.specs.Refusals.{IsOutOfMemory}
 
 -- ---- answers on an ontology
 
@@ -39,6 +40,11 @@ pub record IsUnfinished (budget : ℕ) (out : List ℕ) (log : List Entry) (o : 
   pub excluded : AsksNoExcluded log
   pub ends : EndsSpent budget log
 
+-- where memory was refused: the log so far is honest and asks nothing that was ruled out
+pub record IsClassifying (budget : ℕ) (log : List Entry) (o : Listed) : Type 0 where
+  pub honest : IsClassificationLog o budget log
+  pub excluded : AsksNoExcluded log
+
 -- ---- the answer on a document
 
 -- the bytes are a document alone, and this is so of its ontology
@@ -55,9 +61,13 @@ pub record IsRefused (bytes out : List ℕ) (s : Status) (log : List Entry) : Ty
   pub answer : IsAnswer (complaint_answer Document (complaint refusal)) out s
   pub unlogged : log ≡ []
 
+-- where memory was refused: nothing was asked, or the document is read
+abbrev pub HasBegun : ℕ → List ℕ → List Entry → Type 0
+HasBegun budget bytes log = (log ≡ []) ⊎ OnDocument (IsClassifying budget log) bytes
+
 -- the answer, unless memory was refused
 abbrev pub AnswersClassification : ℕ → List ℕ → List ℕ → Status → List Entry → Type 0
-AnswersClassification budget bytes out NoMemory log = out ≡ no_memory
+AnswersClassification budget bytes out NoMemory log = IsOutOfMemory out (HasBegun budget bytes log)
 AnswersClassification budget bytes out Done log = OnDocument (IsFinished budget out log) bytes
 AnswersClassification budget bytes out Undecided log = OnDocument (IsUnfinished budget out log) bytes
 AnswersClassification budget bytes out s log = IsRefused bytes out s log

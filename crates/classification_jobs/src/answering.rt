@@ -2,7 +2,7 @@
 ghost use Rattle.std.specs.Prelude.{◌≡◌, ◌≤◌, false, [], IfOk, IfErr, length};
 ghost use Rattle.ontology_limits.specs.Limits.{IsOntologyInLimit};
 ghost use Rattle.job_inputs.specs.Answer.{text_bytes, is_fault};
-ghost use Rattle.classification_jobs.specs.Classifications.{AnswersClassification};
+ghost use Rattle.classification_jobs.specs.Classifications.{IsClassifying, AnswersClassification};
 ghost use Rattle.classification_jobs.specs.Answering.{IsAnswered, IsAnsweredOn, IsUnanswered};
 
 use crate::deciding::{relation_of, text_of};
@@ -36,7 +36,7 @@ fn classified(
     requires small { length bytes.now ≤ 4294967293 }
     requires unlogged { log.old ≡ [] }
     ensures answer { IfOk result (λ a. IsAnswered budget bytes.now log.new a.0 (text_bytes a.1)) }
-    ensures unread { IfErr result (IsUnanswered bytes.now log.new) }
+    ensures unread { IfErr result (IsUnanswered budget bytes.now log.new) }
 {
     let (ontology, context) = read_document(alloc, bytes)?;
     let outcome = classified_on(alloc, budget, &ontology, log);
@@ -54,7 +54,8 @@ fn classified_on(
 ) -> Result<(Status, Text), NoMemory>
     requires in_limit { IsOntologyInLimit ontology.now }
     requires unlogged { log.old ≡ [] }
-    ensures { IfOk result (λ a. IsAnsweredOn budget ontology.now log.new a.0 (text_bytes a.1)) }
+    ensures answer { IfOk result (λ a. IsAnsweredOn budget ontology.now log.new a.0 (text_bytes a.1)) }
+    ensures begun { IsClassifying budget log.new ontology.now }
 {
     match relation_of(alloc, budget, ontology, log) {
         Ok(relation) => Ok((Status::Done, text_of(alloc, relation, ontology)?)),

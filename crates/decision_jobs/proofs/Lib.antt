@@ -3,3 +3,4 @@ pub mod Accepted
 pub mod Answered
 pub mod Exclusive
 pub use Rattle.certificate_check.proofs.Truth
+pub use Rattle.certificate_check.proofs.FirstMalformed

@@ -1,14 +1,15 @@
 -- What is known while a question is answered.
-use Rattle.std.specs.Prelude.{◌≡◌, ℕ, [], List}
+use Rattle.std.specs.Prelude.{◌≡◌, ◌⊎◌, ℕ, [], List}
 use Rattle.shq_terms.specs.Listed.{Listed}
 use Rattle.shq_terms.specs.declared.axioms.Query.{Query as Asked}
 use Rattle.ofn_reader.specs.DocumentContext.{DocumentContext}
 use Rattle.run_log.specs.declared.entry.Entry.{Entry}
+use Rattle.run_log.specs.HonestLog.{IsDecisionLog}
 use Rattle.shq_oracle.specs.declared.answer.Answer.{Answer as Decision}
 use Rattle.certificate_check.specs.Unread.{Unread}
 use Rattle.certificate_check.specs.Unread.TheVariants as U
 use Rattle.certificate_check.specs.Status.{Status}
-use Rattle.certificate_check.specs.Questions.{Text, IsNotAskedBy}
+use Rattle.certificate_check.specs.Questions.{Text, IsNotAskedBy, IsReadQuestion}
 use Rattle.decision_jobs.specs.Deciding.{IsDecision, IsKeptModel}
 use Rattle.decision_jobs.specs.Decisions.{decision_text, decision_status, IsLogged, IsDecided}
 
@@ -24,9 +25,17 @@ pub record IsDecidedBy (question : Text) (budget : ℕ) (o : Listed) (q : Asked)
 abbrev pub IsAnswered : Text → ℕ → List ℕ → List Entry → Status → List ℕ → Type 0
 IsAnswered question budget bytes log s out = IsDecided question budget bytes out s log
 
+-- where memory was refused: nothing was asked, or one honest test of all axioms and the query
+abbrev pub IsBegun : Listed → Asked → ℕ → List Entry → Type 0
+IsBegun o q budget log = (log ≡ []) ⊎ IsDecisionLog o q budget log
+
+-- the same of a question on a document
+abbrev pub IsBegunOn : Listed → DocumentContext → Text → ℕ → List Entry → Type 0
+IsBegunOn o kept question budget log = (log ≡ []) ⊎ ((both : Listed) × (q : Asked) × IsReadQuestion o kept question both q × IsDecisionLog both q budget log)
+
 -- why a question on a document is not answered, and then nothing was asked; or memory was refused
-abbrev pub IsUnansweredOn : Listed → DocumentContext → Text → List Entry → Unread → Type 0
-IsUnansweredOn o kept question log (U.Query e) = IsNotAskedBy o kept question e × (log ≡ [])
-IsUnansweredOn o kept question log (U.Document e) = ⊥
-IsUnansweredOn o kept question log (U.Line n) = ⊥
-IsUnansweredOn o kept question log U.NoMemory = Unit {0}
+abbrev pub IsUnansweredOn : Listed → DocumentContext → Text → ℕ → List Entry → Unread → Type 0
+IsUnansweredOn o kept question budget log (U.Query e) = IsNotAskedBy o kept question e × (log ≡ [])
+IsUnansweredOn o kept question budget log (U.Document e) = ⊥
+IsUnansweredOn o kept question budget log (U.Line n) = ⊥
+IsUnansweredOn o kept question budget log U.NoMemory = IsBegunOn o kept question budget log

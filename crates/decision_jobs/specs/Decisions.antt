@@ -14,10 +14,10 @@ use Rattle.shq_oracle.specs.declared.answer.Answer.TheVariants as Answered
 use Rattle.shq_oracle.specs.Decided.{Matches}
 use Rattle.certificate_check.specs.Certificates.{certificate}
 use Rattle.certificate_check.specs.Checking.{IsVerdictOn}
-use Rattle.certificate_check.specs.Refusals.{IsRefused}
+use Rattle.certificate_check.specs.Refusals.{IsRefused, HasBegun, IsOutOfMemory}
 use Rattle.certificate_check.specs.declared.certificate.Certificate.TheVariants as C
 use Rattle.certificate_check.specs.Verdict.TheVariants.{Entailed, NotEntailed}
-use Rattle.certificate_check.specs.Answer.{line, no_memory}
+use Rattle.certificate_check.specs.Answer.{line}
 use Rattle.certificate_check.specs.Status.{Status}
 use Rattle.certificate_check.specs.Status.TheVariants.{Done, Undecided, NoMemory}
 use Rattle.certificate_check.specs.Questions.{Text, has_element, follows, IsQuestion}
@@ -75,7 +75,11 @@ pub record IsDecided (question : Text) (budget : ℕ) (bytes out : List ℕ) (s 
   pub accepted : IsAccepted ontology query out decision
   pub logged : IsLogged ontology query budget decision log
 
+-- where memory was refused: nothing was asked, or one honest test of all axioms and the query
+abbrev pub BeginsQuestion : Text → ℕ → List ℕ → List Entry → Type 0
+BeginsQuestion question budget bytes log = HasBegun question bytes log (λ o q. IsDecisionLog o q budget log)
+
 -- the answer, unless memory was refused
 abbrev pub AnswersQuestion : Text → ℕ → List ℕ → List ℕ → Status → List Entry → Type 0
-AnswersQuestion question budget bytes out NoMemory log = out ≡ no_memory
+AnswersQuestion question budget bytes out NoMemory log = IsOutOfMemory out (BeginsQuestion question budget bytes log)
 AnswersQuestion question budget bytes out s log = IsRefused question bytes out s log ⊎ IsDecided question budget bytes out s log

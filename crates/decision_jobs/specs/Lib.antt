@@ -9,3 +9,4 @@ pub use Rattle.certificate_check.specs.Checked
 pub use Rattle.certificate_check.specs.Checking
 pub use Rattle.certificate_check.specs.declared.certificate.Certificate
 pub use Rattle.certificate_check.specs.Verdicts
+pub use Rattle.certificate_check.specs.Malformed

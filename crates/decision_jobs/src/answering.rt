@@ -1,11 +1,12 @@
 // From the question and the bytes of a document to the answer.
-ghost use Rattle.std.specs.Prelude.{◌≡◌, ℕ, ◌≤◌, false, List, [], IfOk, IfErr, length};
+ghost use Rattle.std.specs.Prelude.{◌≡◌, ℕ, ◌≤◌, false, List, [], IfOk, IfErr, OnErr, length};
 ghost use Rattle.ontology_limits.specs.Limits.{IsInLimit};
 ghost use Rattle.certificate_check.specs.Answer.{text_bytes, is_fault};
 ghost use Rattle.certificate_check.specs.Questions.{question_text, IsDocumentAlone};
+ghost use Rattle.run_log.specs.HonestLog.{IsDecisionLog};
 ghost use Rattle.decision_jobs.specs.Decisions.{AnswersQuestion};
 ghost use Rattle.certificate_check.specs.Refusals.{IsUnanswered};
-ghost use Rattle.decision_jobs.specs.Answering.{IsAnswered, IsDecidedBy, IsUnansweredOn};
+ghost use Rattle.decision_jobs.specs.Answering.{IsAnswered, IsDecidedBy, IsBegun, IsUnansweredOn};
 
 use crate::deciding::{decide, status_of, text_of};
 use certificate_check::{
@@ -48,7 +49,7 @@ fn answered(
     requires small { length bytes.now ≤ 4294967293 }
     requires unlogged { log.old ≡ [] }
     ensures answer { IfOk result (λ a. IsAnswered (question_text question.entry) budget bytes.now log.new a.0 (text_bytes a.1)) }
-    ensures unread { IfErr result (IsUnanswered (question_text question.entry) bytes.now log.new) }
+    ensures unread { IfErr result (IsUnanswered (question_text question.entry) bytes.now log.new (λ o q. IsDecisionLog o q budget log.new)) }
 {
     let (mut ontology, context) = read_document(alloc, bytes)?;
     let outcome = answered_on(alloc, question, budget, bytes, &mut ontology, &context, log);
@@ -70,7 +71,7 @@ fn answered_on(
     requires document { IsDocumentAlone bytes.now ontology.old context.now }
     requires unlogged { log.old ≡ [] }
     ensures answer { IfOk result (λ a. IsAnswered (question_text question.entry) budget bytes.now log.new a.0 (text_bytes a.1)) }
-    ensures unread { IfErr result (IsUnansweredOn ontology.old context.now (question_text question.entry) log.new) }
+    ensures unread { IfErr result (IsUnansweredOn ontology.old context.now (question_text question.entry) budget log.new) }
 {
     let _document = bytes;
     let query = read_question(alloc, question, ontology, context)?;
@@ -92,6 +93,7 @@ fn decided(
     requires unlogged { log.old ≡ [] }
     ensures decided { IfOk result (λ a. IsDecidedBy (question_text question.entry) budget ontology.now query.now log.new a.0 (text_bytes a.1)) }
     ensures unread { IfErr result (λ u. u ≡ Unread.NoMemory) }
+    ensures begun { OnErr result (IsBegun ontology.now query.now budget log.new) }
 {
     let decision = decide(alloc, ontology, query, budget, log)?;
     let text = text_of(alloc, question, ontology, &decision);

@@ -19,7 +19,7 @@ use std::mem;
 ///
 /// # Errors
 ///
-/// Out of memory.
+/// Out of memory. The log is empty then.
 pub(crate) fn decide(
     alloc: Global,
     ontology: &Ontology,
@@ -31,6 +31,7 @@ pub(crate) fn decide(
     requires unlogged { log.old ≡ [] }
     ensures decision { IfOk result (IsDecision ontology.now query.now) }
     ensures logged { IfOk result (λ d. IsLogged ontology.now query.now budget d log.new) }
+    ensures unlogged { OnErr result (log.new ≡ []) }
 {
     let begun = mem::replace(log, RunLog::new(alloc));
     let mut oracle = Oracle::new(alloc, ontology, budget, begun);
@@ -50,6 +51,7 @@ fn ask(
     requires unlogged { oracle.old.log ≡ [] }
     ensures decision { IfOk result (IsDecision ontology.now query.now) }
     ensures logged { IfOk result (λ d. IsLogged ontology.now query.now oracle.old.budget d oracle.new.log) }
+    ensures unlogged { OnErr result (oracle.new.log ≡ []) }
 {
     let all = AxiomSet::full(alloc, ontology.axiom_count())?;
     oracle.decide(&all, query)

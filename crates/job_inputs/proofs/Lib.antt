@@ -1,4 +1,6 @@
 pub mod Skipping
+pub mod Strays
+pub mod OneReading
 pub mod Refused
 pub mod Stops
 pub mod Messages

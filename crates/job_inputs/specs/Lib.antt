@@ -6,4 +6,5 @@ pub mod Replies
 pub mod Rest
 pub mod Questions
 pub mod Refusals
+pub mod Laws
 pub use Rattle.text_laws.specs.LimitLaws

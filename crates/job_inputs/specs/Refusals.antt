@@ -1,8 +1,11 @@
--- What is refused before anything is asked: then the log of the questions is empty, whatever its entries are.
+-- What is refused before anything is asked: then the log of the questions is empty, whatever its entries are. And what the log
+-- holds where memory was refused.
 use Rattle.std.specs.Prelude.{◌≡◌, ℕ, [], List}
-use Rattle.job_inputs.specs.Answer.{IsAnswer}
+use Rattle.shq_terms.specs.Listed.{Listed}
+use Rattle.shq_terms.specs.declared.axioms.Query.{Query as Asked}
+use Rattle.job_inputs.specs.Answer.{no_memory, IsAnswer}
 use Rattle.job_inputs.specs.Asked.{Reply, refused_document, refused_query}
-use Rattle.job_inputs.specs.Questions.{Text, IsRefusedQuestion}
+use Rattle.job_inputs.specs.Questions.{Text, IsQuestion, IsRefusedQuestion}
 use Rattle.job_inputs.specs.Replies.{reply_answer}
 use Rattle.job_inputs.specs.declared.status.Status.{Status}
 use Rattle.job_inputs.specs.declared.unread.Unread.{Unread}
@@ -15,9 +18,19 @@ pub record IsRefused {E : Type 0} (question : Text) (bytes out : List ℕ) (s : 
   pub answer : IsAnswer (reply_answer reply) out s
   pub unlogged : log ≡ []
 
--- why a question is not answered, and then nothing was asked; or memory was refused
-abbrev pub IsUnanswered : {E : Type 0} → Text → List ℕ → List E → Unread → Type 0
-IsUnanswered question bytes log (U.Document e) = IsRefusedQuestion question bytes (refused_document e) × (log ≡ [])
-IsUnanswered question bytes log (U.Query e) = IsRefusedQuestion question bytes (refused_query e) × (log ≡ [])
-IsUnanswered question bytes log (U.Line n) = ⊥
-IsUnanswered question bytes log U.NoMemory = Unit {0}
+-- The log is empty; or the question is read, and this is so of the log of what was asked.
+pub data HasBegun {E : Type 0} (question : Text) (bytes : List ℕ) (log : List E) (is_so : Listed → Asked → Type 0) : Type 0 where
+  nothing : log ≡ [] → HasBegun question bytes log is_so
+  asked : (o : Listed) (q : Asked) → IsQuestion question bytes o q → is_so o q → HasBegun question bytes log is_so
+
+-- where memory was refused, the text says that and nothing else
+pub record IsOutOfMemory (out : List ℕ) (begun : Type 0) : Type 0 where
+  pub text : out ≡ no_memory
+  pub log_is : begun
+
+-- why a question is not answered, and then nothing was asked; or memory was refused, and then this is so of what was
+abbrev pub IsUnanswered : {E : Type 0} → Text → List ℕ → List E → (Listed → Asked → Type 0) → Unread → Type 0
+IsUnanswered question bytes log is_so (U.Document e) = IsRefusedQuestion question bytes (refused_document e) × (log ≡ [])
+IsUnanswered question bytes log is_so (U.Query e) = IsRefusedQuestion question bytes (refused_query e) × (log ≡ [])
+IsUnanswered question bytes log is_so (U.Line n) = ⊥
+IsUnanswered question bytes log is_so U.NoMemory = HasBegun question bytes log is_so

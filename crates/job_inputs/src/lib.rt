@@ -10,6 +10,7 @@
 
 mod complaint;
 mod documents;
+mod laws;
 mod message;
 mod reading;
 mod rest;
@@ -20,6 +21,9 @@ mod verdict;
 
 pub use complaint::{Complaint, Place, Sort, complaint_of};
 pub use documents::{document, query_on};
+pub use laws::{
+    documents_alone_are_not_refused, gaps_have_no_stray, questions_are_read_in_one_way,
+};
 pub use message::{Message, unread_reply};
 pub use reading::{Question, read_document, read_question};
 pub use rest::first_stray;

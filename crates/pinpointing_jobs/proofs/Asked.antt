@@ -1,13 +1,32 @@
 -- The document and the query of a run.
-use Rattle.std.proofs.Common.{ℕ, List}
+use Rattle.std.proofs.Common.{◌≡◌, ◌≢◌, ◌⊎◌, ℕ, ◌≤◌, Bool, true, false, List, [], refl, ap, sym, ◌∙◌, inl, inr}
 use Rattle.shq_terms.specs.Listed.{Listed}
+use Rattle.shq_terms.specs.declared.axioms.Query.{Query as Asked}
 use Rattle.ofn_reader.specs.DocumentContext.{DocumentContext}
 use Rattle.job_inputs.specs.declared.unread.Unread.{Unread}
 use Rattle.job_inputs.specs.declared.unread.Unread.TheVariants as U
-use Rattle.job_inputs.specs.Questions.{follows, document, query, IsDocumentAlone, IsReadQuestion, IsUnreadDocument, IsUnreadQuestion}
+use Rattle.ofn_reader.specs.Queries.{IsQueryOn}
+use Rattle.workload.specs.WorkloadText.{workload_text}
+use Rattle.workload.specs.Laws.{IsWorkload, asked as wanted}
+use Rattle.workload.proofs.Whole.{workloads_are_documents}
+use Rattle.workload.proofs.Asked.{queries_are_read}
+use Rattle.run_log.specs.declared.entry.Entry.{Entry}
+use Rattle.job_inputs.specs.Asked.{refused_document, refused_query}
+use Rattle.job_inputs.specs.Answer.{Answer, no_memory, IsAnswer, Gives}
+use Rattle.job_inputs.specs.Replies.{unread_answer}
+use Rattle.job_inputs.specs.Refusals.{IsRefused, HasBegun, nothing, asked, IsUnanswered}
+use Rattle.job_inputs.specs.declared.status.Status.{Status}
+use Rattle.job_inputs.specs.declared.status.Status.TheVariants.{Done, Rejected, BadWords, BadText, Outside, Limit, ReadFault, WriteFault, Undecided, NoMemory}
+use Rattle.job_inputs.specs.Questions.{follows, document, query, IsDocumentAlone, IsQuestion, IsReadQuestion, IsUnreadDocument, IsUnreadQuestion}
+use Rattle.job_inputs.proofs.OneReading.{questions_not_refused}
 use Rattle.job_inputs.proofs.ReadInLimit.{question_in_limit}
 use Rattle.pinpointing_jobs.specs.declared.asking.Input.{Input}
 use Rattle.pinpointing_jobs.specs.Asked.{IsInput, IsNoInput}
+use Rattle.pinpointing_jobs.specs.declared.wanted.Wanted.{Wanted}
+use Rattle.pinpointing_jobs.specs.Memory.{UnlessNoMemory}
+use Rattle.pinpointing_jobs.specs.Answers.{IsPinpointed, AnswersPinpointing, workload_query}
+use Rattle.pinpointing_jobs.specs.Begun.{IsFront, HasSearched}
+use Rattle.pinpointing_jobs.specs.Laws.{WorkloadsAreQuestions}
 
 pub is_input : (inclusion bytes : List ℕ) (o : Listed) (kept : DocumentContext) (input : Input) → IsDocumentAlone bytes o kept → IsReadQuestion o kept (follows inclusion) input.ontology input.query → IsInput inclusion bytes input
 is_input inclusion bytes o kept input d x = record {
@@ -26,3 +45,94 @@ no_query inclusion bytes o kept (U.Query e) d why = query o kept e d why
 no_query inclusion bytes o kept (U.Document e) d why = absurd why
 no_query inclusion bytes o kept (U.Line n) d why = absurd why
 no_query inclusion bytes o kept U.NoMemory d why = tt
+
+-- ---- what was asked of an input
+
+pub begun : (inclusion bytes : List ℕ) (budget : ℕ) (input : Input) (log : List Entry) → IsInput inclusion bytes input → HasSearched input.ontology input.query budget log → HasBegun (follows inclusion) bytes log (λ o q. IsFront o q budget log)
+begun inclusion bytes budget input log read (inl none) = nothing none
+begun inclusion bytes budget input log read (inr front) = asked input.ontology input.query read.is_question front
+
+pub no_input : (inclusion bytes : List ℕ) (budget : ℕ) (log : List Entry) (u : Unread) → log ≡ [] → IsNoInput inclusion bytes u → IsUnanswered (follows inclusion) bytes log (λ o q. IsFront o q budget log) u
+no_input inclusion bytes budget log (U.Document e) none why = (why, none)
+no_input inclusion bytes budget log (U.Query e) none why = (why, none)
+no_input inclusion bytes budget log (U.Line n) none why = absurd why
+no_input inclusion bytes budget log U.NoMemory none why = nothing none
+
+-- ---- answers
+
+abbrev is_no_memory : Status → Bool
+is_no_memory NoMemory = true
+is_no_memory s = false
+
+-- an answer that was given, or that memory was refused for its text
+unless_refused : (a : Answer) (out : List ℕ) (s : Status) (log_is fact : Type 0) → Gives a out s → log_is → (IsAnswer a out s → fact) → UnlessNoMemory s out log_is fact
+unless_refused a out Done log_is fact gives so answer = answer gives
+unless_refused a out Rejected log_is fact gives so answer = answer gives
+unless_refused a out BadWords log_is fact gives so answer = answer gives
+unless_refused a out BadText log_is fact gives so answer = answer gives
+unless_refused a out Outside log_is fact gives so answer = answer gives
+unless_refused a out Limit log_is fact gives so answer = answer gives
+unless_refused a out ReadFault log_is fact gives so answer = answer gives
+unless_refused a out WriteFault log_is fact gives so answer = answer gives
+unless_refused a out Undecided log_is fact gives so answer = answer gives
+unless_refused a out NoMemory log_is fact gives so answer = record { text = gives; log_is = so }
+
+-- that memory was refused is an answer of its own
+out_of_memory : (out : List ℕ) (s : Status) (log_is fact : Type 0) → Gives (NoMemory, no_memory) out s → log_is → UnlessNoMemory s out log_is fact
+out_of_memory out s log_is fact gives so = by s gives
+  where
+    other : (s : Status) → is_no_memory s ≡ false → ◌≡◌ {A = Answer} (s, out) (NoMemory, no_memory) → ⊥
+    other s no' is = let clash : false ≡ true = sym no' ∙ ap (λ (a : Answer). is_no_memory a.0) is in absurd (cc clash)
+
+    by : (s : Status) → Gives (NoMemory, no_memory) out s → UnlessNoMemory s out log_is fact
+    by NoMemory gives = record { text = gives; log_is = so }
+    by Done gives = absurd (other Done refl gives)
+    by Rejected gives = absurd (other Rejected refl gives)
+    by BadWords gives = absurd (other BadWords refl gives)
+    by BadText gives = absurd (other BadText refl gives)
+    by Outside gives = absurd (other Outside refl gives)
+    by Limit gives = absurd (other Limit refl gives)
+    by ReadFault gives = absurd (other ReadFault refl gives)
+    by WriteFault gives = absurd (other WriteFault refl gives)
+    by Undecided gives = absurd (other Undecided refl gives)
+
+-- the reply to a question that is not answered
+pub unread_answers : (w : Wanted) (inclusion : List ℕ) (budget : ℕ) (bytes out : List ℕ) (s : Status) (log : List Entry) (u : Unread) → IsUnanswered (follows inclusion) bytes log (λ o q. IsFront o q budget log) u → Gives (unread_answer u) out s
+    → AnswersPinpointing w inclusion budget bytes out s log
+unread_answers w inclusion budget bytes out s log (U.Document e) why gives =
+    unless_refused (unread_answer (U.Document e)) out s (HasBegun (follows inclusion) bytes log (λ o q. IsFront o q budget log)) (IsRefused (follows inclusion) bytes out s log ⊎ IsPinpointed w inclusion budget bytes out s log) gives (nothing why.1)
+    (λ is. inl (record { reply = refused_document e; refused = why.0; answer = is; unlogged = why.1 }))
+unread_answers w inclusion budget bytes out s log (U.Query e) why gives =
+    unless_refused (unread_answer (U.Query e)) out s (HasBegun (follows inclusion) bytes log (λ o q. IsFront o q budget log)) (IsRefused (follows inclusion) bytes out s log ⊎ IsPinpointed w inclusion budget bytes out s log) gives (nothing why.1)
+    (λ is. inl (record { reply = refused_query e; refused = why.0; answer = is; unlogged = why.1 }))
+unread_answers w inclusion budget bytes out s log (U.Line n) why gives = absurd why
+unread_answers w inclusion budget bytes out s log U.NoMemory why gives = out_of_memory out s (HasBegun (follows inclusion) bytes log (λ o q. IsFront o q budget log)) (IsRefused (follows inclusion) bytes out s log ⊎ IsPinpointed w inclusion budget bytes out s log) gives why
+
+-- ---- the document of a workload
+
+pub workload_question : (n : ℕ) (few : n ≤ 4000) → IsQuestion (follows workload_query) (workload_text n) (workloads_are_documents n few).read wanted
+workload_question n few = by (queries_are_read n (workload_text n) (workloads_are_documents n few) few)
+  where
+    w : IsWorkload n (workload_text n)
+    w = workloads_are_documents n few
+
+    by : IsQueryOn w.kept w.read workload_query w.read wanted → IsQuestion (follows workload_query) (workload_text n) w.read wanted
+    by (behind, is_query, listed, same) =
+        record { document = w.read; kept = w.kept; counts = behind; is_document = record { end = w.end; is_document = w.is_document; alone = w.alone }; is_asked = is_query; both_are = same }
+
+pub workloads_are_questions : WorkloadsAreQuestions
+workloads_are_questions n few = ((workloads_are_documents n few).read, wanted, workload_question n few)
+
+-- whether it says that memory was refused
+abbrev pub is_want : Unread → Bool
+is_want (U.Document e) = false
+is_want (U.Query e) = false
+is_want (U.Line n) = false
+is_want U.NoMemory = true
+
+-- neither the document nor its query is refused
+pub no_refusal : (n : ℕ) (u : Unread) → n ≤ 4000 → is_want u ≡ false → IsNoInput workload_query (workload_text n) u → ⊥
+no_refusal n (U.Document e) few some why = questions_not_refused (follows workload_query) (workload_text n) (workloads_are_documents n few).read wanted (refused_document e) (workload_question n few) why
+no_refusal n (U.Query e) few some why = questions_not_refused (follows workload_query) (workload_text n) (workloads_are_documents n few).read wanted (refused_query e) (workload_question n few) why
+no_refusal n (U.Line k) few some why = absurd why
+no_refusal n U.NoMemory few some why = let clash : true ≡ false = some in absurd (cc clash)

@@ -1,5 +1,6 @@
 pub mod Searched
 pub mod Asked
+pub mod WorkloadSets
 pub mod Lengths
 pub mod Unique
 pub mod Repairs

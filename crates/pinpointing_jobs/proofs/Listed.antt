@@ -1,6 +1,6 @@
 -- From what a search found to the list that is written.
-use Rattle.std.proofs.Common.{◌≡◌, ℕ, ◌-◌, Bool, true, false, List, length, get_or, cond, Result, Ok, Err, refl, sym, subst}
-use Rattle.std.specs.Prelude.{IfOk}
+use Rattle.std.proofs.Common.{◌≡◌, ℕ, ◌-◌, Bool, true, false, List, length, get_or, cond, Result, Ok, Err, refl, sym, subst, inr}
+use Rattle.std.specs.Prelude.{IfOk, OnErr}
 use Rattle.std.specs.List.{Contains, All}
 use Rattle.std.proofs.lemmas.List.Elements.{Contains-get_or}
 use Rattle.shq_terms.specs.NoMemory.{NoMemory}
@@ -21,8 +21,10 @@ use Rattle.pinpointing_jobs.specs.declared.wanted.Wanted.TheVariants.{Justificat
 use Rattle.pinpointing_jobs.specs.Wanted.{IsRepairSet, HasAll, ShowsAll, HasSome}
 use Rattle.pinpointing_jobs.specs.Listings.{listing_text, end_status, IsListing, IsListAnswer}
 use Rattle.pinpointing_jobs.specs.Counts.{IsCount, IsCounted}
+use Rattle.pinpointing_jobs.specs.Begun.{HasSearched}
 use Rattle.pinpointing_jobs.specs.Searched.{IsSearched}
 use Rattle.pinpointing_jobs.specs.Written.{AreOfAxioms, AreFoundRepairs, AreFound, IsWritten, IsCountOf, IsToldCount}
+use Rattle.pinpointing_jobs.proofs.Searched.{front_of}
 use Rattle.pinpointing_jobs.proofs.Repairs.{from_justification, from_repair, alone_is_repair, has_repairs, holds}
 
 pub found_limits : (o : Listed) (f : Found) (sets : List Limited) → AreOfAxioms o f → AreFoundRepairs f sets → All (λ (s : Limited). s.limit ≡ length o.axioms) sets
@@ -147,3 +149,7 @@ module _ (o : Listed) (q : Asked) (budget : ℕ) (log : List Entry) (f : Found) 
   pub all_counted : {T : Type 0} (number : ℕ) (r : Result (Status × T) NoMemory) (text : T → List ℕ) → IfOk r (λ a. IsToldCount number o f a.0 (text a.1)) → IfOk r (λ a. IsCounted number o q budget log a.0 (text a.1))
   all_counted number (Ok a) text told = is_counted number a.0 (text a.1) told
   all_counted number (Err e) text told = tt
+
+  pub all_fronts : {T : Type 0} (r : Result T NoMemory) → OnErr r (HasSearched o q budget log)
+  all_fronts (Ok a) = tt
+  all_fronts (Err e) = inr (front_of o q budget log s.honest)

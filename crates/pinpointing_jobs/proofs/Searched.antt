@@ -1,6 +1,6 @@
 -- From what an asker answered to what a search found.
 use Rattle.std.proofs.Common.{◌≡◌, ℕ, ◌+◌, ◌-◌, ◌*◌, ◌^◌, ◌<◌, ◌≤◌, true, List, [], ◌∷◌, ◌++◌, length, get_or, Result, Ok, Err, refl, ap, sym, ◌∙◌, subst, arith, inl, inr}
-use Rattle.std.specs.Prelude.{IfOk, OnOk}
+use Rattle.std.specs.Prelude.{IfOk, OnOk, OnErr}
 use Rattle.std.specs.List.{Contains}
 use Rattle.std.proofs.Math.Nat.{mul-le-mul_right}
 use Rattle.std.proofs.lemmas.List.Sums.{sum_by-cons}
@@ -26,6 +26,7 @@ use Rattle.run_log.specs.Shown.{IsShownYes, IsShownNo}
 use Rattle.query_asker.specs.OracleLists.{OracleLists}
 use Rattle.query_asker.specs.AskerLists.{AskerLists, AskerOrigin, origin_of}
 use Rattle.query_asker.specs.Told.{KeepsAnswers, asker_meaning, IsAskerLog}
+use Rattle.pinpointing_jobs.specs.Begun.{IsFront, HasSearched}
 use Rattle.pinpointing_jobs.specs.Searched.{IsLeaf, IsSearched}
 use Rattle.pinpointing_jobs.proofs.Repairs.{to_justification}
 
@@ -44,19 +45,32 @@ few_asks size nodes asks small within few =
     let more : (size + 1) * nodes ≤ 20001 * nodes = mul-le-mul_right nodes size_small in
     omega arith
 
--- ---- the log and the lists
+-- ---- the log
 
-module _ (a : AskerLists) (f : Found) (is_log : IsAskerLog a) (found : IsFound (asker_meaning a) f) (none : a.before ≡ []) (is_module : IsLocalModule a.ontology.axioms a.query a.local_part)
-    (asked : a.asks ≤ (length a.ontology.axioms + 1) * length (nodes_of a.gained)) (small : length a.ontology.axioms ≤ 20000) (budget_small : a.budget < 2 ^ 32) where
+module _ (a : AskerLists) (is_log : IsAskerLog a) (none : a.before ≡ []) where
   whole : a.before ++ a.gained ≡ a.gained
   whole = ap (λ (l : List Entry). l ++ a.gained) none
 
   within : spent_of a.gained ≤ a.budget
   within = subst (λ (l : List Entry). spent_of l ≤ a.budget) whole is_log.within
 
+  budget_kept : IsHonestWithin a.ontology a.budget a.gained
+  budget_kept = record { within = within; honest = is_log.honest; ends = subst (EndsWhenSpent a.budget) whole is_log.ends }
+
+  front : IsLocalModule a.ontology.axioms a.query a.local_part → IsFront a.ontology a.query a.budget a.gained
+  front is_module = record { budget_kept = budget_kept; tests = is_log.tests; new = is_log.new; in_module = record { local_part = a.local_part; is_module = is_module; within = is_log.in_module } }
+
+-- an honest log is a front of one
+pub front_of : (o : Listed) (q : Asked) (budget : ℕ) (log : List Entry) → IsPinpointingLog o q budget log → IsFront o q budget log
+front_of o q budget log h = record { budget_kept = h.budget_kept; tests = h.tests; new = h.new; in_module = h.in_module }
+
+-- ---- the log and the lists
+
+module _ (a : AskerLists) (f : Found) (is_log : IsAskerLog a) (found : IsFound (asker_meaning a) f) (none : a.before ≡ []) (is_module : IsLocalModule a.ontology.axioms a.query a.local_part)
+    (asked : a.asks ≤ (length a.ontology.axioms + 1) * length (nodes_of a.gained)) (small : length a.ontology.axioms ≤ 20000) (budget_small : a.budget < 2 ^ 32) where
   few : AsksFewPerNode a.ontology a.gained
   few =
-      let nodes_few : length (nodes_of a.gained) < 2 ^ 32 = omega (arith, nodes_cost a.gained, within, budget_small) in
+      let nodes_few : length (nodes_of a.gained) < 2 ^ 32 = omega (arith, nodes_cost a.gained, within a is_log none, budget_small) in
       elim is_log.few [
         | inl le ↦ omega (arith, le, asked)
         | inr full ↦ absurd (omega (arith, full, few_asks (length a.ontology.axioms) (length (nodes_of a.gained)) a.asks small nodes_few asked))
@@ -65,12 +79,9 @@ module _ (a : AskerLists) (f : Found) (is_log : IsAskerLog a) (found : IsFound (
   just : (j : Limited) → Contains f.justifications.items j → IsJustificationSet a.ontology a.query j
   just j listed = to_justification a.ontology a.query j (found.just_limits j listed) (found.smallest j listed)
 
-  budget_kept : IsHonestWithin a.ontology a.budget a.gained
-  budget_kept = record { within = within; honest = is_log.honest; ends = subst (EndsWhenSpent a.budget) whole is_log.ends }
-
   honest : IsPinpointingLog a.ontology a.query a.budget a.gained
   honest = record {
-    budget_kept = budget_kept;
+    budget_kept = budget_kept a is_log none;
     tests = is_log.tests;
     new = is_log.new;
     nodes = record { labels = f.justifications.items; justifications = λ k d lt. just (get_or f.justifications.items k d) (Contains-get_or f.justifications.items k d lt); nodes = found.nodes };
@@ -112,7 +123,7 @@ module _ (a : AskerLists) (f : Found) (is_log : IsAskerLog a) (found : IsFound (
     settled = found.settled;
     explored = found.explored;
     shown = λ finished. record { justifications = yes_shown finished; repairs = no_shown finished };
-    spent = λ unfinished. omega (arith, found.spent unfinished, is_log.within, ap spent_of whole);
+    spent = λ unfinished. omega (arith, found.spent unfinished, is_log.within, ap spent_of (whole a is_log none));
   }
 
 -- ---- of what a call answers
@@ -158,23 +169,37 @@ asks_few o q budget m begun ended e few =
     let from : AsksFew (length ended.ontology.axioms) (asker_meaning (fresh o q budget m)) (asker_meaning ended) = subst (λ (x : AskerLists). AsksFew (length ended.ontology.axioms) (asker_meaning x) (asker_meaning ended)) e few in
     omega (arith, from)
 
-along : (o p : Listed) (q r : Asked) (b c : ℕ) (log more : List Entry) (f : Found) → o ≡ p → q ≡ r → b ≡ c → log ≡ more → IsSearched o q b log f → IsSearched p r c more f
-along o p q r b c log more f e e' e'' e''' h =
-    subst (λ (l : Listed). IsSearched l r c more f) e
-    (subst (λ (k : Asked). IsSearched o k c more f) e'
-    (subst (λ (n : ℕ). IsSearched o q n more f) e''
-    (subst (λ (l : List Entry). IsSearched o q b l f) e''' h)))
+along : (P : Listed → Asked → ℕ → List Entry → Type 0) (o p : Listed) (q r : Asked) (b c : ℕ) (log more : List Entry) → o ≡ p → q ≡ r → b ≡ c → log ≡ more → P o q b log → P p r c more
+along P o p q r b c log more same_o same_q same_b same_log h =
+    subst (λ (l : Listed). P l r c more) same_o
+    (subst (λ (k : Asked). P o k c more) same_q
+    (subst (λ (n : ℕ). P o q n more) same_b
+    (subst (λ (l : List Entry). P o q b l) same_log h)))
 
-module _ (o : Listed) (q : Asked) (budget : ℕ) (m : NumberSet) (begun ended : AskerLists) (log : List Entry) where
-  pub all_searched : begun ≡ fresh o q budget m → origin_of ended ≡ origin_of begun → IsAskerLog ended → log ≡ ended.before ++ ended.gained → IsLocalModule o.axioms q m → length o.axioms ≤ 20000 → budget < 2 ^ 32
-      → (r : Result Found NoMemory) → IfOk r (IsFound (asker_meaning ended)) → OnOk r (AsksFew (length ended.ontology.axioms) (asker_meaning begun) (asker_meaning ended)) → IfOk r (IsSearched o q budget log)
-  all_searched made same is_log log_is is_module small budget_small (Err e) found few = tt
-  all_searched made same is_log log_is is_module small budget_small (Ok f) found few =
-      let of = is_made_of o q budget m ended (same ∙ ap origin_of made) in
-      let moved : IsLocalModule ended.ontology.axioms ended.query ended.local_part =
+on_err : {T : Type 0} (P : Type 0) (r : Result T NoMemory) → P → OnErr r P
+on_err P (Ok a) holds = tt
+on_err P (Err e) holds = holds
+
+module _ (o : Listed) (q : Asked) (budget : ℕ) (m : NumberSet) (begun ended : AskerLists) (log : List Entry) (made : begun ≡ fresh o q budget m) (same : origin_of ended ≡ origin_of begun) (is_log : IsAskerLog ended)
+    (log_is : log ≡ ended.before ++ ended.gained) (is_module : IsLocalModule o.axioms q m) where
+  of : IsMadeOf o q budget m ended
+  of = is_made_of o q budget m ended (same ∙ ap origin_of made)
+
+  moved : IsLocalModule ended.ontology.axioms ended.query ended.local_part
+  moved =
       subst (λ (l : Listed). IsLocalModule l.axioms ended.query ended.local_part) (sym of.ontology)
-      (subst (λ (k : Asked). IsLocalModule o.axioms k ended.local_part) (sym of.query) (subst (λ (s : NumberSet). IsLocalModule o.axioms q s) (sym of.local_part) is_module)) in
-      let logged : ended.gained ≡ log = sym (ap (λ (l : List Entry). l ++ ended.gained) of.none) ∙ sym log_is in
+      (subst (λ (k : Asked). IsLocalModule o.axioms k ended.local_part) (sym of.query) (subst (λ (s : NumberSet). IsLocalModule o.axioms q s) (sym of.local_part) is_module))
+
+  logged : ended.gained ≡ log
+  logged = sym (ap (λ (l : List Entry). l ++ ended.gained) of.none) ∙ sym log_is
+
+  pub all_begun : (r : Result Found NoMemory) → OnErr r (HasSearched o q budget log)
+  all_begun r = on_err (HasSearched o q budget log) r (inr (along IsFront ended.ontology o ended.query q ended.budget budget ended.gained log of.ontology of.query of.budget_is logged (front ended is_log of.none moved)))
+
+  pub all_searched : length o.axioms ≤ 20000 → budget < 2 ^ 32 → (r : Result Found NoMemory) → IfOk r (IsFound (asker_meaning ended)) → OnOk r (AsksFew (length ended.ontology.axioms) (asker_meaning begun) (asker_meaning ended))
+      → IfOk r (IsSearched o q budget log)
+  all_searched small budget_small (Err e) found few = tt
+  all_searched small budget_small (Ok f) found few =
       let count : length ended.ontology.axioms ≡ length o.axioms = ap (λ (l : Listed). length l.axioms) of.ontology in
-      along ended.ontology o ended.query q ended.budget budget ended.gained log f of.ontology of.query of.budget_is logged
+      along (λ l k n es. IsSearched l k n es f) ended.ontology o ended.query q ended.budget budget ended.gained log of.ontology of.query of.budget_is logged
       (searched ended f is_log found of.none moved (asks_few o q budget m begun ended made few) (omega (arith, small, count)) (omega (arith, budget_small, of.budget_is)))

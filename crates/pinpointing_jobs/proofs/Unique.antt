@@ -8,12 +8,10 @@ use Rattle.pinpointing_specs.specs.Order.{IsAscending}
 use Rattle.set_questions.proofs.Ordered.{turned_back}
 use Rattle.shq_terms.specs.Listed.{Listed}
 use Rattle.shq_terms.specs.declared.axioms.Query.{Query as Asked}
-use Rattle.ofn_reader.specs.Queries.{query_start}
-use Rattle.ofn_reader.proofs.Unique.{documents, queries}
-use Rattle.job_inputs.specs.LimitLaws.{with_names}
 use Rattle.run_log.specs.declared.entry.Entry.{Entry}
 use Rattle.job_inputs.specs.declared.status.Status.TheVariants.{Done}
-use Rattle.job_inputs.specs.Questions.{follows, IsAskedBy, IsQuestion}
+use Rattle.job_inputs.specs.Questions.{follows}
+use Rattle.job_inputs.proofs.OneReading.{questions}
 use Rattle.pinpointing_jobs.specs.declared.wanted.Wanted.{Wanted}
 use Rattle.pinpointing_jobs.specs.Wanted.{IsWanted, HasAll}
 use Rattle.pinpointing_jobs.specs.Listings.{listing_text, end_status, IsListing}
@@ -81,20 +79,6 @@ same_lists (x ∷ xs) (y ∷ ys) first second same =
     (λ s. (in_other x y s xs ys is x_below (same s).0, in_other y x s ys xs (sym is) y_below (same s).1)) in
     λ i. is i ∷ rest i
 
--- ---- one question has one query
-
-record SameQuestion (o p : Listed) (q r : Asked) : Type 0 where
-  ontology : o ≡ p
-  query : q ≡ r
-
-same_question : (inclusion bytes : List ℕ) (o p : Listed) (q r : Asked) → IsQuestion (follows inclusion) bytes o q → IsQuestion (follows inclusion) bytes p r → SameQuestion o p q r
-same_question inclusion bytes o p q r x y =
-    let same = documents bytes x.document y.document x.kept y.kept x.is_document.end y.is_document.end x.is_document.is_document y.is_document.is_document in
-    let moved : IsAskedBy y.document y.kept (follows inclusion) x.counts q =
-    subst (λ k. IsAskedBy y.document k (follows inclusion) x.counts q) same.1 (subst (λ l. IsAskedBy l x.kept (follows inclusion) x.counts q) same.0 x.is_asked) in
-    let asked = queries y.kept.prefixes y.document.axioms (query_start y.document y.kept.nodes) inclusion x.counts y.counts q r moved y.is_asked in
-    record { ontology = x.both_are ∙ (λ i. with_names (same.0 i) (asked.0 i)) ∙ sym y.both_are; query = asked.1 }
-
 -- ---- lists
 
 -- a run that ended well has listed all
@@ -112,11 +96,11 @@ same_sets w o p q r xs ys e f first second =
 
 pub unique : ListsAreUnique
 unique w inclusion b c bytes out text log more first second =
-    let same = same_question inclusion bytes first.ontology second.ontology first.query second.query first.is_question second.is_question in
+    let same = questions (follows inclusion) bytes first.ontology second.ontology first.query second.query first.is_question second.is_question in
     let one = first.listed in
     let other = second.listed in
     let all = all_listed w first.ontology first.query b log one.sets one.finished one.status one.listing in
     let all' = all_listed w second.ontology second.query c more other.sets other.finished other.status other.listing in
-    let sets = same_sets w first.ontology second.ontology first.query second.query one.sets other.sets same.ontology same.query all.1 all'.1 in
+    let sets = same_sets w first.ontology second.ontology first.query second.query one.sets other.sets same.0 same.1 all.1 all'.1 in
     let ends : one.finished ≡ other.finished = all.0 ∙ sym all'.0 in
-    one.text ∙ (λ i. listing_text (same.ontology i) w (ends i) (sets i)) ∙ sym other.text
+    one.text ∙ (λ i. listing_text (same.0 i) w (ends i) (sets i)) ∙ sym other.text

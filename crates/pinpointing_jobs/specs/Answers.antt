@@ -6,11 +6,12 @@ use Rattle.workload.specs.WorkloadText.{workload_text}
 use Rattle.run_log.specs.declared.entry.Entry.{Entry}
 use Rattle.job_inputs.specs.declared.status.Status.{Status}
 use Rattle.job_inputs.specs.Questions.{follows, IsQuestion}
-use Rattle.job_inputs.specs.Refusals.{IsRefused}
+use Rattle.job_inputs.specs.Refusals.{IsRefused, HasBegun}
 use Rattle.pinpointing_jobs.specs.declared.wanted.Wanted.{Wanted}
 use Rattle.pinpointing_jobs.specs.Listings.{IsListAnswer}
 use Rattle.pinpointing_jobs.specs.Counts.{IsCounted}
 use Rattle.pinpointing_jobs.specs.Memory.{UnlessNoMemory}
+use Rattle.pinpointing_jobs.specs.Begun.{IsFront}
 
 -- ---- lists of sets
 
@@ -23,7 +24,9 @@ pub record IsPinpointed (w : Wanted) (inclusion : List ℕ) (budget : ℕ) (byte
 
 -- the document or the inclusion is refused, or its sets were listed
 abbrev pub AnswersPinpointing : Wanted → List ℕ → ℕ → List ℕ → List ℕ → Status → List Entry → Type 0
-AnswersPinpointing w inclusion budget bytes out s log = UnlessNoMemory s out (IsRefused (follows inclusion) bytes out s log ⊎ IsPinpointed w inclusion budget bytes out s log)
+AnswersPinpointing w inclusion budget bytes out s log =
+    UnlessNoMemory s out (HasBegun (follows inclusion) bytes log (λ o q. IsFront o q budget log))
+    (IsRefused (follows inclusion) bytes out s log ⊎ IsPinpointed w inclusion budget bytes out s log)
 
 -- ---- workloads
 
@@ -38,6 +41,6 @@ pub record IsMeasured (number budget : ℕ) (out : List ℕ) (s : Status) (log :
   pub is_question : IsQuestion (follows workload_query) (workload_text number) ontology query
   pub counted : IsCounted number ontology query budget log s out
 
--- the text or its query is refused, or its sets were counted
 abbrev pub AnswersWorkload : ℕ → ℕ → List ℕ → Status → List Entry → Type 0
-AnswersWorkload number budget out s log = UnlessNoMemory s out (IsRefused (follows workload_query) (workload_text number) out s log ⊎ IsMeasured number budget out s log)
+AnswersWorkload number budget out s log =
+    UnlessNoMemory s out (HasBegun (follows workload_query) (workload_text number) log (λ o q. IsFront o q budget log)) (IsMeasured number budget out s log)

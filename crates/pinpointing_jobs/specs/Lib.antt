@@ -1,7 +1,9 @@
 pub mod Memory
+pub mod Begun
 pub mod Asked
 pub mod Answers
 pub mod Laws
+pub mod WorkloadSets
 pub mod Wanted
 pub mod Listings
 pub mod Counts

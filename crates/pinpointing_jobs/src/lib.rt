@@ -21,14 +21,16 @@ mod searching;
 mod set_lines;
 mod wanted;
 mod whole_text;
+mod workload_laws;
 mod workloads;
 
 pub use counting::count_answer;
-pub use laws::lists_are_unique;
+pub use laws::{lists_are_unique, workloads_are_questions};
 pub use list_laws::{counts_are_right, lists_are_right};
 pub use listing::list_answer;
 pub use pinpointing::pinpoint;
 pub use shq_terms::NoMemory;
 pub use wanted::Wanted;
 pub use whole_text::sets_text;
+pub use workload_laws::workload_queries_follow_by_pairs;
 pub use workloads::run_workload;

@@ -1,9 +1,10 @@
 // From the question and the bytes of a document to the list of its sets.
-ghost use Rattle.std.specs.Prelude.{◌≡◌, ◌≤◌, false, [], IfOk, IfErr, length};
+ghost use Rattle.std.specs.Prelude.{◌≡◌, ◌≤◌, false, [], IfOk, IfErr, OnErr, length};
 ghost use Rattle.ontology_limits.specs.Limits.{IsInLimit};
 ghost use Rattle.job_inputs.specs.Answer.{text_bytes, is_fault};
 ghost use Rattle.job_inputs.specs.Questions.{follows};
 ghost use Rattle.job_inputs.specs.Refusals.{IsUnanswered};
+ghost use Rattle.pinpointing_jobs.specs.Begun.{IsFront, HasSearched};
 ghost use Rattle.pinpointing_jobs.specs.Listings.{IsListAnswer};
 ghost use Rattle.pinpointing_jobs.specs.Answers.{IsPinpointed, AnswersPinpointing};
 
@@ -51,7 +52,7 @@ fn pinpointed(
     requires small { length bytes.now ≤ 4294967293 }
     requires unlogged { log.old ≡ [] }
     ensures answer { IfOk result (λ a. IsPinpointed wanted inclusion.now budget bytes.now (text_bytes a.1) a.0 log.new) }
-    ensures unread { IfErr result (IsUnanswered (follows inclusion.now) bytes.now log.new) }
+    ensures unread { IfErr result (IsUnanswered (follows inclusion.now) bytes.now log.new (λ o q. IsFront o q budget log.new)) }
 {
     let input = read_input(alloc, inclusion, bytes)?;
     let answer = listed(alloc, wanted, budget, input, log)?;
@@ -68,7 +69,8 @@ fn listed(
 ) -> Result<(Status, Text), NoMemory>
     requires in_limit { IsInLimit input.ontology input.query }
     requires unlogged { log.old ≡ [] }
-    ensures { IfOk result (λ a. IsListAnswer wanted input.ontology input.query budget log.new a.0 (text_bytes a.1)) }
+    ensures listed { IfOk result (λ a. IsListAnswer wanted input.ontology input.query budget log.new a.0 (text_bytes a.1)) }
+    ensures begun { OnErr result (HasSearched input.ontology input.query budget log.new) }
 {
     let outcome = list(alloc, wanted, &input.ontology, &input.query, budget, log);
     drop(input);
@@ -86,7 +88,8 @@ fn list(
 ) -> Result<(Status, Text), NoMemory>
     requires in_limit { IsInLimit ontology.now query.now }
     requires unlogged { log.old ≡ [] }
-    ensures { IfOk result (λ a. IsListAnswer wanted ontology.now query.now budget log.new a.0 (text_bytes a.1)) }
+    ensures listed { IfOk result (λ a. IsListAnswer wanted ontology.now query.now budget log.new a.0 (text_bytes a.1)) }
+    ensures begun { OnErr result (HasSearched ontology.now query.now budget log.new) }
 {
     let found = search(alloc, ontology, query, budget, log)?;
     let outcome = list_answer(alloc, wanted, ontology, &found);

@@ -1,7 +1,8 @@
 // The search for justifications and repairs.
-ghost use Rattle.std.specs.Prelude.{◌≡◌, [], IfOk};
+ghost use Rattle.std.specs.Prelude.{◌≡◌, [], IfOk, OnErr};
 ghost use Rattle.ontology_limits.specs.Limits.{IsInLimit};
 ghost use Rattle.pinpointing_jobs.specs.Searched.{IsSearched};
+ghost use Rattle.pinpointing_jobs.specs.Begun.{HasSearched};
 
 use hitting_set_tree::{Found, enumerate};
 use module_extract::module;
@@ -16,7 +17,7 @@ use std::mem;
 ///
 /// # Errors
 ///
-/// Out of memory.
+/// Out of memory. The log is empty then, or a front of an honest one.
 pub(crate) fn search(
     alloc: Global,
     ontology: &Ontology,
@@ -26,7 +27,8 @@ pub(crate) fn search(
 ) -> Result<Found, NoMemory>
     requires in_limit { IsInLimit ontology.now query.now }
     requires unlogged { log.old ≡ [] }
-    ensures { IfOk result (IsSearched ontology.now query.now budget log.new) }
+    ensures found { IfOk result (IsSearched ontology.now query.now budget log.new) }
+    ensures begun { OnErr result (HasSearched ontology.now query.now budget log.new) }
 {
     let module = module(alloc, ontology, query)?;
     let begun = mem::replace(log, RunLog::new(alloc));

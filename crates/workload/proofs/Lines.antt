@@ -1,5 +1,6 @@
 -- The lines of a workload as phrases.
-use Rattle.std.proofs.Common.{◌≡◌, ℕ, zero, suc, ◌+◌, List, [], ◌∷◌, ◌++◌, refl, ap, sym, ◌∙◌, append_assoc, append-nil, codes, decimal}
+use Rattle.std.proofs.Common.{◌≡◌, ℕ, zero, suc, ◌+◌, List, [], ◌∷◌, ◌++◌, length, drop, refl, ap, sym, ◌∙◌, append_assoc, append-nil, length-append, arith, codes, decimal}
+use Rattle.std.proofs.Math.Seq.{drop-append_seam}
 use Rattle.workload.specs.WorkloadText as text
 use Rattle.workload.specs.WorkloadText.{kernel_text, groups_text, group_text, workload_text}
 use Rattle.ofn_writer.specs.Canonical.{iri_text, line}
@@ -113,3 +114,13 @@ front_written (suc n) =
 pub text_is : (n : ℕ) → workload_text n ≡ opened (lines_text (workload_phrases n))
 unfolding workload_text
 text_is n = ap (λ l. l ++ (41 ∷ (10 ∷ []))) (front_written n) ∙ append_assoc header (lines_text (workload_phrases n)) (41 ∷ (10 ∷ []))
+
+-- ---- what stands behind the last bracket
+
+-- a line feed
+pub behind_bracket : (inner : List ℕ) → drop (66 + length inner + 1) (opened inner) ≡ 10 ∷ []
+behind_bracket inner =
+    let front : List ℕ = (header ++ inner) ++ 41 ∷ [] in
+    let whole : front ++ 10 ∷ [] ≡ opened inner = append_assoc (header ++ inner) (41 ∷ []) (10 ∷ []) ∙ append_assoc header inner (41 ∷ (10 ∷ [])) in
+    let size : length front ≡ 66 + length inner + 1 = omega (arith, length-append (header ++ inner) (41 ∷ []), length-append header inner) in
+    (λ i. drop (sym size i) (sym whole i)) ∙ drop-append_seam front (10 ∷ [])

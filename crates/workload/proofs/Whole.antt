@@ -12,6 +12,7 @@ use Rattle.role_box.specs.Simple.{is_simple, are_simple, counts_simple, all_role
 use Rattle.role_box.proofs.Plain.{all_simple}
 use Rattle.ofn_tree.specs.Lexemes.{end_line}
 use Rattle.ofn_tree.specs.Items.{Item, Items}
+use Rattle.ofn_tree.specs.TokenLaws.{IsGap, nothing, space}
 use Rattle.ofn_expressions.specs.Counts.{Counts}
 use Rattle.ofn_expressions.specs.Walk.{Test, shape, after_all, walked}
 use Rattle.ofn_expressions.specs.Names.{Prefix, predeclared, prefix_iri}
@@ -27,7 +28,7 @@ use Rattle.text_laws.proofs.Simple.{simple_again}
 use Rattle.text_laws.proofs.Walks.{step}
 use Rattle.workload.specs.WorkloadAxioms.{prefix_iri_of_workloads, workload_classes, workload_roles, group_axioms, workload_axioms}
 use Rattle.workload.specs.Laws.{IsWorkload, WorkloadsAreDocuments}
-use Rattle.workload.proofs.Lines.{local_word, sub_phrase, kernel_phrases, group_phrases, workload_phrases, opened, text_is}
+use Rattle.workload.proofs.Lines.{local_word, sub_phrase, kernel_phrases, group_phrases, workload_phrases, opened, text_is, behind_bracket}
 use Rattle.workload.proofs.Standing.{lines_stand, opened_utf8, lines_nest}
 use Rattle.workload.proofs.Document.{prefix_item, ontology_item, document_items, has_items}
 use Rattle.workload.proofs.Counted.{behind_groups, workload_walk}
@@ -149,6 +150,7 @@ module _ (n : ℕ) (few : n ≤ 4000) where
           listed = refl;
           takes = refl;
         };
+        alone = subst (IsGap true) (sym (behind_bracket (lines_text phrases))) (space 10 [] refl nothing);
         classes = refl;
         roles = refl;
         axioms = same_axioms;

@@ -1,8 +1,9 @@
 -- The texts of workloads are documents, and their query is one on them.
-use Rattle.std.specs.Prelude.{◌≡◌, ℕ, ◌+◌, ◌*◌, ◌≤◌, List, [], length, Some, codes}
+use Rattle.std.specs.Prelude.{◌≡◌, ℕ, ◌+◌, ◌*◌, ◌≤◌, true, List, [], length, drop, Some, codes}
 use Rattle.shq_terms.specs.Concept.{name}
 use Rattle.shq_terms.specs.Listed.{Listed}
 use Rattle.shq_terms.specs.declared.axioms.Query.{Query}
+use Rattle.ofn_tree.specs.TokenLaws.{IsGap}
 use Rattle.ofn_expressions.specs.Names.{prefix_iri}
 use Rattle.ofn_reader.specs.DocumentContext.{DocumentContext}
 use Rattle.ofn_reader.specs.Documents.{IsDocument}
@@ -12,12 +13,14 @@ use Rattle.text_laws.specs.WritingLaws.{axioms_of}
 use Rattle.workload.specs.WorkloadAxioms.{prefix_iri_of_workloads, workload_classes, workload_roles, workload_axioms}
 
 -- The text is a document of the workload of n groups: it lists exactly the workload's classes, roles and axioms, each in
--- their order. A query on it may use the empty prefix, and goes on from so many class expressions.
+-- their order. Nothing but whitespace stands behind it. A query on it may use the empty prefix, and goes on from so many class
+-- expressions.
 pub record IsWorkload (n : ℕ) (text : List ℕ) : Type 0 where
   pub read : Listed
   pub kept : DocumentContext
   pub end : ℕ
   pub is_document : IsDocument text read kept end
+  pub alone : IsGap true (drop end text)
   pub classes : read.classes ≡ workload_classes n
   pub roles : read.roles ≡ workload_roles
   pub axioms : axioms_of read.axioms ≡ workload_axioms n

@@ -10,4 +10,4 @@ returns-in_err-asked-clause-unclaimed c =
 pub returns-clause-unclaimed : goal.returns-clause-unclaimed
 returns-clause-unclaimed c =
     let q = c.in_ok-asked.ensures.query in
-    mapped_err _ c.read_certificate-certificate.result c.claim_of.result c.claim_of.ensures (uncertified c.args.ontology.now c.args.context.now c.args.query.now c.args.rest.now q.0 c.in_ok-asked.asked c.query_on.new.ontology q.1 q.2) c.read_certificate-certificate.ensures.unread
+    mapped_err _ c.read_certificate-certificate.result c.claim_of.result c.claim_of.ensures (uncertified c.args.ontology.now c.args.context.now c.args.query.now c.args.rest.now q.0 c.in_ok-asked.asked c.query_on.new.ontology q.1 q.2 c.requires) c.read_certificate-certificate.ensures.unread

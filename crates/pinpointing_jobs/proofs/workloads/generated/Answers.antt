@@ -1,5 +1,4 @@
 use Rattle.std.proofs.Common.{◌≡◌, ◌∙◌, ℕ, List, length, ap, subst, arith}
-use Rattle.std.specs.Prelude.{IfErr}
 use Rattle.workload.specs.WorkloadText.{workload_text}
 use Rattle.pinpointing_jobs.specs.Answers.{workload_query}
 use Rattle.pinpointing_jobs.specs.Asked.{IsNoInput}
@@ -11,7 +10,7 @@ read_input-requires c =
     let text : c.deref.result.now ≡ workload_text c.args.number = c.deref.ensures.value ∙ c.in_ok-text.ensures in
     omega (arith, ap length text, workload_short c.args.number c.requires.most)
 
-pub returns-clause-unread : goal.returns-clause-unread
-returns-clause-unread c =
+pub want_of_memory-requires-clause-unread : goal.want_of_memory-requires-clause-unread
+want_of_memory-requires-clause-unread c =
     let text : c.deref.result.now ≡ workload_text c.args.number = c.deref.ensures.value ∙ c.in_ok-text.ensures in
-    subst (λ (bytes : List ℕ). IfErr c.read_input.result (IsNoInput workload_query bytes)) text c.read_input.ensures.unread
+    subst (λ (bytes : List ℕ). IsNoInput workload_query bytes c.in-Err.unread) text c.in-Err.ensures.unread
