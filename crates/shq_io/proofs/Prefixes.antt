@@ -1,7 +1,7 @@
 -- More bytes that a source gave, and longer prefixes that a sink took.
-use Rattle.std.proofs.Common.{◌≡◌, ℕ, ◌+◌, ◌-◌, ◌≤◌, List, length, take, drop, ◌++◌, length-drop, length-append, subst, sym, arith}
-use Rattle.std.proofs.Math.Seq.{take-add}
-use Rattle.std.proofs.lemmas.List.{take_all}
+use Rattle.std.proofs.Common.{◌≡◌, ℕ, ◌+◌, ◌-◌, ◌≤◌, List, length, take, drop, ◌++◌, length-drop, length-append, min, ap, ◌∙◌, subst, sym, arith}
+use Rattle.std.proofs.Math.Seq.{take-add, take-append-add}
+use Rattle.std.proofs.lemmas.List.{take_all, take_min}
 use Rattle.std.proofs.KnownBytes.{Appends-trans, Consumes-trans}
 use Rattle.std.specs.Prelude.{Option, Result, Ok, Err, OnErr}
 use Rattle.std.specs.Io.KnownBytes.{Appends, Consumes}
@@ -25,3 +25,11 @@ TakesOutAtMost-more a b c first second n p q within = record {
   count = omega (arith, length-append first second);
   taken = Consumes-trans a b c first second p q;
 }
+
+-- what there is room for of a piece, behind what is kept, is what there is room for of both
+pub room_kept : (kept piece : List ℕ) (room : ℕ) → length kept ≤ room → kept ++ take (min (length piece) (room - length kept)) piece ≡ take room (kept ++ piece)
+room_kept kept piece room within =
+    let free : ℕ = room - length kept in
+    let order : min (length piece) free ≡ min free (length piece) = omega arith in
+    let count : length kept + free ≡ room = omega (arith, within) in
+    ap (λ n. kept ++ take n piece) order ∙ ap (λ l. kept ++ l) (take_min free piece) ∙ sym (take-append-add kept piece free) ∙ ap (λ n. take n (kept ++ piece)) count

@@ -1,5 +1,5 @@
 -- A source and a sink in memory: what they keep, and what a call answers and leaves.
-use Rattle.std.specs.Prelude.{ℕ, ◌-◌, min, List, [], length, take, drop, ◌++◌, Bool, nat_eq, nat_lt, nat_le, ◌&&◌, ◌||◌, if◌then◌else◌}
+use Rattle.std.specs.Prelude.{ℕ, ◌+◌, ◌-◌, ◌^◌, min, List, [], length, take, drop, ◌++◌, Bool, nat_eq, nat_lt, nat_le, ◌&&◌, ◌||◌, if◌then◌else◌}
 use Rattle.std.specs.List.{list_any}
 use Rattle.shq_io.specs.Causes.{one_more}
 
@@ -61,3 +61,22 @@ abbrev pub after_write : SinkState → List ℕ → SinkState
 after_write s piece =
     if write_fails s piece then record s { calls = one_more s.calls; faults = one_more s.faults }
     else record s { calls = one_more s.calls; kept = s.kept ++ take (write_count s piece) piece }
+
+-- the first bytes that a sink which never fails was given, as many as it has room for, how many that is, and how many
+-- bytes it was given
+pub record SureState : Type 0 where
+  pub kept : List ℕ
+  pub room : ℕ
+  pub count : ℕ
+
+-- a sink that was given nothing yet
+abbrev pub roomy_sink : ℕ → SureState
+roomy_sink room = record { kept = []; room = room; count = 0 }
+
+-- all that it was given is kept
+abbrev pub tells : SureState → Bool
+tells s = nat_le s.count s.room
+
+-- what it is after a piece more
+abbrev pub after_taking : SureState → List ℕ → SureState
+after_taking s piece = record s { kept = take s.room (s.kept ++ piece); count = min (s.count + length piece) (2 ^ 64 - 1) }

@@ -40,7 +40,7 @@ impl Model for MemSource {
 }
 
 /// Copies the first bytes, as many as there are, fit and the step allows, and answers how many these are.
-fn give(rest: &[u8], buf: &mut [u8], step: usize) -> usize
+pub(crate) fn give(rest: &[u8], buf: &mut [u8], step: usize) -> usize
     requires { 1 ≤ step }
     ensures count { result ≡ min (min (length rest.now) (length buf.old)) step }
     ensures given { take result buf.new ≡ take result rest.now }
