@@ -1,63 +1,91 @@
 -- What a search keeps.
-use Rattle.std.proofs.Common.{◌≡◌, ℕ, suc, ◌+◌, Bool, false, not, List, length, refl, sym, ap, subst, ◌∙◌, arith}
+use Rattle.std.proofs.Common.{◌≡◌, ℕ, suc, ◌+◌, Bool, true, false, not, List, [], ◌∷◌, length, refl, sym, ap, subst, ◌∙◌, arith}
 use Rattle.shq_terms.specs.declared.axioms.Query.{Query}
 use Rattle.ontology_limits.specs.Limits.{IsInLimit}
 use Rattle.refutation_tree.specs.RefutationLists.{RefutationLists}
-use Rattle.tableau_specs.specs.Reached.{IsReached, Follows}
+use Rattle.tableau_specs.specs.Reached.{start, IsReached, Follows}
+use Rattle.calculus_specs.specs.Reading.{are_listed}
+use Rattle.tableau_specs.specs.Items.{facts_of}
+use Rattle.tableau_specs.proofs.Listed.{reached_listed}
 use Rattle.tableau_specs.specs.Steps.{IsLegal}
 use Rattle.tableau_specs.specs.declared.Item.{Item}
+use Rattle.completion_tree.specs.declared.tree.Entry.{Entry}
 use Rattle.completion_tree.specs.Trail.{items_of, facts_in}
+use Rattle.reuse_laws.specs.Runs.{IsRun}
+use Rattle.seen_concepts.specs.Seen.{SeenSets, AreSeenIn}
 use Rattle.search_state.specs.Followed.{IsCurrent}
 use Rattle.search_trace.specs.Trace.{begun}
-use Rattle.search_rules.specs.RuleLists.{RuleLists, context_in}
-use Rattle.search_state.specs.Progress.{ProgressLists, IsStanding, IsSearching}
+use Rattle.search_rules.specs.RuleLists.{RuleLists, AreNumbersOf, context_in}
+use Rattle.search_state.specs.Progress.{ProgressLists, IsStanding, IsSearching, HasMoved}
 use Rattle.search_state.specs.Stepping.{HasBegun, IsClosed, IsStepped, IsRested}
 use Rattle.search_state.specs.declared.stepping.Stepped.{Stepped}
-use Rattle.search_state.specs.declared.stepping.Stepped.TheVariants.{Closed as StepClosed}
+use Rattle.search_state.specs.declared.stepping.Stepped.TheVariants.{Moved as StepMoved, Closed as StepClosed}
 use Rattle.search_state.specs.declared.stepping.Rested.{Rested}
 use Rattle.search_state.specs.declared.stepping.Rested.TheVariants.{Closed as RestClosed}
-use Rattle.tableau.specs.SearchState.{SearchState, context_of, trail_of, IsReachedBy, IsSameSearch}
+use Rattle.tableau.specs.SearchState.{SearchState, context_of, trail_of, IsReachedBy, HasRun, IsSameSearch}
 use Rattle.tableau.specs.Steps.{Refutes, Stays, IsAtRefutation, IsEvent, IsEnd, Runs}
 use Rattle.tableau.specs.declared.search.Event.{Event}
 use Rattle.tableau.specs.declared.search.Event.TheVariants.{Moved, Saturated, Closed}
 use Rattle.tableau.specs.declared.search.End.{End}
 use Rattle.tableau.specs.declared.search.End.TheVariants.{Saturated as RunSaturated, Closed as RunClosed, Spent}
-use Rattle.tableau.specs.Inside.{IsProgressOf, IsKept, HasClosed, IsAdvanced, IsSettled, IsHalted, IsWalked, goes_on, is_spent}
+use Rattle.tableau.specs.Inside.{IsProgressOf, IsKept, HasClosed, IsAdvanced, HasNotedNew, IsNotedAfter, IsSettled, IsHalted, IsWalked, goes_on, is_spent}
 use Rattle.tableau.proofs.Reached.{standing_is_reached}
+use Rattle.tableau.proofs.Seen.{seen_after}
 
-abbrev pub state : RuleLists → Query → ℕ → ℕ → ProgressLists → ℕ → Bool → Bool → SearchState
-state rules query sub not_sup p steps ended failed = record {
+abbrev pub state : RuleLists → Query → ℕ → ℕ → ProgressLists → SeenSets → ℕ → Bool → Bool → SearchState
+state rules query sub not_sup p seen steps ended failed = record {
   rules = rules;
   query = query;
   sub = sub;
   not_sup = not_sup;
   entries = p.entries;
   prints = p.prints;
+  seen = seen;
   steps = steps;
   ended = ended;
   failed = failed;
 }
 
-module _ (rules : RuleLists) (query : Query) (sub not_sup : ℕ) (p : ProgressLists) (steps : ℕ) (query_is : p.query ≡ query) (steps_is : p.steps ≡ steps) where
-  pub reached_by : IsStanding (context_in rules) p → (ended failed : Bool) → IsReachedBy (state rules query sub not_sup p steps ended failed)
+module _ (rules : RuleLists) (query : Query) (sub not_sup : ℕ) (p : ProgressLists) (seen : SeenSets) (steps : ℕ) (query_is : p.query ≡ query) (steps_is : p.steps ≡ steps) where
+  pub reached_by : IsStanding (context_in rules) p → (ended failed : Bool) → IsReachedBy (state rules query sub not_sup p seen steps ended failed)
   reached_by h ended failed =
       let w = context_in rules in
       subst (λ (q : Query). IsReached w.theory q.sub q.sup w.table w.rows steps (items_of p.entries)) query_is
       (subst (λ (k : ℕ). IsReached w.theory p.query.sub p.query.sup w.table w.rows k (items_of p.entries)) steps_is (standing_is_reached w p h))
 
-  pub searching_is_kept : IsInLimit rules.ontology query → rules.set.limit ≡ length rules.ontology.axioms → p.sub ≡ sub → p.not_sup ≡ not_sup → IsSearching (context_in rules) p
-      → (ended failed : Bool) → IsKept (state rules query sub not_sup p steps ended failed) p
-  searching_is_kept limit set s n h ended failed = record {
+  pub searching_is_kept : IsInLimit rules.ontology query → rules.set.limit ≡ length rules.ontology.axioms → AreNumbersOf rules query sub not_sup → p.sub ≡ sub → p.not_sup ≡ not_sup
+      → IsSearching (context_in rules) p → (ended failed : Bool) → HasRun (state rules query sub not_sup p seen steps ended failed) → IsKept (state rules query sub not_sup p seen steps ended failed) p
+  searching_is_kept limit set numbers s n h ended failed run = record {
     in_limit = limit;
     set = set;
+    numbers = numbers;
     reached = λ whole. reached_by h.standing ended failed;
+    has_run = λ whole. run;
+    current = λ whole. h.standing.current;
     progress = λ whole goes. record { query = query_is; sub = s; not_sup = n; steps = steps_is };
     searching = λ whole goes. h;
   }
 
-pub begun_is_kept : (rules : RuleLists) (query : Query) (sub not_sup : ℕ) (p : ProgressLists) → IsInLimit rules.ontology query → rules.set.limit ≡ length rules.ontology.axioms → HasBegun (context_in rules) p
-    → p.query ≡ query → p.sub ≡ sub → p.not_sup ≡ not_sup → IsKept (state rules query sub not_sup p 0 false false) p
-begun_is_kept rules query sub not_sup p limit set h q s n = searching_is_kept rules query sub not_sup p 0 q h.no_steps limit set s n h.is_searching false false
+pub begun_is_kept : (rules : RuleLists) (query : Query) (sub not_sup : ℕ) (p : ProgressLists) (seen : SeenSets) → IsInLimit rules.ontology query → rules.set.limit ≡ length rules.ontology.axioms
+    → AreNumbersOf rules query sub not_sup → HasBegun (context_in rules) p → p.query ≡ query → p.sub ≡ sub → p.not_sup ≡ not_sup → AreSeenIn rules.table (items_of p.entries ∷ []) seen
+    → IsKept (state rules query sub not_sup p seen 0 false false) p
+begun_is_kept rules query sub not_sup p seen limit set numbers h q s n seen_is =
+    let first : items_of p.entries ≡ start sub not_sup = h.trail_is ∙ (λ i. start (s i) (n i)) in
+    searching_is_kept rules query sub not_sup p seen 0 q h.no_steps limit set numbers s n h.is_searching false false (record { earlier = []; is_run = first; counted = refl; are_seen = seen_is })
+
+-- ---- numbers of the table
+
+-- the numbers of what has begun, and of what has moved, are in the table
+searching_listed : (rules : RuleLists) (p : ProgressLists) → IsSearching (context_in rules) p → are_listed (length rules.table) (facts_of (items_of p.entries)) ≡ true
+searching_listed rules p h =
+    let w = context_in rules in
+    reached_listed w.theory p.query.sub p.query.sup w.table w.rows p.steps (items_of p.entries) (standing_is_reached w p h.standing)
+
+pub begun_listed : (rules : RuleLists) (p : ProgressLists) → HasBegun (context_in rules) p → are_listed (length rules.table) (facts_of (items_of p.entries)) ≡ true
+begun_listed rules p h = searching_listed rules p h.is_searching
+
+pub stepped_listed : (rules : RuleLists) (old new : ProgressLists) (s : Stepped) → s ≡ StepMoved → IsStepped (context_in rules) old new s → are_listed (length rules.table) (facts_of (items_of new.entries)) ≡ true
+stepped_listed rules old new s is h = searching_listed rules new (subst (IsStepped (context_in rules) old new) is h).1
 
 -- ---- closing
 
@@ -81,12 +109,12 @@ rest_closed rules old mid new r s is h left refutes = has_closed rules old mid n
 
 -- ---- one call
 
-module _ (rules : RuleLists) (query : Query) (sub not_sup : ℕ) (p p' : ProgressLists) (steps steps' : ℕ) (ended failed : Bool) where
+module _ (rules : RuleLists) (query : Query) (sub not_sup : ℕ) (p p' : ProgressLists) (seen seen' : SeenSets) (steps steps' : ℕ) (ended failed : Bool) where
   abbrev was : SearchState
-  was = state rules query sub not_sup p steps ended failed
+  was = state rules query sub not_sup p seen steps ended failed
 
   abbrev now : Bool → SearchState
-  now goes = state rules query sub not_sup p' steps' (not goes) false
+  now goes = state rules query sub not_sup p' seen' steps' (not goes) false
 
   module _ (kept : IsKept was p) (whole : failed ≡ false) (goes_still : ended ≡ false) where
     progress_is : IsProgressOf was p
@@ -121,6 +149,73 @@ module _ (rules : RuleLists) (query : Query) (sub not_sup : ℕ) (p p' : Progres
     end_is Spent h counts goes is = (same_stays h.0 counts goes, ap not is, h.1.next, h.1.is_legal)
     end_is RunSaturated h counts goes is = (same_stays h.0 counts goes, record { is_saturated = h.1; is_current = current h.0; ended = ap not is })
     end_is (RunClosed r) h counts goes is = (closed_stays r h counts goes, refuted r h goes is)
+
+    -- ---- what is kept after it
+
+    -- a trail that stays is reached by the same run
+    stays_kept : p'.entries ≡ p.entries → p'.prints ≡ p.prints → seen' ≡ seen → steps' ≡ steps → (goes : Bool) → goes ≡ false → IsKept (now goes) p'
+    stays_kept entries prints seen_is steps_is goes stops =
+        let w = context_in rules in
+        let run = kept.has_run whole in
+        record {
+          in_limit = kept.in_limit;
+          set = kept.set;
+          numbers = kept.numbers;
+          reached = λ still.
+              subst (λ (es : List Entry). IsReached w.theory query.sub query.sup w.table w.rows steps' (items_of es)) (sym entries)
+              (subst (λ (k : ℕ). IsReached w.theory query.sub query.sup w.table w.rows k (items_of p.entries)) (sym steps_is) (kept.reached whole));
+          has_run = λ still. record {
+            earlier = run.earlier;
+            is_run = subst (λ (es : List Entry). IsRun w (start sub not_sup) (items_of es ∷ run.earlier)) (sym entries) run.is_run;
+            counted = run.counted ∙ sym steps_is;
+            are_seen = subst (λ (es : List Entry). AreSeenIn rules.table (items_of es ∷ run.earlier) seen') (sym entries)
+                (subst (AreSeenIn rules.table (items_of p.entries ∷ run.earlier)) (sym seen_is) run.are_seen);
+          };
+          current = λ still.
+              subst (λ (es : List Entry). IsCurrent (facts_in es) p'.prints) (sym entries) (subst (IsCurrent (facts_in p.entries)) (sym prints) (kept.current whole));
+          progress = λ still goes_again. absurd (ended_now goes stops goes_again);
+          searching = λ still goes_again. absurd (ended_now goes stops goes_again);
+        }
+      where
+        ended_now : (goes : Bool) → goes ≡ false → ¬ (not goes ≡ false)
+        ended_now true e h = cc
+        ended_now false e h = cc
+
+    -- nothing was done
+    rested_kept : p' ≡ p → seen' ≡ seen → steps' ≡ steps → (goes : Bool) → IsKept (now goes) p'
+    rested_kept same seen_is counts goes =
+        let is = progress_is in
+        let run = kept.has_run whole in
+        subst (λ (q : ProgressLists). IsKept (state rules query sub not_sup q seen' steps' (not goes) false) q) (sym same)
+        (subst (λ (s : SeenSets). IsKept (state rules query sub not_sup p s steps' (not goes) false) p) (sym seen_is)
+        (subst (λ (k : ℕ). IsKept (state rules query sub not_sup p seen k (not goes) false) p) (sym counts)
+        (searching_is_kept rules query sub not_sup p seen steps is.query is.steps kept.in_limit kept.set kept.numbers is.sub is.not_sup (kept.searching whole goes_still) (not goes) false
+        (record { earlier = run.earlier; is_run = run.is_run; counted = run.counted; are_seen = run.are_seen }))))
+
+    -- a trail that has moved on
+    moved_kept : HasMoved (context_in rules) p p' → IsSearching (context_in rules) p' → HasNotedNew rules (length p.entries) p'.entries seen seen' → steps' ≡ p'.steps → (goes : Bool) → IsKept (now goes) p'
+    moved_kept moved h noted counts goes =
+        let is = progress_is in
+        let run = kept.has_run whole in
+        searching_is_kept rules query sub not_sup p' seen' steps' (moved.same.query ∙ is.query) (sym counts) kept.in_limit kept.set kept.numbers (moved.same.sub ∙ is.sub) (moved.same.not_sup ∙ is.not_sup) h
+        (not goes) false
+        (record {
+          earlier = items_of p.entries ∷ run.earlier;
+          is_run = (moved.is_legal, run.is_run);
+          counted = omega (arith, run.counted, counts, moved.counted, is.steps);
+          are_seen = seen_after rules p.entries p'.entries run.earlier seen seen' moved.is_legal run.are_seen noted;
+        })
+
+    pub stepped_kept : (e : Event) → IsAdvanced rules p p' e → IsNotedAfter rules p p' seen seen' e → steps' ≡ p'.steps → (goes : Bool) → goes ≡ goes_on e → IsKept (now goes) p'
+    stepped_kept Moved h noted counts goes is = moved_kept h.0 h.1 noted counts goes
+    stepped_kept Saturated h noted counts goes is =
+        stays_kept (ap (λ (q : ProgressLists). q.entries) h.0) (ap (λ (q : ProgressLists). q.prints) h.0) noted (counts ∙ ap (λ (q : ProgressLists). q.steps) h.0 ∙ progress_is.steps) goes is
+    stepped_kept (Closed r) h noted counts goes is = stays_kept h.entries h.prints noted (counts ∙ h.steps ∙ progress_is.steps) goes is
+
+    pub settled_kept : (e : End) → IsSettled rules p p' e → seen' ≡ seen → steps' ≡ steps → (goes : Bool) → goes ≡ is_spent e → IsKept (now goes) p'
+    settled_kept Spent h same counts goes is = rested_kept h.0 same counts goes
+    settled_kept RunSaturated h same counts goes is = stays_kept (ap (λ (q : ProgressLists). q.entries) h.0) (ap (λ (q : ProgressLists). q.prints) h.0) same counts goes is
+    settled_kept (RunClosed r) h same counts goes is = stays_kept h.entries h.prints same counts goes is
 
     -- what halts has made no step
     pub halted_steps : (e : End) → IsSettled rules p p' e → p'.steps ≡ steps

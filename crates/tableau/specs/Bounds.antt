@@ -1,5 +1,5 @@
 -- How long a search is, by the nodes that it has and the concepts that it can give them.
-use Rattle.std.specs.Prelude.{ℕ, ◌+◌, ◌*◌, ◌≤◌, List, length}
+use Rattle.std.specs.Prelude.{◌+◌, ◌*◌, ◌≤◌, List, length}
 use Rattle.shq_terms.specs.Concept.{Concept}
 use Rattle.calculus_specs.specs.State.{node_count}
 use Rattle.tableau_specs.specs.Items.{facts_of}

@@ -1,17 +1,21 @@
 -- What a search keeps, and what one call on its progress comes to.
-use Rattle.std.specs.Prelude.{◌≡◌, ℕ, ◌+◌, Bool, true, false, List, [], ◌∷◌, length, Some, All}
+use Rattle.std.specs.Prelude.{◌≡◌, ℕ, ◌+◌, ◌-◌, min, drop, Bool, true, false, List, [], ◌∷◌, length, Some, All}
 use Rattle.ontology_limits.specs.Limits.{IsInLimit}
 use Rattle.refutation_tree.specs.RefutationLists.{RefutationLists}
 use Rattle.tableau_specs.specs.declared.Item.{Item}
 use Rattle.tableau_specs.specs.Steps.{IsLegal, IsSaturated, HasClash}
-use Rattle.completion_tree.specs.Trail.{items_of}
+use Rattle.tableau_specs.specs.Items.{facts_of}
+use Rattle.completion_tree.specs.declared.tree.Entry.{Entry}
+use Rattle.completion_tree.specs.Trail.{items_of, facts_in}
+use Rattle.seen_concepts.specs.Seen.{SeenSets, AreOver, HasNoted}
 use Rattle.search_trace.specs.Leaves.{leaves}
 use Rattle.search_trace.specs.Noted.{noted_start}
 use Rattle.search_trace.specs.Back.{step_of}
-use Rattle.search_rules.specs.RuleLists.{RuleLists, context_in, theory_in}
+use Rattle.search_rules.specs.RuleLists.{RuleLists, AreNumbersOf, context_in, theory_in}
 use Rattle.search_state.specs.Progress.{ProgressLists, IsAsked, IsFitLine, IsSearching, HasMoved}
 use Rattle.search_state.specs.Stepping.{HasNext}
-use Rattle.tableau.specs.SearchState.{SearchState, context_of, trail_of, IsReachedBy}
+use Rattle.search_state.specs.Followed.{IsCurrent}
+use Rattle.tableau.specs.SearchState.{SearchState, context_of, trail_of, IsReachedBy, HasRun}
 use Rattle.tableau.specs.Steps.{Refutes, Runs, Stays, IsAtModel, IsAtRefutation}
 use Rattle.tableau.specs.declared.search.Event.{Event}
 use Rattle.tableau.specs.declared.search.Event.TheVariants.{Moved, Saturated, Closed}
@@ -27,12 +31,16 @@ pub record IsProgressOf (s : SearchState) (p : ProgressLists) : Type 0 where
   pub not_sup : p.not_sup ≡ s.not_sup
   pub steps : p.steps ≡ s.steps
 
--- the ontology and the query are within the limits, the set is one of the ontology's axioms, and unless memory was refused
--- the trail is reached, and can go on until the search has ended
+-- the ontology and the query are within the limits, the set is one of the ontology's axioms, the numbers are the query's, and
+-- unless memory was refused the trail is reached by a run whose concepts were noted, its blocks are known, and it can go on
+-- until the search has ended
 pub record IsKept (s : SearchState) (p : ProgressLists) : Type 0 where
   pub in_limit : IsInLimit s.rules.ontology s.query
   pub set : s.rules.set.limit ≡ length s.rules.ontology.axioms
+  pub numbers : AreNumbersOf s.rules s.query s.sub s.not_sup
   pub reached : s.failed ≡ false → IsReachedBy s
+  pub has_run : s.failed ≡ false → HasRun s
+  pub current : s.failed ≡ false → IsCurrent (facts_in s.entries) s.prints
   pub progress : s.failed ≡ false → s.ended ≡ false → IsProgressOf s p
   pub searching : s.failed ≡ false → s.ended ≡ false → IsSearching (context_of s) p
 
@@ -65,6 +73,16 @@ abbrev pub IsSettled : RuleLists → ProgressLists → ProgressLists → End →
 IsSettled rules old new Spent = (new ≡ old) × HasNext (context_in rules) new
 IsSettled rules old new RunSaturated = (new ≡ old) × IsSaturated (context_in rules) (items_of new.entries)
 IsSettled rules old new (RunClosed r) = HasClosed rules r old new
+
+-- the facts are noted that a step has put, in a trail that had so many entries before
+pub record HasNotedNew (rules : RuleLists) (before : ℕ) (entries : List Entry) (old new : SeenSets) : Type 0 where
+  pub noted : HasNoted (facts_of (drop (min before (length entries - 1)) (items_of entries))) old new
+  pub over : AreOver rules.table new
+
+abbrev pub IsNotedAfter : RuleLists → ProgressLists → ProgressLists → SeenSets → SeenSets → Event → Type 0
+IsNotedAfter rules p q old new Moved = HasNotedNew rules (length p.entries) q.entries old new
+IsNotedAfter rules p q old new Saturated = new ≡ old
+IsNotedAfter rules p q old new (Closed r) = new ≡ old
 
 -- whether the search goes on
 abbrev pub goes_on : Event → Bool

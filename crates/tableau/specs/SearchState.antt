@@ -1,5 +1,5 @@
 -- What is seen of a search.
-use Rattle.std.specs.Prelude.{◌≡◌, ℕ, Bool, false, List}
+use Rattle.std.specs.Prelude.{◌≡◌, ℕ, Bool, false, List, ◌∷◌, length}
 use Rattle.shq_terms.specs.declared.axioms.Query.{Query}
 use Rattle.tableau_specs.specs.declared.Item.{Item}
 use Rattle.tableau_specs.specs.Steps.{SearchContext}
@@ -8,9 +8,12 @@ use Rattle.completion_tree.specs.declared.tree.Entry.{Entry}
 use Rattle.completion_tree.specs.Trail.{items_of}
 use Rattle.search_state.specs.Followed.{Printed}
 use Rattle.search_rules.specs.RuleLists.{RuleLists, context_in}
+use Rattle.reuse_laws.specs.Runs.{IsRun}
+use Rattle.seen_concepts.specs.Seen.{SeenSets, AreSeenIn}
 
--- the rules and the query, the numbers of what the query asks, the entries of the trail, what is known of blocked nodes, how many
--- steps were made, whether the search has ended, and whether memory was refused: then nothing more is known of it
+-- the rules and the query, the numbers of what the query asks, the entries of the trail, what is known of blocked nodes, the
+-- concepts that were ever put, how many steps were made, whether the search has ended, and whether memory was refused: then
+-- nothing more is known of it
 pub record SearchState : Type 0 where
   pub rules : RuleLists
   pub query : Query
@@ -18,6 +21,7 @@ pub record SearchState : Type 0 where
   pub not_sup : ℕ
   pub entries : List Entry
   pub prints : Printed
+  pub seen : SeenSets
   pub steps : ℕ
   pub ended : Bool
   pub failed : Bool
@@ -32,6 +36,13 @@ trail_of s = items_of s.entries
 -- its trail is reached by as many legal steps
 abbrev pub IsReachedBy : SearchState → Type 0
 IsReachedBy s = IsReached (context_of s).theory s.query.sub s.query.sup s.rules.table (context_of s).rows s.steps (trail_of s)
+
+-- its run: all its trails, as many as steps were made and the first one, and the concepts that were ever put into one
+pub record HasRun (s : SearchState) : Type 0 where
+  pub earlier : List (List Item)
+  pub is_run : IsRun (context_of s) (start s.sub s.not_sup) (trail_of s ∷ earlier)
+  pub counted : length earlier ≡ s.steps
+  pub are_seen : AreSeenIn s.rules.table (trail_of s ∷ earlier) s.seen
 
 -- a search that begins
 pub record HasBegun (rules : RuleLists) (query : Query) (sub not_sup : ℕ) (s : SearchState) : Type 0 where

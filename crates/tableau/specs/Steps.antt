@@ -1,15 +1,18 @@
 -- What a search does.
 use Rattle.std.specs.Prelude.{◌≡◌, ℕ, ◌+◌, true, false, List, length}
+use Rattle.shq_terms.specs.Concept.{name}
 use Rattle.shq_terms.specs.declared.axioms.Query.{Query}
+use Rattle.shq_meaning.specs.Truth.{Entails}
 use Rattle.lane_sieve.specs.Sets.{IsPart}
 use Rattle.axiom_sets.specs.Sets.{member_list}
 use Rattle.calculus_specs.specs.Valid.{IsRefutation}
 use Rattle.refutation_tree.specs.RefutationLists.{RefutationLists}
 use Rattle.refutation_tree.specs.ReadBack.{IsWritable}
-use Rattle.refutation_truth.specs.Theory.{theory_of}
+use Rattle.refutation_truth.specs.Theory.{named_axioms, theory_of}
 use Rattle.tableau_specs.specs.declared.Item.{Item}
 use Rattle.tableau_specs.specs.Steps.{IsLegal, IsSaturated, HasClash}
-use Rattle.tableau_specs.specs.Reached.{Follows}
+use Rattle.tableau_specs.specs.Reached.{Follows, Costs}
+use Rattle.seen_concepts.specs.Seen.{LacksClass}
 use Rattle.completion_tree.specs.Trail.{facts_in}
 use Rattle.search_state.specs.Followed.{IsCurrent}
 use Rattle.search_rules.specs.RuleLists.{RuleLists}
@@ -82,3 +85,19 @@ abbrev pub IsEnd : ℕ → SearchState → SearchState → End → Type 0
 IsEnd fuel old new RunSaturated = Runs old new × IsAtModel new
 IsEnd fuel old new (RunClosed r) = Runs old new × IsAtRefutation r new
 IsEnd fuel old new Spent = Runs old new × IsSpent fuel old new
+
+-- ---- other queries
+
+-- the search begins with a node that is in the query's subclass and in top, and class a was left out of its run: see `LeavesOut`
+pub record LeavesClassOut (s : SearchState) (a : ℕ) : Type 0 where
+  pub asks_for_any : s.not_sup ≡ 0
+  pub lacks_class : LacksClass s.rules.table s.seen a
+
+-- the query whether the search's subclass is in class a
+abbrev pub query_for : SearchState → ℕ → Query
+query_for s a = record { sub = s.query.sub; sup = name a }
+
+-- it does not follow from the axioms of the set, and as many legal steps as the search has made decide that
+pub record IsShownApart (s : SearchState) (a : ℕ) : Type 0 where
+  pub follows_not : ¬ Entails (named_axioms s.rules.ontology.axioms (member_list s.rules.set)) (query_for s a)
+  pub cost : Costs (context_of s).theory s.query.sub (name a) (Entails (named_axioms s.rules.ontology.axioms (member_list s.rules.set)) (query_for s a)) s.steps

@@ -1,9 +1,14 @@
 // The search.
-ghost use Rattle.std.specs.Prelude.{◌≡◌, ◌+◌, ◌<◌, ◌≤◌, ◌^◌, true, false, IfOk, OnOk, OnErr, length};
+ghost use Rattle.std.specs.Prelude.{◌≡◌, ◌+◌, ◌<◌, ◌≤◌, ◌^◌, ◌↔◌, [], ◌∷◌, true, false, IfOk, OnOk, OnErr, length};
 ghost use Rattle.ontology_limits.specs.Limits.{IsInLimit};
 ghost use Rattle.search_rules.specs.RuleLists.{AreNumbersOf};
-ghost use Rattle.tableau.specs.SearchState.{IsReachedBy, HasBegun, IsSameSearch};
-ghost use Rattle.tableau.specs.Steps.{IsEvent, IsEnd};
+ghost use Rattle.calculus_specs.specs.Reading.{are_listed};
+ghost use Rattle.completion_tree.specs.Trail.{facts_in, items_of};
+ghost use Rattle.tableau_specs.specs.Items.{facts_of};
+ghost use Rattle.search_state.specs.Followed.{IsCurrent};
+ghost use Rattle.seen_concepts.specs.Seen.{AreSeenIn};
+ghost use Rattle.tableau.specs.SearchState.{IsReachedBy, HasRun, HasBegun, IsSameSearch};
+ghost use Rattle.tableau.specs.Steps.{IsEvent, IsEnd, IsAtModel, LeavesClassOut, IsShownApart};
 ghost use Rattle.tableau.specs.Bounds.{HasFewSteps, HasFewMarks};
 ghost use Rattle.tableau.specs.Inside.{goes_on as event_goes_on, is_spent, IsHalted, IsWalked};
 
@@ -13,6 +18,7 @@ use completion_tree::Tree;
 use search_laws::{few_marks, few_steps_without_going_back};
 use search_rules::SearchRules;
 use search_state::{Blocks, Effort, Progress};
+use seen_concepts::SeenConcepts;
 use shq_terms::Query;
 use std::alloc::{Allocator, Global};
 use std::marker::Model;
@@ -49,6 +55,7 @@ pub struct Search<'b, A: Allocator> {
     sub: u32,
     not_sup: u32,
     progress: Progress<'b, A>,
+    seen: SeenConcepts,
     steps: u64,
     ended: bool,
     failed: bool,
@@ -73,6 +80,7 @@ impl<'b, A: Allocator> Model for Search<'b, A> {
       not_sup = s.not_sup;
       entries = s.progress.entries;
       prints = s.progress.prints;
+      seen = s.seen;
       steps = s.steps;
       ended = s.ended;
       failed = s.failed;
@@ -87,6 +95,7 @@ impl<'b, A: Allocator> Model for Search<'b, A> {
       not_sup = s.not_sup;
       entries = s.progress.entries;
       prints = s.progress.prints;
+      seen = s.seen;
       steps = s.steps;
       ended = s.ended;
       failed = s.failed;
@@ -116,6 +125,7 @@ impl<'b, A: Allocator + Copy> Search<'b, A> {
         rules.is_ready();
         let _ = rules.concepts();
         let progress = Progress::new_in(alloc, heap, rules, query, sub, not_sup)?;
+        let seen = first_seen(heap, rules, progress.tree())?;
         Ok(Search {
             heap,
             rules,
@@ -123,6 +133,7 @@ impl<'b, A: Allocator + Copy> Search<'b, A> {
             sub,
             not_sup,
             progress,
+            seen,
             steps: 0,
             ended: false,
             failed: false,
@@ -140,15 +151,18 @@ impl<'b, A: Allocator + Copy> Search<'b, A> {
         requires countable { self.old.steps + 1 < 2 ^ 64 }
         ensures same { IsSameSearch self.old self.new }
         ensures event { IfOk result (IsEvent self.old self.new) }
+        ensures few_steps { OnOk result (HasFewSteps self.new) }
+        ensures few_marks { OnOk result (HasFewMarks self.new) }
         ensures whole { OnOk result (self.new.failed ≡ false) }
         ensures failed { OnErr result (self.new.failed ≡ true) }
         ensures kept { OnErr result (self.new.steps ≡ self.old.steps) }
     {
         self.failed = true;
-        let event = advance(self.heap, &mut self.progress, self.rules)?;
+        let event = advance(self.heap, &mut self.progress, &mut self.seen, self.rules)?;
         self.steps = self.progress.steps();
         self.ended = !goes_on(&event);
         self.failed = false;
+        self.steps();
         Ok(event)
     }
 
@@ -165,6 +179,8 @@ impl<'b, A: Allocator + Copy> Search<'b, A> {
         ensures rises { self.old.steps ≤ self.new.steps }
         ensures within { self.new.steps ≤ self.old.steps + fuel }
         ensures end { IfOk result (IsEnd fuel self.old self.new) }
+        ensures few_steps { OnOk result (HasFewSteps self.new) }
+        ensures few_marks { OnOk result (HasFewMarks self.new) }
         ensures whole { OnOk result (self.new.failed ≡ false) }
         ensures failed { OnErr result (self.new.failed ≡ true) }
     {
@@ -184,6 +200,8 @@ impl<'b, A: Allocator + Copy> Search<'b, A> {
         ensures rises { self.old.steps ≤ self.new.steps }
         ensures within { self.new.steps ≤ self.old.steps + fuel }
         ensures walked { IfOk result (IsWalked fuel self.old self.new) }
+        ensures few_steps { OnOk result (HasFewSteps self.new) }
+        ensures few_marks { OnOk result (HasFewMarks self.new) }
         ensures whole { OnOk result (self.new.failed ≡ false) }
         ensures failed { OnErr result (self.new.failed ≡ true) }
     {
@@ -194,6 +212,7 @@ impl<'b, A: Allocator + Copy> Search<'b, A> {
                 Event::Closed(refutation) => return Ok(Event::Closed(refutation)),
             }
         }
+        self.steps();
         Ok(Event::Moved)
     }
 
@@ -204,6 +223,8 @@ impl<'b, A: Allocator + Copy> Search<'b, A> {
         ensures same { IsSameSearch self.old self.new }
         ensures steps { self.new.steps ≡ self.old.steps }
         ensures halted { IfOk result (IsHalted self.old self.new) }
+        ensures few_steps { OnOk result (HasFewSteps self.new) }
+        ensures few_marks { OnOk result (HasFewMarks self.new) }
         ensures whole { OnOk result (self.new.failed ≡ false) }
         ensures failed { OnErr result (self.new.failed ≡ true) }
     {
@@ -211,6 +232,7 @@ impl<'b, A: Allocator + Copy> Search<'b, A> {
         let end = settle(self.heap, &mut self.progress, self.rules)?;
         self.ended = !is_spent(&end);
         self.failed = false;
+        self.steps();
         Ok(end)
     }
 
@@ -219,12 +241,27 @@ impl<'b, A: Allocator + Copy> Search<'b, A> {
     pub fn steps(&self) -> u64
         ensures count { result ≡ self.now.steps }
         ensures reached { self.now.failed ≡ false → IsReachedBy self.now }
+        ensures run { self.now.failed ≡ false → HasRun self.now }
         ensures few_steps { self.now.failed ≡ false → HasFewSteps self.now }
         ensures few_marks { self.now.failed ≡ false → HasFewMarks self.now }
     {
         few_steps_without_going_back();
         few_marks();
         self.steps
+    }
+
+    /// Whether the search, which has ended at a model, shows of a class of the ontology that the query's subclass is not part of
+    /// it: by the steps that were made, which a search for that could have made. So it is where the query asks whether anything
+    /// is in its subclass, and the run has left the class out.
+    pub fn shows_apart(&self, class: u32) -> bool
+        requires listed { class < length self.now.rules.ontology.classes }
+        requires whole { self.now.failed ≡ false }
+        requires ended { IsAtModel self.now }
+        ensures exact { (result ≡ true) ↔ LeavesClassOut self.now class }
+        ensures run { HasRun self.now }
+        ensures apart { result ≡ true → IsShownApart self.now class }
+    {
+        self.not_sup == 0 && self.seen.lack_class(self.rules.concepts(), class)
     }
 
     /// What was done beside the steps. No contract speaks of these counts.
@@ -246,9 +283,10 @@ impl<'b, A: Allocator + Copy> Search<'b, A> {
         self.progress.tree()
     }
 
-    /// The blocks of the tree, as far as they were found.
+    /// The blocks of the tree's nodes, unless memory was refused.
     pub fn prints(&self) -> &Blocks
-        ensures { result.now ≡ self.now.prints }
+        ensures blocks { result.now ≡ self.now.prints }
+        ensures current { self.now.failed ≡ false → IsCurrent (facts_in self.now.entries) self.now.prints }
     {
         self.progress.prints()
     }
@@ -259,6 +297,20 @@ impl<'b, A: Allocator + Copy> Search<'b, A> {
     {
         self.rules
     }
+}
+
+// What the first trail puts.
+fn first_seen<A: Allocator + Copy>(
+    heap: Global,
+    rules: &SearchRules<'_>,
+    tree: &Tree<A>,
+) -> Result<SeenConcepts, NoMemory>
+    requires { are_listed (length rules.now.table) (facts_of (items_of tree.now)) ≡ true }
+    ensures { IfOk result (AreSeenIn rules.now.table (items_of tree.now ∷ [])) }
+{
+    let mut seen = SeenConcepts::new(heap, rules.concepts().len())?;
+    seen.note(rules, tree, 0);
+    Ok(seen)
 }
 
 // Whether the search goes on.
