@@ -1,3 +1,4 @@
 pub mod AuditLists
 pub mod AuditText
 pub mod Fitting
+pub mod Written

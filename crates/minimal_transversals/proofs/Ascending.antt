@@ -18,7 +18,7 @@ is_less Less = true
 is_less Equal = false
 is_less Greater = false
 
-not_before_itself : (s : Limited) → list_cmp s s ≡ Less → ⊥
+pub not_before_itself : (s : Limited) → list_cmp s s ≡ Less → ⊥
 unfolding is_less
 not_before_itself s h = true≢false (ap is_less (sym h ∙ turned_back s s h))
 
