@@ -8,7 +8,6 @@ use Rattle.shq_meaning.specs.Truth.{Entails}
 use Rattle.decision_jobs.proofs.Truth.{followed, not_followed}
 use Rattle.run_log.specs.declared.entry.Entry.{Entry}
 use Rattle.ontology_jobs.specs.Words.{check}
-use Rattle.decision_jobs.specs.Certificates.{certificate}
 use Rattle.classification_jobs.specs.LimitLaws.{with_names}
 use Rattle.classification_jobs.specs.Asked.{Reply, judged, refused_document, refused_query, malformed_line}
 use Rattle.decision_jobs.specs.Checking.{IsVerdictOn, first_unmet, Shows, IsReply, no_document, no_query, shown}
@@ -57,11 +56,10 @@ module _ (query bytes : List ℕ) where
       → (r : Reply) → r ≡ judged v → IsReply query bytes r → HaveRead holds query bytes
   judged_on holds v so _ is (no_document e why) = absurd (cc is)
   judged_on holds v so _ is (no_query o kept end e found why) = absurd (cc is)
-  judged_on holds v so _ is (shown o kept end counts q r found asked shows) = by (certificate (with_names o counts) (drop end bytes)) (subst (Shows (with_names o counts) q (certificate (with_names o counts) (drop end bytes))) is shows)
+  judged_on holds v so _ is (shown o kept end counts q r found asked shows) = by (subst (Shows (with_names o counts) q (drop end bytes)) is shows)
     where
-      by : (c : Result Certificate ℕ) → Shows (with_names o counts) q c (judged v) → HaveRead holds query bytes
-      by (Ok c) verdict = record { document = o; kept = kept; end = end; counts = counts; asked = q; is_document = found; is_query = asked; what_holds = so (with_names o counts) q c verdict }
-      by (Err n) none = absurd none
+      by : Shows (with_names o counts) q (drop end bytes) (judged v) → HaveRead holds query bytes
+      by (c, certified, verdict) = record { document = o; kept = kept; end = end; counts = counts; asked = q; is_document = found; is_query = asked; what_holds = so (with_names o counts) q c verdict }
 
   -- the reply of an answer that was done
   reply_of : (out : List ℕ) (log : List Entry) → AnswersJob (check query) bytes out Done log → (r : Reply) × IsReply query bytes r × (◌≡◌ {A = Answer} (Done, out) (reply_answer r))

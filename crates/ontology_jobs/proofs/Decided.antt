@@ -19,7 +19,9 @@ use Rattle.ofn_reader.proofs.OneReason.{document_refusals, query_refusals}
 use Rattle.ofn_reader.proofs.Unique.{documents, documents_not_refused, queries, queries_not_refused}
 use Rattle.run_log.specs.declared.entry.Entry.{Entry}
 use Rattle.ontology_jobs.specs.Words.{Job, check, decide, classify, pinpoint, Request, on_input, generated, request_of}
-use Rattle.decision_jobs.specs.Certificates.{certificate}
+use Rattle.decision_jobs.specs.Certificates.{certificate_lines}
+use Rattle.decision_jobs.specs.Malformed.{certificate_read}
+use Rattle.decision_jobs.proofs.FirstMalformed.{first_is_one, malformed_is_none}
 use Rattle.classification_jobs.specs.LimitLaws.{with_names}
 use Rattle.classification_jobs.specs.Asked.{IsAsked, IsNotAsked, Reply, judged, refused_document, refused_query, malformed_line}
 use Rattle.decision_jobs.specs.Checking.{IsOfModel, IsOfRefutation, IsVerdictOn, line_of_place, Shows, IsReply, no_document, no_query, shown}
@@ -36,6 +38,9 @@ use Rattle.classification_jobs.specs.Status.TheVariants.{Done, Rejected, BadWord
 
 some_same : {A : Type 0} (a b : A) → Some a ≡ Some b → a ≡ b
 some_same a b same = cc same
+
+some_ok : (c d : Certificate) → ◌≡◌ {A = Result Certificate ℕ} (Ok c) (Ok d) → c ≡ d
+some_ok c d same = cc same
 
 -- a least element that passes, and none that passes, exclude each other
 none_and_least : (m : Model) (q : Asked) (y : ℕ) → IsFirstBelow m.size (refutes_at (meaning m) q) (Some y) → IsFirstBelow m.size (refutes_at (meaning m) q) None → ⊥
@@ -92,26 +97,29 @@ same_verdict : (o : Listed) (q : Asked) (c : Certificate) (v w : Verdict) → Is
 same_verdict o q (C.Model m) v w a b = same_of_model o q m v w a b
 same_verdict o q (C.Refutation r) v w a b = same_of_refutation o q r v w a b
 
--- one certificate for one query has one answer
-same_shows : (o : Listed) (asked : Asked) (c : Result Certificate ℕ) (r q : Reply) → Shows o asked c r → Shows o asked c q → ◌≡◌ {A = Answer} (reply_answer r) (reply_answer q)
-same_shows o asked (Ok c) (judged v) (judged w) p q = same_verdict o asked c v w p q
-same_shows o asked (Err n) (malformed_line j) (malformed_line k) p q = ap (λ i. reply_answer (malformed_line i)) (sym p ∙ q)
-same_shows o asked (Ok c) (judged v) (refused_document e) p q = absurd q
-same_shows o asked (Ok c) (judged v) (refused_query e) p q = absurd q
-same_shows o asked (Ok c) (judged v) (malformed_line k) p q = absurd q
-same_shows o asked (Err n) (malformed_line j) (judged w) p q = absurd q
-same_shows o asked (Err n) (malformed_line j) (refused_document e) p q = absurd q
-same_shows o asked (Err n) (malformed_line j) (refused_query e) p q = absurd q
-same_shows o asked c r q p s = absurd p
+-- one text behind a document has one answer for one query
+same_shows : (o : Listed) (asked : Asked) (rest : List ℕ) (r q : Reply) → Shows o asked rest r → Shows o asked rest q → ◌≡◌ {A = Answer} (reply_answer r) (reply_answer q)
+same_shows o asked rest (judged v) (judged w) (c, found, p) (d, there, q) =
+    let same : c ≡ d = some_ok c d (sym found ∙ there) in
+    same_verdict o asked d v w (subst (λ k. IsVerdictOn o asked k v) same p) q
+same_shows o asked rest (malformed_line j) (malformed_line k) p q = ap (λ i. reply_answer (malformed_line i)) (first_is_one 1 (certificate_read o) (certificate_lines rest) j k p q)
+same_shows o asked rest (judged v) (malformed_line k) (c, found, p) q = absurd (malformed_is_none o rest k c q found)
+same_shows o asked rest (malformed_line j) (judged w) p (d, there, q) = absurd (malformed_is_none o rest j d p there)
+same_shows o asked rest (judged v) (refused_document e) p q = absurd q
+same_shows o asked rest (judged v) (refused_query e) p q = absurd q
+same_shows o asked rest (malformed_line j) (refused_document e) p q = absurd q
+same_shows o asked rest (malformed_line j) (refused_query e) p q = absurd q
+same_shows o asked rest (refused_document e) q p s = absurd p
+same_shows o asked rest (refused_query e) q p s = absurd p
 
 -- on one document a query is read or refused, and then its answer is one
 module _ (query bytes : List ℕ) (o : Listed) (kept : DocumentContext) (end : ℕ) where
-  same_asked : (a b : Counts) (x y : Asked) (r q : Reply) → IsAsked o kept query a x → IsAsked o kept query b y → Shows (with_names o a) x (certificate (with_names o a) (drop end bytes)) r
-      → Shows (with_names o b) y (certificate (with_names o b) (drop end bytes)) q → ◌≡◌ {A = Answer} (reply_answer r) (reply_answer q)
+  same_asked : (a b : Counts) (x y : Asked) (r q : Reply) → IsAsked o kept query a x → IsAsked o kept query b y → Shows (with_names o a) x (drop end bytes) r
+      → Shows (with_names o b) y (drop end bytes) q → ◌≡◌ {A = Answer} (reply_answer r) (reply_answer q)
   same_asked a b x y r q p s shows others =
       let same = queries kept.prefixes o.axioms (query_start o kept.nodes) query a b x y p s in
-      same_shows (with_names o b) y (certificate (with_names o b) (drop end bytes)) r q
-      (subst (λ z. Shows (with_names o b) z (certificate (with_names o b) (drop end bytes)) r) same.1 (subst (λ d. Shows (with_names o d) x (certificate (with_names o d) (drop end bytes)) r) same.0 shows)) others
+      same_shows (with_names o b) y (drop end bytes) r q
+      (subst (λ z. Shows (with_names o b) z (drop end bytes) r) same.1 (subst (λ d. Shows (with_names o d) x (drop end bytes) r) same.0 shows)) others
 
 -- what was read as one document was read as each other
 moved : (P : Listed → DocumentContext → ℕ → Type 0) (bytes : List ℕ) (o p : Listed) (j k : DocumentContext) (d e : ℕ) → IsDocument bytes o j d → IsDocument bytes p k e → P o j d → P p k e
@@ -132,7 +140,7 @@ same_said query bytes _ _ (shown o k d b x r is asked shows) (no_document e why)
 same_said query bytes _ _ (shown o k d b x r is asked shows) (no_query p j c e are why) =
     absurd (queries_not_refused k.prefixes o.axioms (query_start o k.nodes) query b x e asked (moved (λ l i n. IsNotAsked l i query e) bytes p o j k c d are is why))
 same_said query bytes _ _ (shown o k d b x r is asked shows) (shown p j c a y q are sought others) =
-    let there = moved (λ l i n. IsAsked l i query b x × Shows (with_names l b) x (certificate (with_names l b) (drop n bytes)) r) bytes o p k j d c is are (asked, shows) in
+    let there = moved (λ l i n. IsAsked l i query b x × Shows (with_names l b) x (drop n bytes) r) bytes o p k j d c is are (asked, shows) in
     same_asked query bytes p j c b a x y r q there.0 sought there.1 others
 
 -- the two answers of a verification, each with what holds then
@@ -163,14 +171,17 @@ outcome query bytes out WriteFault log known answer = absurd known
 outcome query bytes out Undecided log known answer = absurd known
 outcome query bytes out NoMemory log known answer = absurd known
 
+pub same_check : (query bytes out text : List ℕ) (s t : Status) (log more : List Entry) → IsFinal s → IsFinal t → AnswersJob (check query) bytes out s log → AnswersJob (check query) bytes text t more → (s ≡ t) × (out ≡ text)
+same_check query bytes out text s t log more known sure p q =
+    let same = same_outcome query bytes (s, out) (t, text) (outcome query bytes out s log known p) (outcome query bytes text t more sure q) in
+    ((λ i. (same i).0), (λ i. (same i).1))
+
 pub answers : AnswersAreUnique
 answers words bytes out text s t log more plain known sure = by (request_of words) plain
   where
     by : (r : Option Request) → AsksForNoSearch r → MatchOption r (IsBadWords out s log) (λ r. AnswersRequest r bytes out s log) → MatchOption r (IsBadWords text t more) (λ r. AnswersRequest r bytes text t more) → (s ≡ t) × (out ≡ text)
     by None plain p q = (p.status ∙ sym q.status, p.text ∙ sym q.text)
-    by (Some (on_input (check query))) plain p q =
-        let same = same_outcome query bytes (s, out) (t, text) (outcome query bytes out s log known p) (outcome query bytes text t more sure q) in
-        ((λ i. (same i).0), (λ i. (same i).1))
+    by (Some (on_input (check query))) plain p q = same_check query bytes out text s t log more known sure p q
     by (Some (on_input (decide question budget))) plain p q = absurd plain
     by (Some (on_input (classify budget))) plain p q = absurd plain
     by (Some (on_input (pinpoint wanted inclusion budget))) plain p q = absurd plain

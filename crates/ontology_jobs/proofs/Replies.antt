@@ -1,17 +1,18 @@
 -- What an answer says of the input that was read.
-use Rattle.std.proofs.Common.{◌≡◌, ℕ, ◌+◌, ◌<◌, ◌≤◌, ◌^◌, List, [], ◌∷◌, ◌++◌, inr, length, drop, true, false, Bool, Option, Some, None, refl, ap, sym, ◌∙◌, subst, append-nil, arith}
-use Rattle.std.specs.Prelude.{IfSome, nat_lt}
-use Rattle.std.specs.Io.KnownBytes.{Consumes, IsAtEnd}
+use Rattle.std.proofs.Common.{◌≡◌, ◌≢◌, ℕ, ◌+◌, ◌<◌, ◌≤◌, ◌^◌, List, [], ◌∷◌, ◌++◌, inl, inr, length, drop, true, false, Bool, Option, Some, None, refl, ap, sym, ◌∙◌, subst, append-nil, arith}
+use Rattle.std.specs.Prelude.{IfSome, MatchOption, nat_lt}
+use Rattle.std.specs.Io.KnownBytes.{Consumes, Appends, IsAtEnd}
 use Rattle.std.proofs.lemmas.Bool.Decides.{nat_tests}
-use Rattle.shq_io.specs.Causes.{TakesOut}
+use Rattle.shq_io.specs.Causes.{TakesOut, TakesPrefix}
 use Rattle.shq_io.specs.declared.whole.ReadEnd.{ReadEnd}
 use Rattle.shq_io.specs.declared.whole.ReadEnd.TheVariants as E
 use Rattle.run_log.specs.declared.entry.Entry.{Entry}
 use Rattle.classification_jobs.specs.Answer.{Answer, IsAnswer, is_fault}
 use Rattle.classification_jobs.specs.Status.{Status}
 use Rattle.classification_jobs.specs.Status.TheVariants.{Done, Rejected, BadWords, BadText, Outside, Limit, ReadFault, WriteFault, Undecided, NoMemory}
-use Rattle.ontology_jobs.specs.Words.{Job, check, decide, classify, pinpoint, on_input}
-use Rattle.ontology_jobs.specs.Answers.{end_answer, AnswersRead, AnswersJob, left_by, LeavesFor}
+use Rattle.pinpointing_jobs.specs.Answers.{AnswersWorkload}
+use Rattle.ontology_jobs.specs.Words.{Job, Request, on_input, generated, request_of}
+use Rattle.ontology_jobs.specs.Answers.{end_answer, AnswersRead, AnswersJob, AnswersRequest, IsBadWords, Answers, Answered, AreAll, AnswersJobOnAll, AnswersRequestOnAll, AnswersAll, AnsweredAll, left_by, LeavesFor}
 
 -- an answer to an input that was read and is not too long is one of the job
 job_answers : (job : Job) (bytes out : List ℕ) (s : Status) (log : List Entry) → length bytes ≤ 2 ^ 24 → is_fault s ≡ false → AnswersRead job bytes out s log → AnswersJob job bytes out s log
@@ -24,20 +25,82 @@ job_answers job bytes out Limit log short sound answer = inr (short, answer)
 job_answers job bytes out ReadFault log short sound answer = absurd (cc sound)
 job_answers job bytes out WriteFault log short sound answer = inr (short, answer)
 job_answers job bytes out Undecided log short sound answer = inr (short, answer)
-job_answers (check query) bytes out NoMemory log short sound answer = answer.0
-job_answers (decide question budget) bytes out NoMemory log short sound answer = answer
-job_answers (classify budget) bytes out NoMemory log short sound answer = answer
-job_answers (pinpoint wanted inclusion budget) bytes out NoMemory log short sound answer = answer
+job_answers job bytes out NoMemory log short sound answer = inr (short, answer)
+
+-- bytes that are all of what a source holds that tells them
+pub all_bytes : (held : Option (List ℕ)) → (bytes : List ℕ) × AreAll held bytes
+all_bytes None = ([], tt)
+all_bytes (Some all) = (all, refl)
 
 -- an answer to the bytes that were read whole is one to all that the source held
 pub read_answers : (before now : Option (List ℕ)) (job : Job) (input given out : List ℕ) (s : Status) (log : List Entry) → Consumes before now input → IsAtEnd now → length input ≤ 2 ^ 24 → given ≡ input
-    → is_fault s ≡ false → AnswersRead job given out s log → IfSome before (λ bytes. AnswersJob job bytes out s log)
-read_answers None now job input given out s log taken end short same sound answer = tt
-read_answers (Some bytes) None job input given out s log taken end short same sound answer = absurd taken
-read_answers (Some bytes) (Some rest) job input given out s log taken end short same sound answer =
-    let whole : input ≡ bytes = sym (taken ∙ ap (λ l. input ++ l) end ∙ append-nil input) in
-    let said = job_answers job input out s log short sound (subst (λ b. AnswersRead job b out s log) same answer) in
-    subst (λ b. AnswersJob job b out s log) whole said
+    → is_fault s ≡ false → AnswersRead job given out s log → AnswersJobOnAll job before out s log
+read_answers before now job input given out s log taken end short same sound answer =
+    (input, whole before now taken end, job_answers job input out s log short sound (subst (λ b. AnswersRead job b out s log) same answer))
+  where
+    whole : (before now : Option (List ℕ)) → Consumes before now input → IsAtEnd now → AreAll before input
+    whole None now taken end = tt
+    whole (Some bytes) None taken end = absurd taken
+    whole (Some bytes) (Some rest) taken end = taken ∙ ap (λ l. input ++ l) end ∙ append-nil input
+
+-- bytes that are longer than the limit, where so many were given
+long_bytes : (before now : Option (List ℕ)) → TakesOut (2 ^ 24 + 1) before now → IfSome before (λ bytes. 2 ^ 24 < length bytes) → (bytes : List ℕ) × AreAll before bytes × (2 ^ 24 < length bytes)
+long_bytes None now out_of longer = (out_of.bytes, tt, omega (arith, out_of.count))
+long_bytes (Some bytes) now out_of longer = (bytes, refl, longer)
+
+-- the answer where the input was not read to its end
+pub end_answers : (before now : Option (List ℕ)) (job : Job) (out : List ℕ) (s : Status) (log : List Entry) (end : ReadEnd) → IsAnswer (end_answer end) out s → log ≡ []
+    → (end ≡ E.TooLong → TakesOut (2 ^ 24 + 1) before now) → (end ≡ E.TooLong → IfSome before (λ bytes. 2 ^ 24 < length bytes)) → AnswersJobOnAll job before out s log
+end_answers before now job out s log end is none out_of longer =
+    subst (λ (t : Status). AnswersJobOnAll job before out t log) (sym (ap (λ (a : Answer). a.0) is)) (by end (ap (λ (a : Answer). a.1) is) out_of longer)
+  where
+    by : (end : ReadEnd) → out ≡ (end_answer end).1 → (end ≡ E.TooLong → TakesOut (2 ^ 24 + 1) before now) → (end ≡ E.TooLong → IfSome before (λ bytes. 2 ^ 24 < length bytes)) → AnswersJobOnAll job before out (end_answer end).0 log
+    by E.TooLong text out_of longer =
+        let long = long_bytes before now (out_of refl) (longer refl) in
+        (long.0, long.1, inl (record { long = long.2; answer = λ i. (Limit, text i); unlogged = none }))
+    by E.Fault text out_of longer = let all = all_bytes before in (all.0, all.1, (text, none))
+    by E.NoMemory text out_of longer = let all = all_bytes before in (all.0, all.1, inl (record { text = text; log_is = none }))
+
+-- ---- requests
+
+-- a workload is answered whatever the source holds
+pub generated_answers : (held : Option (List ℕ)) (number budget : ℕ) (out : List ℕ) (s : Status) (log : List Entry) → AnswersWorkload number budget out s log → AnswersRequestOnAll (generated number budget) held out s log
+generated_answers held number budget out s log answer = let all = all_bytes held in (all.0, all.1, answer)
+
+-- what answers the request that words make answers the words
+pub words_answers : (held : Option (List ℕ)) (words : List (List ℕ)) (r : Request) (out : List ℕ) (s : Status) (log : List Entry) → Some r ≡ request_of words → AnswersRequestOnAll r held out s log → AnswersAll held words out s log
+words_answers held words r out s log is (bytes, all, answer) =
+    (bytes, all, subst (λ (x : Option Request). MatchOption x (IsBadWords out s log) (λ y. AnswersRequest y bytes out s log)) is answer)
+
+-- the words of no job are answered whatever the source holds
+pub bad_words_answers : (held : Option (List ℕ)) (words : List (List ℕ)) (out : List ℕ) (s : Status) (log : List Entry) → None ≡ request_of words → IsBadWords out s log → AnswersAll held words out s log
+bad_words_answers held words out s log is bad =
+    let all = all_bytes held in
+    (all.0, all.1, subst (λ (x : Option Request). MatchOption x (IsBadWords out s log) (λ y. AnswersRequest y all.0 out s log)) is bad)
+
+-- ---- what is written
+
+-- the whole text of an answer was taken
+pub all_taken : (held before now : Option (List ℕ)) (words : List (List ℕ)) (out : List ℕ) (s : Status) (log : List Entry) → s ≢ WriteFault → AnswersAll held words out s log → Appends before now out → AnsweredAll held before now words s log
+all_taken held before now words out s log sound (bytes, all, answer) taken = (bytes, all, by s sound answer)
+  where
+    by : (s : Status) → s ≢ WriteFault → Answers words bytes out s log → Answered before now words bytes s log
+    by Done sound answer = (out, answer, taken)
+    by Rejected sound answer = (out, answer, taken)
+    by BadWords sound answer = (out, answer, taken)
+    by BadText sound answer = (out, answer, taken)
+    by Outside sound answer = (out, answer, taken)
+    by Limit sound answer = (out, answer, taken)
+    by ReadFault sound answer = (out, answer, taken)
+    by WriteFault sound answer = absurd (sound refl)
+    by Undecided sound answer = (out, answer, taken)
+    by NoMemory sound answer = (out, answer, taken)
+
+-- a front of it was taken
+pub front_taken : (held before now : Option (List ℕ)) (words : List (List ℕ)) (out : List ℕ) (s : Status) (log : List Entry) → AnswersAll held words out s log → TakesPrefix out before now → AnsweredAll held before now words WriteFault log
+front_taken held before now words out s log (bytes, all, answer) taken = (bytes, all, (s, out, answer, taken))
+
+-- ---- what is left
 
 none_left : (before now : Option (List ℕ)) (job : Job) (input : List ℕ) → Consumes before now input → IsAtEnd now → length input ≤ 2 ^ 24 → LeavesFor (Some (on_input job)) before now Done
 none_left None now job input taken end short = tt

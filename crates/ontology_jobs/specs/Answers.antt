@@ -5,6 +5,7 @@ use Rattle.shq_io.specs.Causes.{TakesPrefix}
 use Rattle.shq_io.specs.declared.whole.ReadEnd.{ReadEnd}
 use Rattle.shq_io.specs.declared.whole.ReadEnd.TheVariants as E
 use Rattle.classification_jobs.specs.Answer.{line, no_memory, Answer, IsAnswer}
+use Rattle.classification_jobs.specs.Refusals.{IsOutOfMemory}
 use Rattle.classification_jobs.specs.Status.{Status}
 use Rattle.classification_jobs.specs.Status.TheVariants.{BadWords, Limit, ReadFault, WriteFault, NoMemory}
 use Rattle.run_log.specs.declared.entry.Entry.{Entry}
@@ -36,10 +37,10 @@ AnswersRead (decide question budget) bytes out s log = AnswersQuestion question 
 AnswersRead (classify budget) bytes out s log = AnswersClassification budget bytes out s log
 AnswersRead (pinpoint wanted inclusion budget) bytes out s log = AnswersPinpointing wanted inclusion budget bytes out s log
 
--- the answer of a job to an input
+-- the answer of a job to an input; memory may be refused before it is read, and then nothing is logged
 abbrev pub AnswersJob : Job → List ℕ → List ℕ → Status → List Entry → Type 0
 AnswersJob job bytes out ReadFault log = (out ≡ line (codes "read fault")) × (log ≡ [])
-AnswersJob job bytes out NoMemory log = out ≡ no_memory
+AnswersJob job bytes out NoMemory log = IsOutOfMemory out (log ≡ []) ⊎ ((length bytes ≤ 2 ^ 24) × AnswersRead job bytes out NoMemory log)
 AnswersJob job bytes out s log = IsTooLong bytes out s log ⊎ ((length bytes ≤ 2 ^ 24) × AnswersRead job bytes out s log)
 
 -- the answer to an accepted list of words
@@ -62,18 +63,22 @@ abbrev pub Answered : Option (List ℕ) → Option (List ℕ) → List (List ℕ
 Answered before now words bytes WriteFault log = (s : Status) × (out : List ℕ) × Answers words bytes out s log × TakesPrefix out before now
 Answered before now words bytes s log = (out : List ℕ) × Answers words bytes out s log × Appends before now out
 
--- The same where it is known which bytes the source holds: an answer to all of them.
+-- The bytes that are read: all that the source held, where it tells them.
+abbrev pub AreAll : Option (List ℕ) → List ℕ → Type 0
+AreAll held bytes = IfSome held (λ all. all ≡ bytes)
+
+-- The answer to the bytes that are read, whatever the source tells.
 abbrev pub AnswersJobOnAll : Job → Option (List ℕ) → List ℕ → Status → List Entry → Type 0
-AnswersJobOnAll job held out s log = IfSome held (λ bytes. AnswersJob job bytes out s log)
+AnswersJobOnAll job held out s log = (bytes : List ℕ) × AreAll held bytes × AnswersJob job bytes out s log
 
 abbrev pub AnswersRequestOnAll : Request → Option (List ℕ) → List ℕ → Status → List Entry → Type 0
-AnswersRequestOnAll r held out s log = IfSome held (λ bytes. AnswersRequest r bytes out s log)
+AnswersRequestOnAll r held out s log = (bytes : List ℕ) × AreAll held bytes × AnswersRequest r bytes out s log
 
 abbrev pub AnswersAll : Option (List ℕ) → List (List ℕ) → List ℕ → Status → List Entry → Type 0
-AnswersAll held words out s log = IfSome held (λ bytes. Answers words bytes out s log)
+AnswersAll held words out s log = (bytes : List ℕ) × AreAll held bytes × Answers words bytes out s log
 
 abbrev pub AnsweredAll : Option (List ℕ) → Option (List ℕ) → Option (List ℕ) → List (List ℕ) → Status → List Entry → Type 0
-AnsweredAll held before now words s log = IfSome held (λ bytes. Answered before now words bytes s log)
+AnsweredAll held before now words s log = (bytes : List ℕ) × AreAll held bytes × Answered before now words bytes s log
 
 -- The sink took `bad words`, whole, or at a fault of writing a front of it.
 abbrev pub SaysBadWords : Option (List ℕ) → Option (List ℕ) → Status → Type 0

@@ -1,6 +1,6 @@
 -- The words and the input decide the answer, unless something fails, memory is refused or a search is asked for; and what is
 -- accepted is true.
-use Rattle.std.specs.Prelude.{◌≡◌, ℕ, List, map, codes, Option, Some, None}
+use Rattle.std.specs.Prelude.{◌≡◌, ℕ, [], List, map, codes, Option, Some, None}
 use Rattle.shq_terms.specs.declared.axioms.Axiom.{Axiom}
 use Rattle.shq_terms.specs.Listed.{Listed}
 use Rattle.shq_terms.specs.declared.axioms.Query.{Query as Asked}
@@ -52,15 +52,60 @@ SpendsAll (on_input (classify budget)) log = spent_of log ≡ budget
 SpendsAll (on_input (pinpoint wanted inclusion budget)) log = spent_of log ≡ budget
 SpendsAll (generated number budget) log = spent_of log ≡ budget
 
--- The same of words, where it is known which bytes the source holds; the words of no job spend nothing.
-abbrev pub HasSpentAll : Option (List ℕ) → Option Request → List Entry → Type 0
-HasSpentAll None r log = Unit {0}
-HasSpentAll (Some bytes) None log = ⊥
-HasSpentAll (Some bytes) (Some r) log = SpendsAll r log
+-- the same of what words ask for; those of no job spend nothing
+abbrev pub HasSpentAll : Option Request → List Entry → Type 0
+HasSpentAll None log = ⊥
+HasSpentAll (Some r) log = SpendsAll r log
 
 -- an answer is undecided only where the whole budget was spent
 abbrev pub UndecidedSpendsAll : Type 0
 UndecidedSpendsAll = (r : Request) (bytes out : List ℕ) (log : List Entry) → AnswersRequest r bytes out Undecided log → SpendsAll r log
+
+-- ---- words of no job
+
+-- the words ask for nothing, and nothing was asked
+pub record AsksForNothing (words : List (List ℕ)) (log : List Entry) : Type 0 where
+  pub no_request : request_of words ≡ None
+  pub unlogged : log ≡ []
+
+abbrev pub BadWordsAskForNothing : Type 0
+BadWordsAskForNothing = (words : List (List ℕ)) (bytes out : List ℕ) (log : List Entry) → Answers words bytes out BadWords log → AsksForNothing words log
+
+-- ---- refusals
+
+-- a status with which a document or a question is refused
+abbrev pub IsRefusal : Status → Type 0
+IsRefusal Done = ⊥
+IsRefusal Rejected = ⊥
+IsRefusal BadWords = ⊥
+IsRefusal BadText = Unit {0}
+IsRefusal Outside = Unit {0}
+IsRefusal Limit = Unit {0}
+IsRefusal ReadFault = ⊥
+IsRefusal WriteFault = ⊥
+IsRefusal Undecided = ⊥
+IsRefusal NoMemory = ⊥
+
+-- a status of a run in which nothing failed and memory was not refused
+abbrev pub IsFaultless : Status → Type 0
+IsFaultless Done = Unit {0}
+IsFaultless Rejected = Unit {0}
+IsFaultless BadWords = Unit {0}
+IsFaultless BadText = Unit {0}
+IsFaultless Outside = Unit {0}
+IsFaultless Limit = Unit {0}
+IsFaultless ReadFault = ⊥
+IsFaultless WriteFault = ⊥
+IsFaultless Undecided = Unit {0}
+IsFaultless NoMemory = ⊥
+
+-- where one answer to words and an input is a refusal, each other one is the same
+abbrev pub RefusalsAreAnsweredAlike : Type 0
+RefusalsAreAnsweredAlike =
+    (words : List (List ℕ)) (bytes out text : List ℕ) (s t : Status) (log more : List Entry) → IsRefusal s → IsFaultless t → Answers words bytes out s log → Answers words bytes text t more
+    → (s ≡ t) × (out ≡ text)
+
+-- ---- what is accepted
 
 -- the document and the query on it that texts are, and what holds of the axioms and the query
 pub record HaveRead (holds : List Axiom → Asked → Type 0) (query bytes : List ℕ) : Type 0 where

@@ -1,3 +1,6 @@
 pub mod Words
 pub mod Answers
 pub mod Laws
+pub mod Complete
+pub use Rattle.classification_jobs.specs.Status
+pub use Rattle.run_log.specs.declared.entry.Entry

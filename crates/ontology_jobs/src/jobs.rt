@@ -3,7 +3,8 @@ ghost use Rattle.std.specs.Prelude.{◌≡◌, ◌≢◌, ◌≤◌, false, [], 
 ghost use Rattle.shq_io.specs.Causes.{Rose};
 ghost use Rattle.ontology_jobs.specs.Words.{request_of, on_input, kept_job, command_request, texts_of};
 ghost use Rattle.classification_jobs.specs.Answer.{IsAnswer, is_fault, text_bytes};
-ghost use Rattle.ontology_jobs.specs.Laws.{HasSpentAll};
+ghost use Rattle.ontology_jobs.specs.Laws.{HasSpentAll, AsksForNothing};
+ghost use Rattle.ontology_jobs.specs.Complete.{IsComplete};
 ghost use Rattle.ontology_jobs.specs.Answers.{AnswersRead, AnswersJobOnAll, AnswersRequestOnAll, AnswersAll, AnsweredAll, SaysBadWords, IsBadWords, end_answer, ReadsNothing, LeavesFor, Leaves};
 
 use crate::words::{Command, Job, read_words};
@@ -21,7 +22,6 @@ const MAX_BYTES: u32 = 1 << 24;
 ///
 /// `words` are those after the program's name; `source` gives the document, with what follows it; the log is empty, and
 /// gets the tests of a job that searches. The words of no job are answered without a read and without memory.
-#[tactic(auto, using(crate::proofs::Spending::answered_spends))]
 pub fn run<S: Source, K: Sink>(
     alloc: Global,
     words: &[String],
@@ -31,19 +31,23 @@ pub fn run<S: Source, K: Sink>(
 ) -> Status
     requires { log.old ≡ [] }
 
-    // Where the source tells its bytes: the answer that belongs to the words and to all bytes that the source held, with the
-    // log of how it was found, and what is left of them.
+    // The answer that belongs to the words and to the bytes that are read, with the log of how it was found. The bytes are all that
+    // the source held, where it tells them, and of these is told what is left.
     ensures answer { AnsweredAll (S.left source.old) (K.taken sink.old) (K.taken sink.new) (texts_of words.now) result log.new }
     ensures leaves { Leaves (texts_of words.now) (S.left source.old) (S.left source.new) result }
 
-    // Where it is undecided, the whole budget was spent on what the log says. So a run with budget left, whose document and
-    // question are read, is done, but for faults and out of memory.
-    ensures undecided { result ≡ Status.Undecided → HasSpentAll (S.left source.old) (request_of (texts_of words.now)) log.new }
+    // Where it is undecided, the whole budget was spent on what the log says.
+    ensures undecided { result ≡ Status.Undecided → HasSpentAll (request_of (texts_of words.now)) log.new }
+
+    // A run whose document and question are read, and which has something of its budget left, is done, but for faults and out of
+    // memory.
+    ensures complete { IsComplete (request_of (texts_of words.now)) (S.left source.old) result log.new }
 
     ensures read_fault { result ≡ Status.ReadFault → Rose (S.faults source.old) (S.faults source.new) }
     ensures write_fault { result ≡ Status.WriteFault → Rose (K.faults sink.old) (K.faults sink.new) }
 
-    // On the words of no job, whatever the source tells; and where nothing is to be read.
+    // The words of no job, and no others, are bad words; and where nothing is to be read, nothing is.
+    ensures no_others { result ≡ Status.BadWords → AsksForNothing (texts_of words.now) log.new }
     ensures bad_words { request_of (texts_of words.now) ≡ None → SaysBadWords (K.taken sink.old) (K.taken sink.new) result }
     ensures unread { ReadsNothing (request_of (texts_of words.now)) → source.new ≡ source.old }
 {

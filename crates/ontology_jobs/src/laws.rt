@@ -1,9 +1,28 @@
 // The words and the input decide the answer, and what is accepted is true.
-ghost use Rattle.ontology_jobs.specs.Laws.{AnswersAreUnique, UndecidedSpendsAll, AcceptedQueriesDoNotFollow, AcceptedQueriesFollow};
+ghost use Rattle.ontology_jobs.specs.Laws.{AnswersAreUnique, BadWordsAskForNothing, RefusalsAreAnsweredAlike, UndecidedSpendsAll, AcceptedQueriesDoNotFollow, AcceptedQueriesFollow};
+ghost use Rattle.ontology_jobs.specs.Complete.{JobsAreDone, WorkloadsAreDone};
 
 /// Words that ask for no search have one answer to an input, unless something fails or memory is refused.
 pub fn answers_are_unique()
     ensures { AnswersAreUnique }
+{}
+
+/// Bad words are answered to the words of no job alone.
+pub fn bad_words_ask_for_nothing()
+    ensures { BadWordsAskForNothing }
+{}
+
+/// Where a document or a question is refused, each run on the same words and input refuses it alike, unless something fails or
+/// memory is refused: so it is refused exactly where a run says so, whatever the job and the budget.
+pub fn refusals_are_answered_alike()
+    ensures { RefusalsAreAnsweredAlike }
+{}
+
+/// A run whose document and question are read, and which has something of its budget left, is done, unless something fails or
+/// memory is refused; a verification is judged. A workload reads nothing.
+pub fn runs_are_complete()
+    ensures jobs { JobsAreDone }
+    ensures workloads { WorkloadsAreDone }
 {}
 
 /// An answer is undecided only where the whole budget was spent, on what the log says. So a run that spent less, and whose document

@@ -16,6 +16,7 @@ pub use classification_jobs::Status;
 pub use jobs::run;
 pub use laws::{
     accepted_queries_do_not_follow, accepted_queries_follow, answers_are_unique,
+    bad_words_ask_for_nothing, refusals_are_answered_alike, runs_are_complete,
     undecided_spends_all,
 };
 pub use run_log::RunLog;

@@ -1,0 +1,50 @@
+-- Which statuses replies have.
+use Rattle.std.proofs.Common.{◌≡◌, List, ℕ, Bool, true, false, Option, Some, None, refl, ap, sym, ◌∙◌}
+use Rattle.classification_jobs.specs.Asked.{Reply, judged, refused_document, refused_query, malformed_line}
+use Rattle.classification_jobs.specs.Replies.{reply_answer}
+use Rattle.classification_jobs.specs.Answer.{Answer, complaint_answer}
+use Rattle.classification_jobs.specs.Complaints.{Complaint, sort_status, complaint}
+use Rattle.classification_jobs.specs.Place.{Place}
+use Rattle.classification_jobs.specs.Place.TheVariants as P
+use Rattle.classification_jobs.specs.Sort.{Sort}
+use Rattle.classification_jobs.specs.Sort.TheVariants as S
+use Rattle.classification_jobs.specs.Verdict.{Verdict}
+use Rattle.classification_jobs.specs.Verdict.TheVariants.{NotEntailed, Entailed, Axiom, Query, Line}
+use Rattle.classification_jobs.specs.Status.{Status}
+use Rattle.classification_jobs.specs.Status.TheVariants.{Done, Rejected, BadWords, BadText, Outside, Limit, ReadFault, WriteFault, Undecided, NoMemory}
+
+-- whether some reply has the status
+abbrev pub is_said : Status → Bool
+is_said Done = true
+is_said Rejected = true
+is_said BadWords = false
+is_said BadText = true
+is_said Outside = true
+is_said Limit = true
+is_said ReadFault = false
+is_said WriteFault = false
+is_said Undecided = false
+is_said NoMemory = true
+
+sort_said : (s : Sort) → is_said (sort_status s) ≡ true
+sort_said S.BadText = refl
+sort_said S.Outside = refl
+sort_said S.Limit = refl
+
+complaint_said : (place : Place) (c : Option Complaint) → is_said (complaint_answer place c).0 ≡ true
+complaint_said place None = refl
+complaint_said place (Some c) = sort_said c.sort
+
+reply_said : (r : Reply) → is_said (reply_answer r).0 ≡ true
+reply_said (judged Entailed) = refl
+reply_said (judged NotEntailed) = refl
+reply_said (judged (Axiom k)) = refl
+reply_said (judged Query) = refl
+reply_said (judged (Line n)) = refl
+reply_said (refused_document e) = complaint_said P.Document (complaint e)
+reply_said (refused_query e) = complaint_said P.Query (complaint e)
+reply_said (malformed_line n) = refl
+
+-- no reply has one of the others
+pub not_said : (s : Status) → is_said s ≡ false → (r : Reply) (out : List ℕ) → ◌≡◌ {A = Answer} (s, out) (reply_answer r) → ⊥
+not_said s none r out is = let clash : false ≡ true = sym none ∙ ap (λ (a : Answer). is_said a.0) is ∙ reply_said r in absurd (cc clash)
