@@ -1,20 +1,15 @@
-// The exit status of the program.
+// How the program ends.
 ghost use Rattle.std.specs.Prelude.{◌≡◌};
+ghost use Rattle.std.specs.Process.{exit_status};
+ghost use Rattle.ontology_jobs.specs.Status.{Status as Ended};
+ghost use Rattle.ontology_cli.specs.Exit.{exit_number};
 
 use ontology_jobs::Status;
+use std::process::ExitCode;
 
-/// The number with which the program exits where a run ends so.
-pub(crate) fn exit_number(status: Status) -> u8
-    ensures done { status ≡ Status.Done → result ≡ 0 }
-    ensures rejected { status ≡ Status.Rejected → result ≡ 1 }
-    ensures bad_words { status ≡ Status.BadWords → result ≡ 2 }
-    ensures bad_text { status ≡ Status.BadText → result ≡ 3 }
-    ensures outside { status ≡ Status.Outside → result ≡ 4 }
-    ensures limit { status ≡ Status.Limit → result ≡ 5 }
-    ensures read_fault { status ≡ Status.ReadFault → result ≡ 6 }
-    ensures write_fault { status ≡ Status.WriteFault → result ≡ 7 }
-    ensures undecided { status ≡ Status.Undecided → result ≡ 8 }
-    ensures no_memory { status ≡ Status.NoMemory → result ≡ 9 }
+// The number with which the program ends where a run ends so.
+fn exit_number(status: Status) -> u8
+    ensures { result ≡ exit_number status }
 {
     match status {
         Status::Done => 0,
@@ -28,4 +23,13 @@ pub(crate) fn exit_number(status: Status) -> u8
         Status::Undecided => 8,
         Status::NoMemory => 9,
     }
+}
+
+/// The code with which the program ends where a run ends so. Its number tells the status: no other has it.
+#[tactic(auto, using(crate::proofs::Numbers::tells))]
+pub(crate) fn exit_code(status: Status) -> ExitCode
+    ensures number { exit_status result ≡ exit_number status }
+    ensures only { (other : Ended) → exit_number other ≡ exit_status result → other ≡ status }
+{
+    ExitCode::from(exit_number(status))
 }
