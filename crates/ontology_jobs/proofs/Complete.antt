@@ -96,14 +96,14 @@ jobs_are_done (check query) bytes out s log readable left known answer =
 jobs_are_done (decide question budget) bytes out s log readable left known answer =
     done_by (IsRefusedQuestion question bytes) (IsReadBy question bytes) (λ r so why. questions_not_refused question bytes so.0 so.1 r so.2 why) bytes out log s readable.short readable.read
     (λ is.
-        let so = undecided (decide question budget) bytes out s log is answer in
-        left_of_tests budget log left (spends_all (on_input (decide question budget)) bytes out log so) (question_test_spent question budget bytes out log so))
+    let so = undecided (decide question budget) bytes out s log is answer in
+    left_of_tests budget log left (spends_all (on_input (decide question budget)) bytes out log so) (question_test_spent question budget bytes out log so))
     (question_ended question budget bytes out s log known answer)
 jobs_are_done (classify budget) bytes out s log readable left known answer =
     done_by (RefusesDocument bytes) (IsReadDocument bytes) (λ r so why. alone_not_refused bytes so.0 so.1 why.0 so.2 why.1) bytes out log s readable.short readable.read
     (λ is.
-        let so = undecided (classify budget) bytes out s log is answer in
-        left_of_tests budget log left (spends_all (on_input (classify budget)) bytes out log so) (class_test_spent budget bytes out log so))
+    let so = undecided (classify budget) bytes out s log is answer in
+    left_of_tests budget log left (spends_all (on_input (classify budget)) bytes out log so) (class_test_spent budget bytes out log so))
     (class_ended budget bytes out s log known answer)
 jobs_are_done (pinpoint w inclusion budget) bytes out s log readable left known answer =
     done_by (IsRefusedQuestion (follows inclusion) bytes) (IsReadBy (follows inclusion) bytes) (λ r so why. questions_not_refused (follows inclusion) bytes so.0 so.1 r so.2 why) bytes out log s readable.short readable.read
