@@ -162,6 +162,8 @@ impl<'b, A: Allocator + Copy> Search<'b, A> {
         self.steps = self.progress.steps();
         self.ended = !goes_on(&event);
         self.failed = false;
+
+        // What bounds the count stands after each step.
         self.steps();
         Ok(event)
     }
@@ -212,6 +214,8 @@ impl<'b, A: Allocator + Copy> Search<'b, A> {
                 Event::Closed(refutation) => return Ok(Event::Closed(refutation)),
             }
         }
+
+        // What bounds the count stands where no step was asked for.
         self.steps();
         Ok(Event::Moved)
     }
@@ -232,6 +236,8 @@ impl<'b, A: Allocator + Copy> Search<'b, A> {
         let end = settle(self.heap, &mut self.progress, self.rules)?;
         self.ended = !is_spent(&end);
         self.failed = false;
+
+        // What bounds the count stands after this look.
         self.steps();
         Ok(end)
     }
