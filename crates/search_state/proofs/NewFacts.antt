@@ -48,19 +48,19 @@ module _ (w : SearchContext) (s : ProgressLists) (st : IsStanding w s) (m : NewN
             (subst (λ (n : ℕ). has (fs ++ fresh_facts m.parent m.role m.filler (node_count fs) m.count) n m.filler ≡ true) (sym last.first_is) (has_new fs m.parent m.role m.filler (node_count fs) m.count last.is_some));
       }
 
-  none_new : ((q : ℕ) → NoClashByNew w (facts_in s.entries) m.parent q m.filler) → ¬ IsPlainClash (below_of w) w.table (facts_in s.entries)
+  none_new : (NoClashByNew w (facts_in s.entries) m.parent m.role m.filler) → ¬ IsPlainClash (below_of w) w.table (facts_in s.entries)
   none_new free =
       let fs = facts_in last.front in
       let new = fs ++ fresh_facts m.parent m.role m.filler (node_count fs) m.count in
-      let free' : NoClashByNew w new m.parent m.role m.filler = subst (λ (gs : List (Fact ℕ)). NoClashByNew w gs m.parent m.role m.filler) all_facts (free m.role) in
+      let free' : NoClashByNew w new m.parent m.role m.filler = subst (λ (gs : List (Fact ℕ)). NoClashByNew w gs m.parent m.role m.filler) all_facts free in
       subst (λ (gs : List (Fact ℕ)). ¬ IsPlainClash (below_of w) w.table gs) (sym all_facts)
       (λ clash. free'.none ((block_clashes (below_of w) w.table fs m.parent m.role m.filler m.count st.asked.is_table.begins_with_top last.speak last.is_node last.is_some last.none).0 clash))
 
-  known : (found : Option Clash) → MatchOption found ((q : ℕ) → NoClashByNew w (facts_in s.entries) m.parent q m.filler) (IsShown w (facts_in s.entries)) → IsClashOf w (facts_in s.entries) found
+  known : (found : Option Clash) → MatchOption found (NoClashByNew w (facts_in s.entries) m.parent m.role m.filler) (IsShown w (facts_in s.entries)) → IsClashOf w (facts_in s.entries) found
   known None h = none_new h
   known (Some clash) h = h
 
-  pub new_looked : (found : Option Clash) → MatchOption found ((q : ℕ) → NoClashByNew w (facts_in s.entries) m.parent q m.filler) (IsShown w (facts_in s.entries)) → IsSearching w (record s { clash = found })
+  pub new_looked : (found : Option Clash) → MatchOption found (NoClashByNew w (facts_in s.entries) m.parent m.role m.filler) (IsShown w (facts_in s.entries)) → IsSearching w (record s { clash = found })
   new_looked found h = record {
     standing = record { asked = st.asked; follows = st.follows; current = st.current; places = st.places; traced = st.traced; are_marks = st.are_marks; grounded = st.grounded; fit = st.fit };
     clash = known found h;

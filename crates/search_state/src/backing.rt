@@ -73,6 +73,7 @@ impl<'b, A: Allocator + Copy> Progress<'b, A> {
         ensures chosen { IfOk result IsNoEdge }
     {
         let count = self.trace.open_count();
+        let lost = self.marks.len().saturating_sub(count);
         let place = cut_marks(&mut self.marks, count);
         let choice = choice_at(&self.tree, place);
         let fact = alternative_after(rules, choice.branch, choice.alternative);
@@ -84,8 +85,8 @@ impl<'b, A: Allocator + Copy> Progress<'b, A> {
         facts_stay_grounded();
         alternatives_speak_of_nodes();
         self.steps += 1;
-        self.agenda = self.agenda.back_to(place);
-        self.effort = self.effort.with_back();
+        self.agenda.back_to(count);
+        self.effort = self.effort.with_back(lost);
         Ok(fact)
     }
 }

@@ -56,7 +56,7 @@ impl<'b, A: Allocator + Copy> Progress<'b, A> {
             marks: Vec::new(heap),
             clash,
             steps: 0,
-            agenda: Agenda::new(),
+            agenda: Agenda::new(heap),
             effort: Effort::new(),
         })
     }

@@ -2,14 +2,19 @@
 
 use search_trace::Trace;
 
-/// How often a search looked through its whole state, how often it went back, and how many lines of its trace it took out. No
-/// contract speaks of these counts, and no answer rests on them: they tell whether a next step is looked for in the right place.
+/// How often a search looked for a step at a fact and in its whole state, how often it went back, and how many choices and lines
+/// of its trace it lost by that. No contract speaks of these counts, and no answer rests on them: they tell whether a next step is
+/// looked for in the right place.
 #[derive(Clone, Copy, Debug, PartialEq, Eq)]
 pub struct Effort {
+    /// Looks at a fact for a step of one kind.
+    pub looks: u64,
     /// Looks through a whole state for a step, where none was seen at the latest facts.
     pub scans: u64,
     /// Closed ways from which the search went on at another alternative.
     pub backs: u64,
+    /// Choices that were made after the one to which the search went back.
+    pub lost: u64,
     /// Lines that rested on a branching that was taken out with them.
     pub stripped: u64,
 }
@@ -18,8 +23,10 @@ impl Effort {
     /// Of a search that begins.
     pub(crate) fn new() -> Effort {
         Effort {
+            looks: 0,
             scans: 0,
             backs: 0,
+            lost: 0,
             stripped: 0,
         }
     }
@@ -32,12 +39,18 @@ impl Effort {
         }
     }
 
-    /// With one way back more.
-    pub(crate) fn with_back(self) -> Effort {
+    /// With one way back more, by which so many choices are lost.
+    pub(crate) fn with_back(self, lost: usize) -> Effort {
         Effort {
             backs: self.backs.wrapping_add(1),
+            lost: self.lost.wrapping_add(lost as u64),
             ..self
         }
+    }
+
+    /// With so many looks at facts.
+    pub(crate) fn with_looks(self, looks: u64) -> Effort {
+        Effort { looks, ..self }
     }
 
     /// With the lines that were put into a trace and are no longer there.

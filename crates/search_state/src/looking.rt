@@ -1,5 +1,5 @@
 // Whether the last facts have made a plain clash.
-ghost use Rattle.std.specs.Prelude.{◌≡◌, ℕ, MatchOption, IfOk};
+ghost use Rattle.std.specs.Prelude.{◌≡◌, MatchOption, IfOk};
 ghost use Rattle.completion_tree.specs.Trail.{facts_in};
 ghost use Rattle.step_agenda.specs.Followed.{IsCurrent};
 ghost use Rattle.step_finders.specs.Clashing.{IsShown, NoClashByNew};
@@ -49,9 +49,11 @@ pub(crate) fn find_clash_by_new<A: Allocator + Copy, R: Rules>(
     requires current { IsCurrent (facts_in tree.now) prints.now }
     requires lookable { IsNewLookable (facts_in tree.now) new.now first }
     ensures { let w = R.context rules.now in let fs = facts_in tree.now in
-        IfOk result (λ found. MatchOption found ((s : ℕ) → NoClashByNew w fs new.now.parent s new.now.filler) (IsShown w fs)) }
+        IfOk result (λ found. MatchOption found (NoClashByNew w fs new.now.parent new.now.role new.now.filler) (IsShown w fs)) }
 {
     let state = TreeState::new(tree, prints);
-    let found = find_clash_of_new_nodes(alloc, &state, rules, new.parent, new.filler, first)?;
+    let found = find_clash_of_new_nodes(
+        alloc, &state, rules, new.parent, new.role, new.filler, first,
+    )?;
     Ok(found)
 }

@@ -228,6 +228,7 @@ impl<'b, A: Allocator + Copy> Progress<'b, A> {
         self.marks.push(place)?;
         blocks_stay();
         follow(&self.tree, &mut self.prints, place, nodes)?;
+        self.agenda.put_mark()?;
         facts_stay_grounded();
         alternatives_speak_of_nodes();
         self.steps += 1;

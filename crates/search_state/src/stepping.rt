@@ -153,6 +153,8 @@ impl<'b, A: Allocator + Copy> Progress<'b, A> {
 
     /// What was done beside the steps.
     pub fn effort(&self) -> Effort {
-        self.effort.with_trace(&self.trace)
+        self.effort
+            .with_looks(self.agenda.looks())
+            .with_trace(&self.trace)
     }
 }

@@ -5,48 +5,112 @@ ghost use Rattle.step_finders.specs.Stepping.{IsStep};
 use crate::NoMemory;
 use crate::additions::first_addition;
 use crate::branchings::{first_most, first_union};
-use crate::makings::first_making;
+use crate::forced::first_forced;
+use crate::makings::{Held, first_held, first_making};
+use crate::pairs::first_pair;
+use crate::watched::UnionIndex;
+use blocking::least_changed;
 use completion_tree::Tree;
 use std::alloc::{Allocator, Global};
-use step_finders::{Addition, Choosing, NewNodes, Rules, State, Step};
+use step_finders::{Rules, State, Step};
 
-/// Up to which entry of the trail, from 0, a search has looked for each kind of step.
+// Up to which entry of the trail, from 0, a search has looked for each kind of step.
 #[derive(Clone, Copy, Debug, PartialEq, Eq)]
-pub struct Agenda {
+struct Cursors {
     additions: u32,
+    forced: u32,
+    pairs: u32,
     makings: u32,
-    mosts: u32,
     unions: u32,
-    // The first entry that was ever passed over since its node was not clear.
+    mosts: u32,
+    // Nodes that were not clear: those below this one were looked at, as the first so many entries left them.
+    touched: u32,
     held: u32,
 }
 
-impl Agenda {
-    /// Nothing was looked at.
-    pub fn new() -> Agenda {
-        Agenda {
+impl Cursors {
+    // At the first entry.
+    fn start() -> Cursors {
+        Cursors {
             additions: 0,
+            forced: 0,
+            pairs: 0,
             makings: 0,
-            mosts: 0,
             unions: 0,
-            held: u32::MAX,
+            mosts: 0,
+            touched: u32::MAX,
+            held: 0,
         }
     }
+}
 
-    /// What there is to look at once a search has gone back, and only the first `kept` entries are as they were. What was chosen
-    /// since then is to be chosen again, so each choice is looked at again.
-    pub fn back_to(self, kept: u32) -> Agenda {
+/// How far a search has looked for steps, and where it looked when each of its choices was made.
+#[derive(Drop)]
+pub struct Agenda {
+    cursors: Cursors,
+    // Those at the choices, in order.
+    saved: Vec<Cursors>,
+    // The entries that were passed over since their nodes were not clear, in order.
+    held: Vec<Held>,
+    index: UnionIndex,
+    // How many entries were looked at, each once for each kind of step.
+    looks: u64,
+}
+
+impl Agenda {
+    /// Nothing was looked at. It takes no memory.
+    pub fn new(heap: Global) -> Agenda {
         Agenda {
-            additions: self.additions.min(kept),
-            makings: self.makings.min(kept),
-            mosts: 0,
-            unions: 0,
-            held: self.held,
+            cursors: Cursors::start(),
+            saved: Vec::new(heap),
+            held: Vec::new(heap),
+            index: UnionIndex::new(heap),
+            looks: 0,
         }
     }
 
-    /// A step that can be made, where one is seen at the facts that were not looked at before: concepts before new nodes, and
-    /// unions after these. New nodes where a block was lifted come last.
+    /// Keeps where it looks, as a choice is made.
+    ///
+    /// # Errors
+    ///
+    /// Want of memory.
+    pub fn put_mark(&mut self) -> Result<(), NoMemory> {
+        self.saved.push(self.cursors)?;
+        Ok(())
+    }
+
+    /// Looks again where it looked when the latest of the first `count` choices was made: the search has gone back to it.
+    pub fn back_to(&mut self, count: usize) {
+        self.saved.truncate(count);
+        self.cursors = match self.saved.last() {
+            Some(cursors) => *cursors,
+            None => Cursors::start(),
+        };
+        for _ in 0..self.held.len() {
+            match self.held.last() {
+                Some(held) if held.place >= self.cursors.makings => {
+                    self.held.pop();
+                }
+                _ => break,
+            }
+        }
+    }
+
+    /// How many entries of trails were looked at, each once for each kind of step.
+    pub fn looks(&self) -> u64 {
+        self.looks
+    }
+
+    // Counts the entries from the one to the other as looked at.
+    fn count_looks(&mut self, from: u32, to: u32) {
+        let count = u64::from(to.saturating_sub(from)) + 1;
+        self.looks = self.looks.wrapping_add(count);
+    }
+
+    /// A step that can be made, where one is seen at the facts that were not looked at before: concepts first; then a part of a
+    /// union of which at most one part does not clash at once; then whether two successors are one, where there may be too many;
+    /// then new nodes, those of nodes last that were not clear when they were looked at; then unions, and last which successors
+    /// have a filler. Of each kind, the oldest.
     ///
     /// # Errors
     ///
@@ -60,16 +124,17 @@ impl Agenda {
     ) -> Result<Option<Step>, NoMemory>
         ensures { IfOk result (λ found. IfSome found (IsStep (R.context rules.now) (S.facts state.now) (R.files rules.now))) }
     {
-        let (place, addition) = first_addition(tree, state, rules, self.additions);
-        self.additions = place;
+        let (place, addition) = first_addition(tree, state, rules, self.cursors.additions);
+        self.count_looks(self.cursors.additions, place);
+        self.cursors.additions = place;
         match addition {
             Some(addition) => Ok(Some(Step::Add(addition))),
-            None => self.next_branching(heap, tree, state, rules),
+            None => self.next_forced(heap, tree, state, rules),
         }
     }
 
-    // The same for new nodes and choices.
-    fn next_branching<A: Allocator + Copy, S: State, R: Rules>(
+    // A part of a union of which at most one part does not clash at once, or what comes after that.
+    fn next_forced<A: Allocator + Copy, S: State, R: Rules>(
         &mut self,
         heap: Global,
         tree: &Tree<A>,
@@ -78,33 +143,89 @@ impl Agenda {
     ) -> Result<Option<Step>, NoMemory>
         ensures { IfOk result (λ found. IfSome found (IsStep (R.context rules.now) (S.facts state.now) (R.files rules.now))) }
     {
-        let looked = first_making(heap, tree, state, rules, self.makings)?;
-        self.makings = looked.place;
-        self.held = self.held.min(looked.held);
-        match looked.making {
-            Some(new) => Ok(Some(Step::Generate(new))),
-            None => self.next_choice(heap, tree, state, rules),
-        }
-    }
-
-    // The same for choices.
-    fn next_choice<A: Allocator + Copy, S: State, R: Rules>(
-        &mut self,
-        heap: Global,
-        tree: &Tree<A>,
-        state: &S,
-        rules: &R,
-    ) -> Result<Option<Step>, NoMemory>
-        ensures { IfOk result (λ found. IfSome found (IsStep (R.context rules.now) (S.facts state.now) (R.files rules.now))) }
-    {
-        let (place, most) = first_most(heap, tree, state, rules, self.mosts)?;
-        self.mosts = place;
-        match most {
+        let (place, forced) = first_forced(
+            tree,
+            state,
+            rules,
+            &mut self.index,
+            self.cursors.forced,
+        )?;
+        self.count_looks(self.cursors.forced, place);
+        self.cursors.forced = place;
+        match forced {
             Some(choosing) => Ok(Some(Step::Choose(choosing))),
-            None => self.next_union(heap, tree, state, rules),
+            None => self.next_pair(heap, tree, state, rules),
         }
     }
 
+    // Whether two successors are one, or what comes after that.
+    fn next_pair<A: Allocator + Copy, S: State, R: Rules>(
+        &mut self,
+        heap: Global,
+        tree: &Tree<A>,
+        state: &S,
+        rules: &R,
+    ) -> Result<Option<Step>, NoMemory>
+        ensures { IfOk result (λ found. IfSome found (IsStep (R.context rules.now) (S.facts state.now) (R.files rules.now))) }
+    {
+        let (place, pair) = first_pair(heap, tree, state, rules, self.cursors.pairs)?;
+        self.count_looks(self.cursors.pairs, place);
+        self.cursors.pairs = place;
+        match pair {
+            Some(choosing) => Ok(Some(Step::Choose(choosing))),
+            None => self.next_making(heap, tree, state, rules),
+        }
+    }
+
+    // New nodes, or what comes after them.
+    fn next_making<A: Allocator + Copy, S: State, R: Rules>(
+        &mut self,
+        heap: Global,
+        tree: &Tree<A>,
+        state: &S,
+        rules: &R,
+    ) -> Result<Option<Step>, NoMemory>
+        ensures { IfOk result (λ found. IfSome found (IsStep (R.context rules.now) (S.facts state.now) (R.files rules.now))) }
+    {
+        let (place, making) = first_making(
+            heap,
+            tree,
+            state,
+            rules,
+            &mut self.held,
+            self.cursors.makings,
+        )?;
+        self.count_looks(self.cursors.makings, place);
+        self.cursors.makings = place;
+        match making {
+            Some(new) => Ok(Some(Step::Generate(new))),
+            None => self.next_held(heap, tree, state, rules),
+        }
+    }
+
+    // New nodes below one that was not clear when it was looked at, or what comes after them.
+    fn next_held<A: Allocator + Copy, S: State, R: Rules>(
+        &mut self,
+        heap: Global,
+        tree: &Tree<A>,
+        state: &S,
+        rules: &R,
+    ) -> Result<Option<Step>, NoMemory>
+        ensures { IfOk result (λ found. IfSome found (IsStep (R.context rules.now) (S.facts state.now) (R.files rules.now))) }
+    {
+        let least = least_changed(tree, self.cursors.held.min(tree.len()));
+        self.cursors.held = tree.len();
+        self.cursors.touched = self.cursors.touched.min(least);
+        match first_held(heap, tree, state, rules, &self.held, self.cursors.touched)? {
+            Some(new) => Ok(Some(Step::Generate(new))),
+            None => {
+                self.cursors.touched = u32::MAX;
+                self.next_union(heap, tree, state, rules)
+            }
+        }
+    }
+
+    // A part of a union, or what comes after that.
     fn next_union<A: Allocator + Copy, S: State, R: Rules>(
         &mut self,
         heap: Global,
@@ -114,17 +235,18 @@ impl Agenda {
     ) -> Result<Option<Step>, NoMemory>
         ensures { IfOk result (λ found. IfSome found (IsStep (R.context rules.now) (S.facts state.now) (R.files rules.now))) }
     {
-        let (place, union) = first_union(tree, state, rules, self.unions);
-        self.unions = place;
+        let (place, union) = first_union(tree, state, rules, self.cursors.unions);
+        self.count_looks(self.cursors.unions, place);
+        self.cursors.unions = place;
         match union {
             Some(choosing) => Ok(Some(Step::Choose(choosing))),
-            None => self.next_held(heap, tree, state, rules),
+            None => self.next_most(heap, tree, state, rules),
         }
     }
 
-    // New nodes below one that was not clear when it was looked at.
-    fn next_held<A: Allocator + Copy, S: State, R: Rules>(
-        &self,
+    // Whether a successor has a filler.
+    fn next_most<A: Allocator + Copy, S: State, R: Rules>(
+        &mut self,
         heap: Global,
         tree: &Tree<A>,
         state: &S,
@@ -132,9 +254,11 @@ impl Agenda {
     ) -> Result<Option<Step>, NoMemory>
         ensures { IfOk result (λ found. IfSome found (IsStep (R.context rules.now) (S.facts state.now) (R.files rules.now))) }
     {
-        let looked = first_making(heap, tree, state, rules, self.held)?;
-        match looked.making {
-            Some(new) => Ok(Some(Step::Generate(new))),
+        let (place, most) = first_most(heap, tree, state, rules, self.cursors.mosts)?;
+        self.count_looks(self.cursors.mosts, place);
+        self.cursors.mosts = place;
+        match most {
+            Some(choosing) => Ok(Some(Step::Choose(choosing))),
             None => Ok(None),
         }
     }

@@ -5,12 +5,8 @@ ghost use Rattle.step_finders.specs.Choosing.{IsChoosable};
 use crate::NoMemory;
 use calculus_specs::Fact;
 use completion_tree::{Item, Tree};
-use shq_nnf::Shape;
 use std::alloc::{Allocator, Global};
 use step_finders::{Choosing, Rules, State, find_most_at, find_most_by, find_union_by};
-
-// How many entries are near.
-const NEAR: u32 = 256;
 
 /// The first entry from this one on by which a filler or a pair of successors is to be chosen, and which; or the length of the
 /// trail.
@@ -36,7 +32,7 @@ pub(crate) fn first_most<A: Allocator + Copy, S: State, R: Rules>(
     Ok((tree.len(), None))
 }
 
-// What is to be chosen by the entry, where it is a concept or an edge.
+// What is to be chosen by the entry.
 fn most_by<S: State, R: Rules>(
     heap: Global,
     item: Item,
@@ -52,7 +48,11 @@ fn most_by<S: State, R: Rules>(
         Item::Fact(Fact::Edge(_, from, _)) => {
             most_at(heap, state, rules, state.representative(from))
         }
-        _ => Ok(None),
+        Item::Fact(Fact::Same(node, _)) => {
+            most_at(heap, state, rules, state.representative(node))
+        }
+        Item::Fact(Fact::Apart(_, _)) => Ok(None),
+        Item::Mark(_) => Ok(None),
     }
 }
 
@@ -85,25 +85,8 @@ fn most_at<S: State, R: Rules>(
     find_most_at(heap, state, rules, node)
 }
 
-/// The first entry from this one on that is a union of which a part is to be chosen, and which: one near it of which all parts but
-/// one clash at once, where there is one, or this first one; or the length of the trail.
+/// The first entry from this one on that is a union of which a part is to be chosen, and which; or the length of the trail.
 pub(crate) fn first_union<A: Allocator + Copy, S: State, R: Rules>(
-    tree: &Tree<A>,
-    state: &S,
-    rules: &R,
-    from: u32,
-) -> (u32, Option<Choosing>)
-    ensures { IfSome result.1 (IsChoosable (R.context rules.now) (S.facts state.now)) }
-{
-    let (place, first) = next_union(tree, state, rules, from);
-    match forced_union(tree, state, rules, place) {
-        Some(forced) => (place, Some(forced)),
-        None => (place, first),
-    }
-}
-
-// The first union of which a part is to be chosen.
-fn next_union<A: Allocator + Copy, S: State, R: Rules>(
     tree: &Tree<A>,
     state: &S,
     rules: &R,
@@ -120,88 +103,7 @@ fn next_union<A: Allocator + Copy, S: State, R: Rules>(
     (tree.len(), None)
 }
 
-// A union near the entry of which a part is to be chosen, and all parts but one clash at once.
-fn forced_union<A: Allocator + Copy, S: State, R: Rules>(
-    tree: &Tree<A>,
-    state: &S,
-    rules: &R,
-    from: u32,
-) -> Option<Choosing>
-    ensures { IfSome result (IsChoosable (R.context rules.now) (S.facts state.now)) }
-{
-    for place in from..tree.len().min(from.saturating_add(NEAR)) {
-        match union_by(tree.item(place), state, rules) {
-            Some(choosing) => {
-                if is_forced(state, rules, &choosing) {
-                    return Some(choosing);
-                }
-            }
-            None => {}
-        }
-    }
-    None
-}
-
-// Whether at most one part of the union does not clash at once.
-fn is_forced<S: State, R: Rules>(state: &S, rules: &R, choosing: &Choosing) -> bool {
-    match choosing {
-        Choosing::Union { node, concept } => match rules.shape(*concept) {
-            Shape::Or(parts) => !are_two_open(state, rules, *node, parts),
-            _ => false,
-        },
-        _ => false,
-    }
-}
-
-// Whether two of the concepts do not clash at once.
-fn are_two_open<S: State, R: Rules>(state: &S, rules: &R, node: u32, parts: &[u32]) -> bool {
-    let mut is_one_open = false;
-    for part in parts {
-        if !clashes_at_once(state, rules, node, *part) {
-            if is_one_open {
-                return true;
-            }
-            is_one_open = true;
-        }
-    }
-    false
-}
-
-// Whether the node has the complement of the concept, or a successor has that of what the concept says of it.
-fn clashes_at_once<S: State, R: Rules>(state: &S, rules: &R, node: u32, concept: u32) -> bool {
-    if has_complement(state, rules, node, concept) {
-        return true;
-    }
-    match rules.shape(concept) {
-        Shape::Bottom => true,
-        Shape::AllOf(role, filler) => has_end_without(state, rules, node, role, filler),
-        _ => false,
-    }
-}
-
-fn has_complement<S: State, R: Rules>(state: &S, rules: &R, node: u32, concept: u32) -> bool {
-    match rules.complement(concept) {
-        Some(complement) => state.has(node, complement),
-        None => false,
-    }
-}
-
-// Whether an edge by a role below this one leads to a node with the complement of the filler.
-fn has_end_without<S: State, R: Rules>(
-    state: &S,
-    rules: &R,
-    node: u32,
-    role: u32,
-    filler: u32,
-) -> bool {
-    for edge in state.edges(node) {
-        if rules.is_below(edge.0, role) && has_complement(state, rules, edge.1, filler) {
-            return true;
-        }
-    }
-    false
-}
-
+// The union of the entry, where a part of it is to be chosen.
 fn union_by<S: State, R: Rules>(item: Item, state: &S, rules: &R) -> Option<Choosing>
     ensures { IfSome result (IsChoosable (R.context rules.now) (S.facts state.now)) }
 {
@@ -209,7 +111,10 @@ fn union_by<S: State, R: Rules>(item: Item, state: &S, rules: &R) -> Option<Choo
         Item::Fact(Fact::Has(node, concept)) => {
             union_of(state, rules, state.representative(node), concept)
         }
-        _ => None,
+        Item::Fact(Fact::Edge(_, _, _)) => None,
+        Item::Fact(Fact::Apart(_, _)) => None,
+        Item::Fact(Fact::Same(_, _)) => None,
+        Item::Mark(_) => None,
     }
 }
 

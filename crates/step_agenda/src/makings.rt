@@ -5,21 +5,21 @@ ghost use Rattle.step_finders.specs.Making.{IsMaking};
 use crate::NoMemory;
 use calculus_specs::Fact;
 use completion_tree::{Item, Tree};
+use shq_nnf::Shape;
 use std::alloc::{Allocator, Global};
 use step_finders::{NewNodes, Rules, State, find_making_by};
 
-/// How far a look for new nodes has come.
+/// An entry that asks for nodes, as far as its node was not clear.
 #[derive(Clone, Copy, Debug, PartialEq, Eq)]
-pub(crate) struct Looked {
-    /// The first entry for which nodes are to be made, or the length of the trail.
+pub(crate) struct Held {
+    /// Its place.
     pub(crate) place: u32,
-    /// The first entry before it whose node is not clear and may become so, or the greatest number.
-    pub(crate) held: u32,
-    /// The nodes that are to be made.
-    pub(crate) making: Option<NewNodes>,
+    /// Its node, which may be one with a lesser one.
+    pub(crate) node: u32,
 }
 
-/// Looks for new nodes from this entry on.
+/// Looks for new nodes from this entry on. Answers the entry for which nodes are to be made, or the length of the trail, and the
+/// nodes; and puts each entry last in the list that may ask for nodes once its node is clear.
 ///
 /// # Errors
 ///
@@ -29,38 +29,67 @@ pub(crate) fn first_making<A: Allocator + Copy, S: State, R: Rules>(
     tree: &Tree<A>,
     state: &S,
     rules: &R,
+    held: &mut Vec<Held>,
     from: u32,
-) -> Result<Looked, NoMemory>
-    ensures { IfOk result (λ looked. IfSome looked.making (IsMaking (R.context rules.now) (S.facts state.now))) }
+) -> Result<(u32, Option<NewNodes>), NoMemory>
+    ensures { IfOk result (λ p. IfSome p.1 (IsMaking (R.context rules.now) (S.facts state.now))) }
 {
-    let mut held = u32::MAX;
     for place in from..tree.len() {
         let item = tree.item(place);
-        let making = making_by(heap, item, state, rules)?;
-        if making.is_some() {
-            return Ok(Looked {
-                place,
-                held,
-                making,
-            });
-        }
-        if is_held(item, state) {
-            held = held.min(place);
+        match making_by(heap, item, state, rules)? {
+            Some(making) => return Ok((place, Some(making))),
+            None => hold(held, item, place, state, rules)?,
         }
     }
-    Ok(Looked {
-        place: tree.len(),
-        held,
-        making: None,
-    })
+    Ok((tree.len(), None))
 }
 
-// Whether the entry is a concept of a node that is not clear.
-fn is_held<S: State>(item: Item, state: &S) -> bool {
+// Puts the entry last in the list, where its concept asks for nodes and its node is not clear.
+fn hold<S: State, R: Rules>(
+    held: &mut Vec<Held>,
+    item: Item,
+    place: u32,
+    state: &S,
+    rules: &R,
+) -> Result<(), NoMemory> {
     match item {
-        Item::Fact(Fact::Has(node, _)) => !state.is_clear(state.representative(node)),
-        _ => false,
+        Item::Fact(Fact::Has(node, concept)) => {
+            if asks(rules, concept) && !state.is_clear(state.representative(node)) {
+                held.push(Held { place, node })?;
+            }
+            Ok(())
+        }
+        Item::Fact(Fact::Edge(_, _, _)) => Ok(()),
+        Item::Fact(Fact::Apart(_, _)) => Ok(()),
+        Item::Fact(Fact::Same(_, _)) => Ok(()),
+        Item::Mark(_) => Ok(()),
     }
+}
+
+/// The nodes that the first of these entries asks for that asks for some now, of those whose nodes are not below `from`.
+///
+/// # Errors
+///
+/// Want of memory.
+pub(crate) fn first_held<A: Allocator + Copy, S: State, R: Rules>(
+    heap: Global,
+    tree: &Tree<A>,
+    state: &S,
+    rules: &R,
+    held: &[Held],
+    from: u32,
+) -> Result<Option<NewNodes>, NoMemory>
+    ensures { IfOk result (λ found. IfSome found (IsMaking (R.context rules.now) (S.facts state.now))) }
+{
+    for entry in held {
+        if entry.node >= from && entry.place < tree.len() {
+            match making_by(heap, tree.item(entry.place), state, rules)? {
+                Some(making) => return Ok(Some(making)),
+                None => {}
+            }
+        }
+    }
+    Ok(None)
 }
 
 // What nodes the entry asks for.
@@ -76,7 +105,10 @@ fn making_by<S: State, R: Rules>(
         Item::Fact(Fact::Has(node, concept)) => {
             making_at(heap, state, rules, state.representative(node), concept)
         }
-        _ => Ok(None),
+        Item::Fact(Fact::Edge(_, _, _)) => Ok(None),
+        Item::Fact(Fact::Apart(_, _)) => Ok(None),
+        Item::Fact(Fact::Same(_, _)) => Ok(None),
+        Item::Mark(_) => Ok(None),
     }
 }
 
@@ -90,6 +122,9 @@ fn making_at<S: State, R: Rules>(
 ) -> Result<Option<NewNodes>, NoMemory>
     ensures { IfOk result (λ found. IfSome found (IsMaking (R.context rules.now) (S.facts state.now))) }
 {
+    if !asks(rules, concept) {
+        return Ok(None);
+    }
     if node >= state.nodes() || !state.has(node, concept) {
         return Ok(None);
     }
@@ -100,4 +135,19 @@ fn making_at<S: State, R: Rules>(
         return Ok(None);
     }
     find_making_by(heap, state, rules, node, concept)
+}
+
+// Whether the concept asks for successors.
+fn asks<R: Rules>(rules: &R, concept: u32) -> bool {
+    match rules.shape(concept) {
+        Shape::SomeOf(_, _) | Shape::Min(_, _, _) => true,
+        Shape::Top
+        | Shape::Bottom
+        | Shape::Name(_)
+        | Shape::NotName(_)
+        | Shape::And(_)
+        | Shape::Or(_)
+        | Shape::AllOf(_, _)
+        | Shape::Max(_, _, _) => false,
+    }
 }

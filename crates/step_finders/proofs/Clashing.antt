@@ -1,5 +1,5 @@
 -- Why there is a plain clash, and why there is none.
-use Rattle.step_finders.specs.Clashing.{IsMost, AreMosts, IsOfParent, HasMost, AnswersOverrun, NotOverrun, NoneByShape, NoneAbove, NoClashBy, NoneOver, NoClashByNew, NoClashByApart, NoClashByJoin, ShownClashesArePlain}
+use Rattle.step_finders.specs.Clashing.{IsMost, AreMosts, IsOfParent, HasMost, AnswersOverrun, NotOverrun, NotOverrunOver, CountsNot, NoneByShape, NoneAbove, NoClashBy, NoneOver, NoClashByNew, NoClashByApart, NoClashByJoin, ShownClashesArePlain}
 use Rattle.step_finders.specs.declared.clash.Clash.TheVariants as C
 use Rattle.tableau_specs.specs.Near.{IsOverrun, ClashesBy, ClashesByNew, ClashesByApart, ClashesByJoin}
 use Rattle.tableau_specs.specs.Near.ClashesByNew.{new_bottom, new_overrun}
@@ -121,23 +121,34 @@ module _ (w : SearchContext) (fs : List (Fact ℕ)) (x d : ℕ) (above : IsOfPar
 -- ---- after other steps
 
 module _ (w : SearchContext) (fs : List (Fact ℕ)) where
-  pub none_over : (x d : ℕ) (cs : List ℕ) → AreMosts w.table d cs → All (NotOverrun w fs x d) cs → NoneOver w fs x d
-  none_over x d cs mosts none = record {
-    none = λ c n s o.
+  -- an 'at most' that does not count by the role is none that does
+  pub not_counted : (x r d c : ℕ) → CountsNot w r c → NotOverrunOver w fs x r d c
+  not_counted x r d c out = record { none = λ n s below o. absurd (both (below_of w r s) below (out.none n s d o.shape)) }
+    where
+      both : (b : Bool) → b ≡ true → b ≡ false → ⊥
+      both true e f = cc
+      both false e f = cc
+
+  pub counted : (x r d c : ℕ) → NotOverrun w fs x d c → NotOverrunOver w fs x r d c
+  counted x r d c out = record { none = λ n s below o. out.none n s o }
+
+  pub none_over : (x r d : ℕ) (cs : List ℕ) → AreMosts w.table d cs → All (NotOverrunOver w fs x r d) cs → NoneOver w fs x r d
+  none_over x r d cs mosts none = record {
+    none = λ c n s below o.
         where_any (λ j. eqb j c) ⊥ cs
-        (λ j q lt hit. (subst (NotOverrun w fs x d) (eqb-true (get_or cs j q) c hit) (none j q lt)).none n s o)
+        (λ j q lt hit. (subst (NotOverrunOver w fs x r d) (eqb-true (get_or cs j q) c hit) (none j q lt)).none n s below o)
         (mosts.every c n s o.shape);
   }
 
-  no_new : (x s e : ℕ) → ¬ (shape_of w.table e ≡ bottom) → NoneOver w fs x 0 → NoneOver w fs x e → ¬ ClashesByNew (below_of w) w.table fs x s e
+  no_new : (x s e : ℕ) → ¬ (shape_of w.table e ≡ bottom) → NoneOver w fs x s 0 → NoneOver w fs x s e → ¬ ClashesByNew (below_of w) w.table fs x s e
   no_new x s e not tops fillers (new_bottom sh) = not sh
   no_new x s e not tops fillers (new_overrun c m t d below is o) = elim is [
-    | inl top ↦ tops.none c m t (subst (λ (k : ℕ). IsOverrun (below_of w) w.table fs x c m t k) top o)
-    | inr filler ↦ fillers.none c m t (subst (λ (k : ℕ). IsOverrun (below_of w) w.table fs x c m t k) filler o)
+    | inl top ↦ tops.none c m t below (subst (λ (k : ℕ). IsOverrun (below_of w) w.table fs x c m t k) top o)
+    | inr filler ↦ fillers.none c m t below (subst (λ (k : ℕ). IsOverrun (below_of w) w.table fs x c m t k) filler o)
   ]
 
-  pub no_clash_by_new : (x e : ℕ) → ¬ (shape_of w.table e ≡ bottom) → NoneOver w fs x 0 × NoneOver w fs x e → (s : ℕ) → NoClashByNew w fs x s e
-  no_clash_by_new x e not h s = record { none = no_new x s e not h.0 h.1 }
+  pub no_clash_by_new : (x s e : ℕ) → ¬ (shape_of w.table e ≡ bottom) → NoneOver w fs x s 0 × NoneOver w fs x s e → NoClashByNew w fs x s e
+  no_clash_by_new x s e not h = record { none = no_new x s e not h.0 h.1 }
 
   no_apart : (y z : ℕ) → ((e : ℕ) → has fs y e ≡ true → has fs z e ≡ true → NoneAbove w fs y e) → ¬ ClashesByApart (below_of w) w.table fs y z
   no_apart y z each (apart_overrun x c n s e lt edge h other g o) = (each e h g).none x c n s edge o

@@ -23,6 +23,10 @@ pub record AreMosts (table : List Shape) (d : ℕ) (cs : List ℕ) : Type 0 wher
   pub each : All (IsMost table d) cs
   pub every : (c n s : ℕ) → shape_of table c ≡ at_most n s d → list_any (λ k. k == c) cs ≡ true
 
+-- c is no 'at most' that counts successors by r
+pub record CountsNot (w : SearchContext) (r c : ℕ) : Type 0 where
+  pub none : (n s e : ℕ) → shape_of w.table c ≡ at_most n s e → below_of w r s ≡ false
+
 -- each node with an edge to x is, by its representative, the parent of x
 abbrev pub IsOfParent : List (Fact ℕ) → ℕ → Type 0
 IsOfParent fs x = (roles : ℕ → Bool) (z : ℕ) → has_edge fs roles z x ≡ true → IsChild fs z x
@@ -62,6 +66,10 @@ module _ (w : SearchContext) (fs : List (Fact ℕ)) where
   pub record NotOverrun (p d c : ℕ) : Type 0 where
     pub none : (n s : ℕ) → ¬ IsOverrun (below_of w) w.table fs p c n s d
 
+  -- nor is c, where it counts successors by r
+  pub record NotOverrunOver (p r d c : ℕ) : Type 0 where
+    pub none : (n s : ℕ) → below_of w r s ≡ true → ¬ IsOverrun (below_of w) w.table fs p c n s d
+
   -- x has no concept that clashes with d, of this shape, at x itself
   abbrev pub NoneByShape : ℕ → Shape → Type 0
   NoneByShape x bottom = ⊥
@@ -78,9 +86,9 @@ module _ (w : SearchContext) (fs : List (Fact ℕ)) where
   pub record NoClashBy (x d : ℕ) : Type 0 where
     pub none : ¬ ClashesBy (below_of w) w.table fs x d
 
-  -- no 'at most' of x with this filler is overrun
-  pub record NoneOver (x d : ℕ) : Type 0 where
-    pub none : (c n s : ℕ) → ¬ IsOverrun (below_of w) w.table fs x c n s d
+  -- no 'at most' of x with this filler that counts successors by r is overrun
+  pub record NoneOver (x r d : ℕ) : Type 0 where
+    pub none : (c n s : ℕ) → below_of w r s ≡ true → ¬ IsOverrun (below_of w) w.table fs x c n s d
 
   -- there is no plain clash by new nodes with concept e at the ends of edges of role s from x
   pub record NoClashByNew (x s e : ℕ) : Type 0 where

@@ -1,5 +1,5 @@
 // A plain clash that a step makes.
-ghost use Rattle.std.specs.Prelude.{◌≡◌, ℕ, ◌<◌, ◌↔◌, true, MatchOption, IfOk, IsTrue};
+ghost use Rattle.std.specs.Prelude.{◌≡◌, ℕ, ◌<◌, ◌↔◌, true, false, MatchOption, IfOk, IsTrue};
 ghost use Rattle.std.specs.List.{All};
 ghost use Rattle.calculus_specs.specs.Shape.{shape_of};
 ghost use Rattle.calculus_specs.specs.Shape.Shape.{bottom};
@@ -7,7 +7,7 @@ ghost use Rattle.calculus_specs.specs.State.{node_count, has as holds};
 ghost use Rattle.calculus_specs.specs.Tree.{IsComplement};
 ghost use Rattle.tableau_specs.specs.Near.{speak_of_nodes};
 ghost use Rattle.step_finders.specs.Choosing.{LacksComplement};
-ghost use Rattle.step_finders.specs.Clashing.{IsShown, AnswersOverrun, NotOverrun, IsMost, NoneByShape, NoneAbove, NoClashBy, IsOfParent, NoneOver, NoClashByNew, NoClashByApart, NoClashByJoin, ShownClashesArePlain};
+ghost use Rattle.step_finders.specs.Clashing.{IsShown, AnswersOverrun, NotOverrun, NotOverrunOver, CountsNot, IsMost, NoneByShape, NoneAbove, NoClashBy, IsOfParent, NoneOver, NoClashByNew, NoClashByApart, NoClashByJoin, ShownClashesArePlain};
 
 use crate::counted::filled_successors;
 use crate::unapart::find_unapart;
@@ -230,19 +230,76 @@ pub fn find_clash<S: State, R: Rules>(
     }
 }
 
-// A clash by an 'at most' of the node with this filler.
+// Whether the concept is an 'at most' that counts successors by this role.
+fn counts_by<R: Rules>(rules: &R, concept: u32, role: u32) -> bool
+    ensures { result ≡ false → CountsNot (R.context rules.now) role concept }
+{
+    match rules.shape(concept) {
+        Shape::Max(_, upper, _) => rules.is_below(role, upper),
+        _ => false,
+    }
+}
+
+// A clash by an 'at most' with this filler, if the node has it and it counts successors by this role.
+fn find_by_most_over<S: State, R: Rules>(
+    alloc: Global,
+    state: &S,
+    rules: &R,
+    node: u32,
+    role: u32,
+    filler: u32,
+    concept: u32,
+) -> Result<Option<Clash>, NoMemory>
+    requires is_node { node < node_count (S.facts state.now) }
+    requires shape { IsMost (R.context rules.now).table filler concept }
+    ensures { let w = R.context rules.now in let fs = S.facts state.now in
+        IfOk result (λ found. MatchOption found (NotOverrunOver w fs node role filler concept) (IsShown w fs)) }
+{
+    if !counts_by(rules, concept, role) {
+        return Ok(None);
+    }
+    let found = find_by_most(alloc, state, rules, node, filler, concept)?;
+    Ok(found)
+}
+
+// A clash by one of these, which are all 'at most' with this filler, that counts successors by this role.
+fn find_by_mosts_over<S: State, R: Rules>(
+    alloc: Global,
+    state: &S,
+    rules: &R,
+    node: u32,
+    role: u32,
+    filler: u32,
+    concepts: &[u32],
+) -> Result<Option<Clash>, NoMemory>
+    requires is_node { node < node_count (S.facts state.now) }
+    requires shapes { All (IsMost (R.context rules.now).table filler) concepts.now }
+    ensures { let w = R.context rules.now in let fs = S.facts state.now in
+        IfOk result (λ found. MatchOption found (All (NotOverrunOver w fs node role filler) concepts.now) (IsShown w fs)) }
+{
+    for concept in concepts {
+        match find_by_most_over(alloc, state, rules, node, role, filler, *concept)? {
+            Some(clash) => return Ok(Some(clash)),
+            None => {}
+        }
+    }
+    Ok(None)
+}
+
+// A clash by an 'at most' of the node with this filler that counts successors by this role.
 fn find_by_filler<S: State, R: Rules>(
     alloc: Global,
     state: &S,
     rules: &R,
     node: u32,
+    role: u32,
     filler: u32,
 ) -> Result<Option<Clash>, NoMemory>
     requires { node < node_count (S.facts state.now) }
     ensures { let w = R.context rules.now in let fs = S.facts state.now in
-        IfOk result (λ found. MatchOption found (NoneOver w fs node filler) (IsShown w fs)) }
+        IfOk result (λ found. MatchOption found (NoneOver w fs node role filler) (IsShown w fs)) }
 {
-    let found = find_by_mosts(alloc, state, rules, node, filler, rules.mosts(filler))?;
+    let found = find_by_mosts_over(alloc, state, rules, node, role, filler, rules.mosts(filler))?;
     Ok(found)
 }
 
@@ -256,29 +313,30 @@ fn is_bottom<R: Rules>(rules: &R, concept: u32) -> bool
     }
 }
 
-// A clash by an 'at most' of the node whose filler is this one or top.
+// A clash by an 'at most' of the node that counts successors by this role, and whose filler is this one or top.
 fn find_by_fillers<S: State, R: Rules>(
     alloc: Global,
     state: &S,
     rules: &R,
     node: u32,
+    role: u32,
     filler: u32,
 ) -> Result<Option<Clash>, NoMemory>
     requires { node < node_count (S.facts state.now) }
     ensures { let w = R.context rules.now in let fs = S.facts state.now in
-        IfOk result (λ found. MatchOption found (NoneOver w fs node 0 × NoneOver w fs node filler) (IsShown w fs)) }
+        IfOk result (λ found. MatchOption found (NoneOver w fs node role 0 × NoneOver w fs node role filler) (IsShown w fs)) }
 {
-    match find_by_filler(alloc, state, rules, node, 0)? {
+    match find_by_filler(alloc, state, rules, node, role, 0)? {
         Some(clash) => Ok(Some(clash)),
         None => {
-            let found = find_by_filler(alloc, state, rules, node, filler)?;
+            let found = find_by_filler(alloc, state, rules, node, role, filler)?;
             Ok(found)
         }
     }
 }
 
-/// A plain clash that is there since new nodes with this concept are at the ends of edges from the parent, where `first` is
-/// one of them; none exactly where there is none.
+/// A plain clash that is there since new nodes with this concept are at the ends of edges by the role from the parent, where
+/// `first` is one of them; none exactly where there is none.
 ///
 /// # Errors
 ///
@@ -288,6 +346,7 @@ pub fn find_clash_of_new_nodes<S: State, R: Rules>(
     state: &S,
     rules: &R,
     parent: u32,
+    role: u32,
     filler: u32,
     first: u32,
 ) -> Result<Option<Clash>, NoMemory>
@@ -295,7 +354,7 @@ pub fn find_clash_of_new_nodes<S: State, R: Rules>(
     requires first { first < node_count (S.facts state.now) }
     requires holds { holds (S.facts state.now) first filler ≡ true }
     ensures { let w = R.context rules.now in let fs = S.facts state.now in
-        IfOk result (λ found. MatchOption found ((s : ℕ) → NoClashByNew w fs parent s filler) (IsShown w fs)) }
+        IfOk result (λ found. MatchOption found (NoClashByNew w fs parent role filler) (IsShown w fs)) }
 {
     if is_bottom(rules, filler) {
         return Ok(Some(Clash::Bottom {
@@ -303,7 +362,7 @@ pub fn find_clash_of_new_nodes<S: State, R: Rules>(
             concept: filler,
         }));
     }
-    let found = find_by_fillers(alloc, state, rules, parent, filler)?;
+    let found = find_by_fillers(alloc, state, rules, parent, role, filler)?;
     Ok(found)
 }
 

@@ -1,4 +1,4 @@
-use Rattle.std.proofs.Common.{◌≡◌, ℕ, subst, List}
+use Rattle.std.proofs.Common.{◌≡◌, subst, List}
 use Rattle.std.specs.Prelude.{MatchOption}
 use Rattle.completion_tree.specs.declared.tree.Entry.{Entry}
 use Rattle.completion_tree.specs.Trail.{facts_in}
@@ -9,4 +9,4 @@ pub returns : goal.returns
 returns g c =
     let w = g.R.Rules.context c.args.rules.now in
     let m = c.args.new.now in
-    subst (λ (es : List Entry). MatchOption c.in_ok-found.found ((s : ℕ) → NoClashByNew w (facts_in es) m.parent s m.filler) (IsShown w (facts_in es))) c.new-state.ensures.tree c.in_ok-found.ensures
+    subst (λ (es : List Entry). MatchOption c.in_ok-found.found (NoClashByNew w (facts_in es) m.parent m.role m.filler) (IsShown w (facts_in es))) c.new-state.ensures.tree c.in_ok-found.ensures

@@ -1,4 +1,3 @@
-use Rattle.std.proofs.Common.{ℕ}
 use Rattle.step_finders.specs.Clashing.{NoneOver, NoClashByNew, IsShown}
 use Rattle.step_finders.proofs.Each.{answers_more}
 use Rattle.step_finders.proofs.Clashing.{no_clash_by_new}
@@ -8,5 +7,5 @@ pub returns : goal.returns
 returns g c =
     let w = g.R.Rules.context c.args.rules.now in
     let fs = g.S.State.facts c.args.state.now in
-    answers_more c.in_ok-found.found (NoneOver w fs c.args.parent 0 × NoneOver w fs c.args.parent c.args.filler) ((s : ℕ) → NoClashByNew w fs c.args.parent s c.args.filler) (IsShown w fs) (IsShown w fs)
-    (λ none. no_clash_by_new w fs c.args.parent c.args.filler (λ sh. (let k = c.if-is_bottom.ensures.1 sh in cc)) none) (λ k h. h) c.in_ok-found.ensures
+    answers_more c.in_ok-found.found (NoneOver w fs c.args.parent c.args.role 0 × NoneOver w fs c.args.parent c.args.role c.args.filler) (NoClashByNew w fs c.args.parent c.args.role c.args.filler) (IsShown w fs) (IsShown w fs)
+    (λ none. no_clash_by_new w fs c.args.parent c.args.role c.args.filler (λ sh. (let k = c.if-is_bottom.ensures.1 sh in cc)) none) (λ k h. h) c.in_ok-found.ensures

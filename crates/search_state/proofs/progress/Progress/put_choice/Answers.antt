@@ -1,7 +1,8 @@
-use Rattle.std.proofs.Common.{◌≡◌, ◌∙◌, ℕ, List, ap, refl, sym, subst, reverse, [], append_assoc}
+use Rattle.std.proofs.Common.{◌≡◌, ◌∙◌, ℕ, List, ap, refl, sym, subst, reverse, take, [], append_assoc, arith}
 use Rattle.std.specs.Prelude.{◌+◌, ◌∷◌, ◌++◌, None}
 use Rattle.std.specs.FinSet as sets
 use Rattle.std.proofs.lemmas.List.{reverse-append}
+use Rattle.std.proofs.Math.Seq.{take-append_seam}
 use Rattle.lane_sieve.specs.Sets.{NumberSet}
 use Rattle.calculus_specs.specs.declared.facts.Fact.{Fact}
 use Rattle.refutation_tree.specs.RuleLine.{line_of}
@@ -9,8 +10,10 @@ use Rattle.tableau_specs.specs.declared.Choice.{Choice}
 use Rattle.tableau_specs.specs.Clash.{IsPlainClash}
 use Rattle.tableau_specs.specs.Steps.{below_of}
 use Rattle.completion_tree.specs.declared.tree.By.{By}
+use Rattle.completion_tree.specs.declared.tree.Entry.{Entry}
 use Rattle.completion_tree.specs.declared.tree.Entry.TheVariants.{Fact as Grounded, Mark}
 use Rattle.completion_tree.specs.Trail.{facts_in}
+use Rattle.step_agenda.specs.Followed.{AreBlocksBelow}
 use Rattle.step_finders.specs.Choosing.{branch_of, IsChoosable}
 use Rattle.search_trace.specs.Trace.{with_branching}
 use Rattle.search_state.specs.Resting.{RestsChoice}
@@ -18,6 +21,20 @@ use Rattle.search_state.specs.Progress.{ProgressLists, IsStanding, IsClashOf, Ha
 use Rattle.search_state.proofs.Entries.{facts-marked}
 use Rattle.search_state.proofs.Choices.{choice_moves}
 use Rattle.search_state.proofs.progress.Progress.put_choice.Goals as goal
+
+pub follow-requires-clause-stood : goal.follow-requires-clause-stood
+follow-requires-clause-stood g c =
+    let w = g.R.Rules.context c.args.rules.now in
+    let s = c.self.inside in
+    let old : ProgressLists = record { query = s.query.now; sub = s.sub; not_sup = s.not_sup; entries = s.tree; prints = s.prints; trace = s.trace; marks = reverse s.marks.items; clash = s.clash; steps = s.steps } in
+    let is : old ≡ c.args.self.now = c.self.view_is in
+    let st : IsStanding w old = subst (λ (q : ProgressLists). IsStanding w q) (sym is) c.requires.standing in
+    let by : By = record { line = c.in_ok-mark.mark; marks = c.in_ok-more.more } in
+    let choice : Choice = record { line = c.in_ok-mark.mark; branch = c.branch-branch.result; alternative = 1 } in
+    let more : List Entry = Mark choice ∷ Grounded c.args.fact by ∷ [] in
+    let front : take c.len-place.result c.put_alternative.new.tree ≡ s.tree = (λ i. take (c.len-place.ensures i) (c.in_ok-put_alternative.ensures i)) ∙ take-append_seam s.tree more in
+    subst (λ (es : List Entry). AreBlocksBelow (facts_in es) c.nodes-nodes.result s.prints) (sym front)
+    (c.blocks_stay.ensures.all (facts_in s.tree) c.nodes-nodes.result s.prints st.current (omega (arith, c.nodes-nodes.ensures.count)))
 
 pub returns-clause-moved : goal.returns-clause-moved
 returns-clause-moved g c =

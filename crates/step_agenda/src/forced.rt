@@ -1,0 +1,258 @@
+// Unions of which at most one part does not clash at once, at the facts by which they may have become such.
+ghost use Rattle.std.specs.Prelude.{◌≡◌, ◌<◌, IfOk, IfSome};
+ghost use Rattle.step_finders.specs.Choosing.{IsChoosable};
+
+use crate::NoMemory;
+use crate::watched::{Closes, UnionIndex, Watch};
+use calculus_specs::Fact;
+use completion_tree::{Item, Tree};
+use shq_nnf::Shape;
+use std::alloc::Allocator;
+use step_finders::{Choosing, Rules, State, find_union_by};
+
+// Top, which is what closes that there is no successor.
+const TOP: u32 = 0;
+
+/// The first entry from this one on by which a union is forced, and which: one of which a part is to be chosen, and all parts but
+/// one clash at once; or the length of the trail.
+///
+/// # Errors
+///
+/// Want of memory.
+pub(crate) fn first_forced<A: Allocator + Copy, S: State, R: Rules>(
+    tree: &Tree<A>,
+    state: &S,
+    rules: &R,
+    index: &mut UnionIndex,
+    from: u32,
+) -> Result<(u32, Option<Choosing>), NoMemory>
+    ensures { IfOk result (λ p. IfSome p.1 (IsChoosable (R.context rules.now) (S.facts state.now))) }
+{
+    for place in from..tree.len() {
+        match forced_by(tree.item(place), state, rules, index)? {
+            Some(choosing) => return Ok((place, Some(choosing))),
+            None => {}
+        }
+    }
+    Ok((tree.len(), None))
+}
+
+// A union that is forced by the entry.
+fn forced_by<S: State, R: Rules>(
+    item: Item,
+    state: &S,
+    rules: &R,
+    index: &mut UnionIndex,
+) -> Result<Option<Choosing>, NoMemory>
+    ensures { IfOk result (λ found. IfSome found (IsChoosable (R.context rules.now) (S.facts state.now))) }
+{
+    match item {
+        Item::Fact(Fact::Has(node, concept)) => {
+            forced_by_concept(state, rules, index, state.representative(node), concept)
+        }
+        Item::Fact(Fact::Edge(_, from, _)) => Ok(forced_by_watches(
+            state,
+            rules,
+            index,
+            state.representative(from),
+            TOP,
+        )),
+        Item::Fact(Fact::Same(node, _)) => {
+            forced_by_label(state, rules, index, state.representative(node))
+        }
+        Item::Fact(Fact::Apart(_, _)) => Ok(None),
+        Item::Mark(_) => Ok(None),
+    }
+}
+
+// A union that is forced by one of the concepts of a node.
+fn forced_by_label<S: State, R: Rules>(
+    state: &S,
+    rules: &R,
+    index: &mut UnionIndex,
+    node: u32,
+) -> Result<Option<Choosing>, NoMemory>
+    ensures { IfOk result (λ found. IfSome found (IsChoosable (R.context rules.now) (S.facts state.now))) }
+{
+    for concept in state.label(node) {
+        match forced_by_concept(state, rules, index, node, *concept)? {
+            Some(choosing) => return Ok(Some(choosing)),
+            None => {}
+        }
+    }
+    Ok(None)
+}
+
+// A union that is forced since the node has the concept: the concept itself, one of the node, or one of its parent.
+fn forced_by_concept<S: State, R: Rules>(
+    state: &S,
+    rules: &R,
+    index: &mut UnionIndex,
+    node: u32,
+    concept: u32,
+) -> Result<Option<Choosing>, NoMemory>
+    ensures { IfOk result (λ found. IfSome found (IsChoosable (R.context rules.now) (S.facts state.now))) }
+{
+    match rules.shape(concept) {
+        Shape::Or(parts) => {
+            index.meet(rules, concept, parts)?;
+            match forced_at(state, rules, node, concept) {
+                Some(choosing) => Ok(Some(choosing)),
+                None => Ok(forced_by_watches(state, rules, index, node, concept)),
+            }
+        }
+        Shape::Top
+        | Shape::Bottom
+        | Shape::Name(_)
+        | Shape::NotName(_)
+        | Shape::And(_)
+        | Shape::SomeOf(_, _)
+        | Shape::AllOf(_, _)
+        | Shape::Min(_, _, _)
+        | Shape::Max(_, _, _) => Ok(forced_by_watches(state, rules, index, node, concept)),
+    }
+}
+
+// A union that is forced since the concept of the node closes a part of it.
+fn forced_by_watches<S: State, R: Rules>(
+    state: &S,
+    rules: &R,
+    index: &UnionIndex,
+    node: u32,
+    concept: u32,
+) -> Option<Choosing>
+    ensures { IfSome result (IsChoosable (R.context rules.now) (S.facts state.now)) }
+{
+    let mut place = index.latest(concept);
+    for _ in 0..index.len() {
+        let watch = index.watch(place)?;
+        match forced_by_watch(state, rules, node, concept, watch) {
+            Some(choosing) => return Some(choosing),
+            None => {}
+        }
+        place = watch.next;
+    }
+    None
+}
+
+fn forced_by_watch<S: State, R: Rules>(
+    state: &S,
+    rules: &R,
+    node: u32,
+    concept: u32,
+    watch: Watch,
+) -> Option<Choosing>
+    ensures { IfSome result (IsChoosable (R.context rules.now) (S.facts state.now)) }
+{
+    match watch.closes {
+        Closes::Here => forced_at(state, rules, node, watch.union),
+        Closes::Above if concept == TOP => forced_at(state, rules, node, watch.union),
+        Closes::Above => forced_at(state, rules, above(state, node)?, watch.union),
+    }
+}
+
+// The node from which edges lead to this one.
+pub(crate) fn above<S: State>(state: &S, node: u32) -> Option<u32> {
+    if node >= state.nodes() {
+        return None;
+    }
+    let parent = state.parent(node)?;
+    Some(state.representative(parent))
+}
+
+// The union, where the node has it, a part of it is to be chosen, and it is forced.
+fn forced_at<S: State, R: Rules>(state: &S, rules: &R, node: u32, union: u32) -> Option<Choosing>
+    ensures { IfSome result (IsChoosable (R.context rules.now) (S.facts state.now)) }
+{
+    if node >= state.nodes() || !state.has(node, union) {
+        return None;
+    }
+    let choosing = find_union_by(state, rules, node, union)?;
+    if is_forced(state, rules, node, union) {
+        Some(choosing)
+    } else {
+        None
+    }
+}
+
+// Whether at most one part of the union does not clash at once.
+fn is_forced<S: State, R: Rules>(state: &S, rules: &R, node: u32, union: u32) -> bool {
+    match rules.shape(union) {
+        Shape::Or(parts) => !are_two_open(state, rules, node, parts),
+        Shape::Top
+        | Shape::Bottom
+        | Shape::Name(_)
+        | Shape::NotName(_)
+        | Shape::And(_)
+        | Shape::SomeOf(_, _)
+        | Shape::AllOf(_, _)
+        | Shape::Min(_, _, _)
+        | Shape::Max(_, _, _) => false,
+    }
+}
+
+// Whether two of the concepts do not clash at once.
+fn are_two_open<S: State, R: Rules>(state: &S, rules: &R, node: u32, parts: &[u32]) -> bool {
+    let mut is_one_open = false;
+    for part in parts {
+        if !clashes_at_once(state, rules, node, *part) {
+            if is_one_open {
+                return true;
+            }
+            is_one_open = true;
+        }
+    }
+    false
+}
+
+// Whether the concept would clash at the node or at a successor that is there. The complement of a restriction counts for nothing:
+// what it says of successors may still be met by one that is to be made.
+fn clashes_at_once<S: State, R: Rules>(state: &S, rules: &R, node: u32, concept: u32) -> bool {
+    match rules.shape(concept) {
+        Shape::Bottom => true,
+        Shape::Name(_) | Shape::NotName(_) | Shape::And(_) | Shape::Or(_) => {
+            has_complement(state, rules, node, concept)
+        }
+        Shape::AllOf(role, filler) => {
+            is_plain(rules, filler) && has_end_without(state, rules, node, role, filler)
+        }
+        Shape::Top | Shape::SomeOf(_, _) | Shape::Min(_, _, _) | Shape::Max(_, _, _) => false,
+    }
+}
+
+// Whether the concept is a class, the complement of one, or bottom.
+fn is_plain<R: Rules>(rules: &R, concept: u32) -> bool {
+    match rules.shape(concept) {
+        Shape::Bottom | Shape::Name(_) | Shape::NotName(_) => true,
+        Shape::Top
+        | Shape::And(_)
+        | Shape::Or(_)
+        | Shape::SomeOf(_, _)
+        | Shape::AllOf(_, _)
+        | Shape::Min(_, _, _)
+        | Shape::Max(_, _, _) => false,
+    }
+}
+
+fn has_complement<S: State, R: Rules>(state: &S, rules: &R, node: u32, concept: u32) -> bool {
+    match rules.complement(concept) {
+        Some(complement) => state.has(node, complement),
+        None => false,
+    }
+}
+
+// Whether an edge by a role below this one leads to a node with the complement of the filler.
+fn has_end_without<S: State, R: Rules>(
+    state: &S,
+    rules: &R,
+    node: u32,
+    role: u32,
+    filler: u32,
+) -> bool {
+    for edge in state.edges(node) {
+        if rules.is_below(edge.0, role) && has_complement(state, rules, edge.1, filler) {
+            return true;
+        }
+    }
+    false
+}

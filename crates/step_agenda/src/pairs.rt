@@ -1,0 +1,187 @@
+// Pairs of successors to be made one or kept apart, at the facts by which there may be too many.
+ghost use Rattle.std.specs.Prelude.{◌≡◌, ◌<◌, IfOk, IfSome};
+ghost use Rattle.step_finders.specs.Choosing.{IsChoosable};
+
+use crate::NoMemory;
+use crate::forced::above;
+use calculus_specs::Fact;
+use completion_tree::{Item, Tree};
+use shq_nnf::Shape;
+use std::alloc::{Allocator, Global};
+use step_finders::{Choosing, Rules, State, find_pair_by};
+
+// Top, the filler that each node has.
+const TOP: u32 = 0;
+
+/// The first entry from this one on by which two successors are to be made one or kept apart, and which; or the length of the
+/// trail.
+///
+/// # Errors
+///
+/// Want of memory.
+pub(crate) fn first_pair<A: Allocator + Copy, S: State, R: Rules>(
+    heap: Global,
+    tree: &Tree<A>,
+    state: &S,
+    rules: &R,
+    from: u32,
+) -> Result<(u32, Option<Choosing>), NoMemory>
+    ensures { IfOk result (λ p. IfSome p.1 (IsChoosable (R.context rules.now) (S.facts state.now))) }
+{
+    for place in from..tree.len() {
+        match pair_by(heap, tree.item(place), state, rules)? {
+            Some(choosing) => return Ok((place, Some(choosing))),
+            None => {}
+        }
+    }
+    Ok((tree.len(), None))
+}
+
+// A pair that is to be chosen by the entry.
+fn pair_by<S: State, R: Rules>(
+    heap: Global,
+    item: Item,
+    state: &S,
+    rules: &R,
+) -> Result<Option<Choosing>, NoMemory>
+    ensures { IfOk result (λ found. IfSome found (IsChoosable (R.context rules.now) (S.facts state.now))) }
+{
+    match item {
+        Item::Fact(Fact::Has(node, concept)) => {
+            pair_by_concept(heap, state, rules, state.representative(node), concept)
+        }
+        Item::Fact(Fact::Edge(role, from, _)) => {
+            pair_by_edge(heap, state, rules, role, state.representative(from))
+        }
+        Item::Fact(Fact::Same(node, _)) => {
+            pair_by_join(heap, state, rules, state.representative(node))
+        }
+        Item::Fact(Fact::Apart(_, _)) => Ok(None),
+        Item::Mark(_) => Ok(None),
+    }
+}
+
+// A pair by the concept, where it is an 'at most', or by an 'at most' above of which it is the filler.
+fn pair_by_concept<S: State, R: Rules>(
+    heap: Global,
+    state: &S,
+    rules: &R,
+    node: u32,
+    concept: u32,
+) -> Result<Option<Choosing>, NoMemory>
+    ensures { IfOk result (λ found. IfSome found (IsChoosable (R.context rules.now) (S.facts state.now))) }
+{
+    match pair_of(heap, state, rules, node, concept)? {
+        Some(choosing) => Ok(Some(choosing)),
+        None => pair_above(heap, state, rules, node, rules.mosts(concept)),
+    }
+}
+
+// A pair by one of these, all of them an 'at most', where the parent of the node has it.
+fn pair_above<S: State, R: Rules>(
+    heap: Global,
+    state: &S,
+    rules: &R,
+    node: u32,
+    mosts: &[u32],
+) -> Result<Option<Choosing>, NoMemory>
+    ensures { IfOk result (λ found. IfSome found (IsChoosable (R.context rules.now) (S.facts state.now))) }
+{
+    if mosts.is_empty() {
+        return Ok(None);
+    }
+    match above(state, node) {
+        Some(parent) => pair_of_any(heap, state, rules, parent, mosts),
+        None => Ok(None),
+    }
+}
+
+// A pair by one of these concepts, where the node has it.
+fn pair_of_any<S: State, R: Rules>(
+    heap: Global,
+    state: &S,
+    rules: &R,
+    node: u32,
+    concepts: &[u32],
+) -> Result<Option<Choosing>, NoMemory>
+    ensures { IfOk result (λ found. IfSome found (IsChoosable (R.context rules.now) (S.facts state.now))) }
+{
+    for concept in concepts {
+        match pair_of(heap, state, rules, node, *concept)? {
+            Some(choosing) => return Ok(Some(choosing)),
+            None => {}
+        }
+    }
+    Ok(None)
+}
+
+// A pair by an 'at most' of all successors by a role above this one.
+fn pair_by_edge<S: State, R: Rules>(
+    heap: Global,
+    state: &S,
+    rules: &R,
+    role: u32,
+    node: u32,
+) -> Result<Option<Choosing>, NoMemory>
+    ensures { IfOk result (λ found. IfSome found (IsChoosable (R.context rules.now) (S.facts state.now))) }
+{
+    for concept in rules.mosts(TOP) {
+        if counts(rules, *concept, role) {
+            match pair_of(heap, state, rules, node, *concept)? {
+                Some(choosing) => return Ok(Some(choosing)),
+                None => {}
+            }
+        }
+    }
+    Ok(None)
+}
+
+// Whether the concept is an 'at most' of a role above this one.
+fn counts<R: Rules>(rules: &R, concept: u32, role: u32) -> bool {
+    match rules.shape(concept) {
+        Shape::Max(_, upper, _) => rules.is_below(role, upper),
+        Shape::Top
+        | Shape::Bottom
+        | Shape::Name(_)
+        | Shape::NotName(_)
+        | Shape::And(_)
+        | Shape::Or(_)
+        | Shape::SomeOf(_, _)
+        | Shape::AllOf(_, _)
+        | Shape::Min(_, _, _) => false,
+    }
+}
+
+// A pair by what a node has that was joined, or its parent.
+fn pair_by_join<S: State, R: Rules>(
+    heap: Global,
+    state: &S,
+    rules: &R,
+    node: u32,
+) -> Result<Option<Choosing>, NoMemory>
+    ensures { IfOk result (λ found. IfSome found (IsChoosable (R.context rules.now) (S.facts state.now))) }
+{
+    match pair_of_any(heap, state, rules, node, state.label(node))? {
+        Some(choosing) => Ok(Some(choosing)),
+        None => match above(state, node) {
+            Some(parent) => pair_of_any(heap, state, rules, parent, state.label(parent)),
+            None => Ok(None),
+        },
+    }
+}
+
+// A pair by the concept, where the node has it.
+fn pair_of<S: State, R: Rules>(
+    heap: Global,
+    state: &S,
+    rules: &R,
+    node: u32,
+    concept: u32,
+) -> Result<Option<Choosing>, NoMemory>
+    ensures { IfOk result (λ found. IfSome found (IsChoosable (R.context rules.now) (S.facts state.now))) }
+{
+    if node >= state.nodes() || !state.has(node, concept) {
+        return Ok(None);
+    }
+    find_pair_by(heap, state, rules, node, concept)
+}
