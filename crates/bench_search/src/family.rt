@@ -21,10 +21,15 @@ pub(crate) enum Family {
     Definitions,
     /// The same, where the successors are in classes of the tree.
     MixedDefinitions,
+    /// So many classes, each defined as what is in one and the same class and has a successor in the one before; every eighth
+    /// begins anew.
+    DefinitionsBelow,
     /// One pigeon more than so many holes, all said of one node.
     PigeonNames,
     /// The same, where each pigeon is a node and each hole has room for one.
     PigeonNodes,
+    /// The same, where the pigeons are apart from the start.
+    PigeonsApart,
     /// So many unions, and a clash that has nothing to do with them.
     Unions,
     /// The same, where a successor has the clash.
@@ -68,8 +73,10 @@ impl Family {
             Family::Tree => put_tree(list, size),
             Family::Definitions => put_definitions(list, size, false),
             Family::MixedDefinitions => put_definitions(list, size, true),
+            Family::DefinitionsBelow => put_definitions_below(list, size),
             Family::PigeonNames => put_pigeon_names(list, size),
             Family::PigeonNodes => put_pigeon_nodes(list, size),
+            Family::PigeonsApart => put_pigeons_apart(list, size),
             Family::Unions => put_unions(list, size, 0),
             Family::UnionsAbove => put_unions_above(list, size),
         }
@@ -133,6 +140,24 @@ fn put_definition(list: &mut Vec<Statement>, class: Term, all: Term) -> Result<(
     push_item(list, Statement::Inclusion(all, class))
 }
 
+/// How many definitions lead down from one to the next.
+const DEPTH: u32 = 8;
+
+/// Definitions below one class, of which the class 0 is the last. The first of every so many has a successor in a class of its
+/// own.
+fn put_definitions_below(list: &mut Vec<Statement>, size: u32) -> Result<(), NoMemory> {
+    for number in 0..size {
+        let class = size - 1 - number;
+        let filler = if number % DEPTH == 0 {
+            size.wrapping_add(1).wrapping_add(number)
+        } else {
+            class + 1
+        };
+        put_definition(list, Term::Class(class), Term::Both(size, filler))?;
+    }
+    Ok(())
+}
+
 /// The class of a pigeon in a hole.
 fn place(pigeon: u32, hole: u32, holes: u32) -> u32 {
     pigeon
@@ -173,6 +198,16 @@ fn put_pigeon_nodes(list: &mut Vec<Statement>, holes: u32) -> Result<(), NoMemor
     }
     for hole in 0..holes {
         put(list, 0, Term::AtMostOne(first.wrapping_add(hole)))?;
+    }
+    Ok(())
+}
+
+/// The pigeons are in the class 1, and holes come behind it.
+fn put_pigeons_apart(list: &mut Vec<Statement>, holes: u32) -> Result<(), NoMemory> {
+    put(list, 0, Term::AtLeast(holes.wrapping_add(1), 1))?;
+    put(list, 1, Term::OneOf(2, holes))?;
+    for hole in 0..holes {
+        put(list, 0, Term::AtMostOne(hole.wrapping_add(2)))?;
     }
     Ok(())
 }

@@ -21,7 +21,7 @@ use std::rt::Clock;
 use std::{env, io};
 
 /// The families and their sizes.
-const ROWS: [(&str, Family, u32); 20] = [
+const ROWS: [(&str, Family, u32); 27] = [
     ("chain", Family::Chain, 1_000),
     ("chain", Family::Chain, 10_000),
     ("closed chain", Family::ClosedChain, 10_000),
@@ -33,11 +33,18 @@ const ROWS: [(&str, Family, u32); 20] = [
     ("definitions", Family::Definitions, 3_000),
     ("definitions by each other", Family::MixedDefinitions, 10),
     ("definitions by each other", Family::MixedDefinitions, 20),
+    ("definitions by each other", Family::MixedDefinitions, 40),
+    ("definitions below one class", Family::DefinitionsBelow, 80),
+    ("definitions below one class", Family::DefinitionsBelow, 160),
     ("pigeons of one node", Family::PigeonNames, 5),
     ("pigeons of one node", Family::PigeonNames, 6),
     ("pigeons of one node", Family::PigeonNames, 7),
     ("pigeons as nodes", Family::PigeonNodes, 4),
     ("pigeons as nodes", Family::PigeonNodes, 5),
+    ("pigeons as nodes", Family::PigeonNodes, 6),
+    ("pigeons as nodes, apart", Family::PigeonsApart, 5),
+    ("pigeons as nodes, apart", Family::PigeonsApart, 6),
+    ("pigeons as nodes, apart", Family::PigeonsApart, 7),
     ("unions beside a clash", Family::Unions, 20),
     ("unions beside a clash", Family::Unions, 200),
     ("unions above a clash", Family::UnionsAbove, 20),

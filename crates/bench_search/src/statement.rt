@@ -17,6 +17,8 @@ pub(crate) enum Term {
     Some(u32),
     /// All successors of which are in it.
     All(u32),
+    /// What has so many successors in the class.
+    AtLeast(u32, u32),
     /// What has at most one successor in it.
     AtMostOne(u32),
     /// What is in one of the classes from the first number on, of which there are so many.
@@ -54,6 +56,7 @@ fn concept_of(alloc: Global, term: Term) -> Result<Concept, NoMemory> {
         Term::Not(class) => Node::Not(boxed(alloc, class)?),
         Term::Some(class) => Node::SomeOf(ROLE, boxed(alloc, class)?),
         Term::All(class) => Node::AllOf(ROLE, boxed(alloc, class)?),
+        Term::AtLeast(count, class) => Node::Min(count, ROLE, boxed(alloc, class)?),
         Term::AtMostOne(class) => Node::Max(1, ROLE, boxed(alloc, class)?),
         Term::OneOf(first, count) => Node::Or(named(alloc, first, count)?),
         Term::Both(class, filler) => Node::And(both(alloc, class, filler)?),
