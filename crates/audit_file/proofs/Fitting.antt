@@ -124,7 +124,7 @@ module _ (o : Listed) (few : length o.axioms < 2 ^ 32) (most : ℕ) where
       let of = block_of (refutation_of o) (malformed_refutation_line o) set.0.1 read.0.0 read.0.1 read.1 in
       let same : ◌≡◌ {A = AuditLists × Ahead} (with_justification set.0.0 read.0.0 a, read.0.1) (b, next) = cc read.2 in
       let long = refutation_adds o (block set.0.1.lines) read.0.0 of.0 in
-      let fitting : IsFitting o most read.0.0 = record { writable = read_is_writable o (block set.0.1.lines) read.0.0 few of.0; lines = omega (arith, long, short, length-take (block_len set.0.1.lines) set.0.1.lines) } in
+      let fitting : IsFitting o most read.0.0 = record { writable = read_is_writable o (block set.0.1.lines) read.0.0 few of.0; lines = omega (arith, long, going.short, ap length line.front, length-take (block_len set.0.1.lines) set.0.1.lines) } in
       let j : Justification = record { set = set.0.0; refutation = read.0.0 } in
       subst (λ p. Going p.0 p.1) same
       (record {

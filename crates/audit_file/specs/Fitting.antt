@@ -1,5 +1,5 @@
 -- What is known of an audit that was read.
-use Rattle.std.specs.Prelude.{◌≡◌, ℕ, ◌≤◌, length}
+use Rattle.std.specs.Prelude.{◌≡◌, ℕ, ◌<◌, length}
 use Rattle.std.specs.List.{All}
 use Rattle.axiom_sets.specs.Sets.{Limited}
 use Rattle.shq_terms.specs.Listed.{Listed}
@@ -9,10 +9,10 @@ use Rattle.audit_file.specs.AuditLists.{AuditLists}
 use Rattle.audit_file.specs.declared.entries.Justification.{Justification}
 use Rattle.audit_file.specs.declared.entries.Repair.{Repair}
 
--- a refutation over axioms of the document and over listed names, with at most so many lines
+-- a refutation over axioms of the document and over listed names, with fewer lines than so many
 pub record IsFitting (o : Listed) (most : ℕ) (r : RefutationLists) : Type 0 where
   pub writable : IsWritable o r
-  pub lines : length r.lines ≤ most
+  pub lines : length r.lines < most
 
 -- the numbers of the set are those of axioms
 abbrev pub IsOfAxioms : Listed → Limited → Type 0

@@ -2,4 +2,4 @@ pub mod Hits
 pub mod Audited
 mod Growing
 mod Found
-mod Ascending
+pub mod Ascending
