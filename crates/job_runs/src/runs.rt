@@ -1,11 +1,11 @@
-// Runs over a source and a sink in memory.
+// Runs over sources and sinks in memory.
 ghost use Rattle.std.specs.Prelude.{◌≡◌, ◌≤◌, length};
 ghost use Rattle.std.specs.List.{prefix_len};
 ghost use Rattle.job_runs.specs.Texts.{is_in_line, first_line};
 
 use crate::{NoMemory, Status};
 use ontology_jobs::{RunLog, run};
-use shq_io::{MemSink, MemSource};
+use shq_io::{MemSink, MemSource, Sink, Source, SureSink, SureSource};
 use std::alloc::Global;
 
 /// What came of a run.
@@ -14,7 +14,7 @@ pub struct Answer {
     /// How it ended.
     pub status: Status,
     /// What was written.
-    pub sink: MemSink,
+    pub written: Vec<u8>,
     /// How many steps its tests took.
     pub spent: u64,
 }
@@ -22,15 +22,15 @@ pub struct Answer {
 impl Answer {
     /// What was written.
     pub fn text(&self) -> &[u8]
-        ensures { result.now ≡ self.now.sink.kept }
+        ensures { result.now ≡ self.now.written.items }
     {
-        self.sink.taken()
+        &self.written
     }
 
     /// The first line of what was written, without its end: the verdict of a question. What was written is its
     /// certificate.
     pub fn verdict(&self) -> &[u8]
-        ensures { result.now ≡ first_line self.now.sink.kept }
+        ensures { result.now ≡ first_line self.now.written.items }
     {
         let text = self.text();
         text.split_at(line_len(text)).0
@@ -67,7 +67,7 @@ impl Failing {
     fn read(self) -> u32 {
         match self {
             Failing::Read(call) => call,
-            _ => 0,
+            Failing::Nothing | Failing::Write(_) => 0,
         }
     }
 
@@ -75,46 +75,76 @@ impl Failing {
     fn write(self) -> u32 {
         match self {
             Failing::Write(call) => call,
-            _ => 0,
+            Failing::Nothing | Failing::Read(_) => 0,
         }
     }
 }
 
-/// Runs the words on an input.
+// The most bytes of an answer.
+const ROOM: u32 = 1 << 16;
+
+/// Runs the words on an input, over a source and a sink of which no call fails.
 ///
 /// # Errors
 ///
-/// Out of memory before the run.
+/// Out of memory before the run or after it, or an answer of more than 65,536 bytes.
 pub fn run_on(alloc: Global, words: &[&str], input: &[u8]) -> Result<Answer, NoMemory> {
-    let source = MemSource::new(alloc, input, 4096, &[])?;
-    let sink = MemSink::new(alloc, 1 << 16, 4096, &[])?;
-    run_over(alloc, words, source, sink)
+    let words = owned(alloc, words)?;
+    run_surely(alloc, &words, input)
+}
+
+fn run_surely(alloc: Global, words: &[String], input: &[u8]) -> Result<Answer, NoMemory> {
+    let mut source = SureSource::new(alloc, input)?;
+    answer_surely(alloc, words, &mut source)
+}
+
+fn answer_surely(
+    alloc: Global,
+    words: &[String],
+    source: &mut SureSource,
+) -> Result<Answer, NoMemory> {
+    let mut sink = SureSink::with_room(alloc, ROOM)?;
+    let (status, spent) = run_between(alloc, words, source, &mut sink);
+    match sink.taken() {
+        Some(text) => make_answer(alloc, status, text, spent),
+        None => Err(NoMemory),
+    }
 }
 
 /// Runs the words on an input, of which a call reads at most 8 bytes, and a call writes at most 4.
 ///
 /// # Errors
 ///
-/// Out of memory before the run.
+/// Out of memory before the run or after it.
 pub fn run_through(
     alloc: Global,
     words: &[&str],
     input: &[u8],
     failing: Failing,
 ) -> Result<Answer, NoMemory> {
-    let source = MemSource::new(alloc, input, 8, &[failing.read()])?;
-    let sink = MemSink::new(alloc, 1 << 16, 4, &[failing.write()])?;
-    run_over(alloc, words, source, sink)
+    let words = owned(alloc, words)?;
+    run_in_steps(alloc, &words, input, failing)
 }
 
-fn run_over(
+fn run_in_steps(
     alloc: Global,
-    words: &[&str],
-    source: MemSource,
-    sink: MemSink,
+    words: &[String],
+    input: &[u8],
+    failing: Failing,
 ) -> Result<Answer, NoMemory> {
-    let words = owned(alloc, words)?;
-    Ok(answer_to(alloc, &words, source, sink))
+    let mut source = MemSource::new(alloc, input, 8, &[failing.read()])?;
+    answer_in_steps(alloc, words, &mut source, failing)
+}
+
+fn answer_in_steps(
+    alloc: Global,
+    words: &[String],
+    source: &mut MemSource,
+    failing: Failing,
+) -> Result<Answer, NoMemory> {
+    let mut sink = MemSink::new(alloc, ROOM, 4, &[failing.write()])?;
+    let (status, spent) = run_between(alloc, words, source, &mut sink);
+    make_answer(alloc, status, sink.taken(), spent)
 }
 
 // The words as the program keeps them.
@@ -126,12 +156,22 @@ fn owned(alloc: Global, words: &[&str]) -> Result<Vec<String>, NoMemory> {
     Ok(own)
 }
 
-fn answer_to(alloc: Global, words: &[String], mut source: MemSource, mut sink: MemSink) -> Answer {
+// How a run ends, and how many steps its tests took.
+fn run_between<S: Source, K: Sink>(
+    alloc: Global,
+    words: &[String],
+    source: &mut S,
+    sink: &mut K,
+) -> (Status, u64) {
     let mut log = RunLog::new(alloc);
-    let status = run(alloc, words, &mut source, &mut sink, &mut log);
-    Answer {
+    let status = run(alloc, words, source, sink, &mut log);
+    (status, log.spent())
+}
+
+fn make_answer(alloc: Global, status: Status, text: &[u8], spent: u64) -> Result<Answer, NoMemory> {
+    Ok(Answer {
         status,
-        sink,
-        spent: log.spent(),
-    }
+        written: text.to_vec(alloc)?,
+        spent,
+    })
 }
