@@ -1,4 +1,4 @@
-//! The check of an audit, which needs no search, and why nothing is missing from an audit that passes it.
+//! The check of an audit, which searches for no refutation and no model, and why nothing is missing from an audit that passes it.
 //!
 //! Of an audit it is looked at whether no justification contains another one and each refutation is valid over its set;
 //! whether each model meets the axioms outside of its repair and refutes the query; and whether the repairs are exactly the

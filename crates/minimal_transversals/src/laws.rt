@@ -1,9 +1,10 @@
 // What a list of sets and the list of their smallest transversals are, of any claim about sets of numbers.
 //
 // Who hands over all smallest yes-sets of a claim can show that none is missing: the smallest sets that meet all of them
-// are what has to be taken away, and each of these ends the claim. So nothing has to be searched for, or trusted, by who
-// looks at the two lists. This is the duality of a family of sets and its transversals (Claude Berge, "Hypergraphs",
-// 1989), with Raymond Reiter's theorem ("A Theory of Diagnosis from First Principles", Artificial Intelligence 32, 1987).
+// are what has to be taken away, and each of these ends the claim. So who looks at the two lists need not trust the search
+// for what is in them, nor make it again. This is the duality of a family of sets and its transversals (Claude Berge,
+// "Hypergraphs", 1989), with Raymond Reiter's theorem ("A Theory of Diagnosis from First Principles", Artificial
+// Intelligence 32, 1987).
 
 ghost use Rattle.minimal_transversals.specs.Audits.{AuditedAreMinimalYes, AuditedAreMinimalRemovals};
 ghost use Rattle.minimal_transversals.specs.Listed.{NoneContainsAnother};

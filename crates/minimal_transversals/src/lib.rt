@@ -4,8 +4,8 @@
 //! Dualizing Large-Scale Hypergraphs", Discrete Applied Mathematics 170, 2014). A node of the search is a set that hits
 //! some given set in each of its members alone. Its children have one number more, of the first given set that it does
 //! not meet; a number is left out if with it some member would be hit alone no more, and if an earlier branch has it. So
-//! each transversal is come to once, none is ever compared with another one, and nothing is kept but the path to the node
-//! and what was found. A node costs a look at each given set for each of its members.
+//! each transversal is come to once, none is looked at again for being smallest, and nothing is kept but the path to the
+//! node and what was found. A node costs a look at each given set for each of its members.
 //!
 //! Who has a list that is said to be all of them asks [`are_transversals`], which ends its search where it has found more
 //! sets than are listed.

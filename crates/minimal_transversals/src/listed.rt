@@ -13,7 +13,7 @@ use lane_sieve::NoMemory;
 use std::alloc::Global;
 
 /// Whether a list, in the order of sets, has exactly the smallest sets that meet each of the sets. The search ends as soon
-/// as it has found more sets than are listed, so that a short list costs little however many transversals there are.
+/// as it has found more sets than are listed; until then it may go through branches in which there is none.
 ///
 /// # Errors
 /// Where memory is refused.

@@ -64,7 +64,7 @@ fn pairs(alloc: Global) -> Result<Vec<AxiomSet>, NoMemory>
     Ok(sets)
 }
 
-/// Whether a list that is too short is told apart at once, whatever there is to find.
+/// Whether a list that is too short is told apart before all is found, of a million transversals.
 fn is_short_list_told(alloc: Global) -> Result<bool, NoMemory> {
     let sets = pairs(alloc)?;
     let is_told = are_transversals(alloc, &sets, 130, &[])?;
