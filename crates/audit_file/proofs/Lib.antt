@@ -6,3 +6,6 @@ pub mod Cut
 pub mod Joined
 pub mod TextBack
 pub mod Pushed
+pub mod Fronts
+pub mod BlockFront
+pub mod AuditFirst

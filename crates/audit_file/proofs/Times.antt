@@ -67,6 +67,9 @@ module _ {K : Type 0} (stands_for : List (List ℕ) → Option K) (malformed : L
   pub block_ok : (k : K) → stands_for (block at.lines) ≡ Some k → block_read stands_for malformed at ≡ Ok (k, behind_block at)
   block_ok k is = read_as (Some k) is
 
+  pub block_none : stands_for (block at.lines) ≡ None → block_read stands_for malformed at ≡ Err (line_of_block at.number (malformed (block at.lines)))
+  block_none is = read_as None is
+
   shifted : (m : Option ℕ) (n line : ℕ) → 2 ≤ at.number → option_map clamped_line m ≡ Some n → line ≡ clamped_line (at.number + n - 2) → clamped_line (line_of_block at.number m) ≡ line
   shifted None n line low is line_is = let clash : ◌≡◌ {A = Option ℕ} None (Some n) = is in absurd (cc clash)
   shifted (Some p) n line low is line_is =

@@ -2,3 +2,4 @@ pub mod AuditLists
 pub mod AuditText
 pub mod Fitting
 pub mod Written
+pub mod Malformed

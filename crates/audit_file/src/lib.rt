@@ -22,6 +22,6 @@ pub use audit::Audit;
 /// Why lines are not the text of an audit, whose line `audit` has the number 1.
 pub use certificate_lines::LineFault as AuditFault;
 pub use entries::{Justification, Repair};
-pub use laws::audits_are_read_back;
+pub use laws::{audits_are_read_back, malformed_line_is_the_first};
 pub use reading::read_text;
 pub use shq_terms::NoMemory;
