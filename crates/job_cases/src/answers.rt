@@ -1,47 +1,102 @@
-// The line that is printed of a case.
+// The lines that are printed of a case.
 
 use crate::blocks::Block;
 use crate::shows::{put_shows, put_whole, text_of};
-use job_runs::{Answer, NoMemory, Status, checked, run_on};
+use crate::turns::Turn;
+use job_runs::{Answer, Failing, NoMemory, Status, checked, run_on, run_through};
 use std::alloc::Global;
 
-/// The line that is printed of a case, without its end.
+/// The line that is printed of a run of a case, without its end.
 ///
 /// # Errors
 ///
 /// Out of memory.
-pub(crate) fn report(alloc: Global, block: &Block<'_>) -> Result<String, NoMemory> {
+pub(crate) fn report(alloc: Global, block: &Block<'_>, turn: Turn) -> Result<String, NoMemory> {
     let document = block.document.text(alloc)?;
-    report_on(alloc, block, document.as_str())
+    report_on(alloc, block, turn, document.as_str())
 }
 
-fn report_on(alloc: Global, block: &Block<'_>, document: &str) -> Result<String, NoMemory> {
-    let answer = answer_to(alloc, block, document)?;
-    report_of(alloc, block, document, &answer)
+fn report_on(
+    alloc: Global,
+    block: &Block<'_>,
+    turn: Turn,
+    document: &str,
+) -> Result<String, NoMemory> {
+    let answer = answer_to(alloc, block, turn, document)?;
+    report_of(alloc, block, turn, document, &answer)
 }
 
 // What is answered on the document with the certificate behind it.
-fn answer_to(alloc: Global, block: &Block<'_>, document: &str) -> Result<Answer, NoMemory> {
+fn answer_to(
+    alloc: Global,
+    block: &Block<'_>,
+    turn: Turn,
+    document: &str,
+) -> Result<Answer, NoMemory> {
     let mut input = String::from_str(alloc, document)?;
-    block.certificate.put(&mut input)?;
-    run_on(alloc, &block.words, input.as_bytes())
+    block.certificate.put(&mut input, turn.lines)?;
+    run_turn(alloc, &block.words, turn, input.as_bytes())
+}
+
+// What is answered on the input, or on its first bytes.
+fn run_turn(alloc: Global, words: &[&str], turn: Turn, input: &[u8]) -> Result<Answer, NoMemory> {
+    let input = &input[..turn.bytes.min(input.len())];
+    match turn.budget {
+        Some(budget) => run_within(alloc, words, budget, input),
+        None => run_failing(alloc, words, turn.failing, input),
+    }
+}
+
+fn run_within(
+    alloc: Global,
+    words: &[&str],
+    budget: u32,
+    input: &[u8],
+) -> Result<Answer, NoMemory> {
+    let number = format!(in alloc; "{budget}")?;
+    let mut all = Vec::new(alloc);
+    all.extend_from_slice(words)?;
+    all.push("budget")?;
+    all.push(number.as_str())?;
+    run_on(alloc, &all, input)
+}
+
+fn run_failing(
+    alloc: Global,
+    words: &[&str],
+    failing: Failing,
+    input: &[u8],
+) -> Result<Answer, NoMemory> {
+    match failing {
+        Failing::Nothing => run_on(alloc, words, input),
+        Failing::Read(_) | Failing::Write(_) => run_through(alloc, words, input, failing),
+    }
 }
 
 fn report_of(
     alloc: Global,
     block: &Block<'_>,
+    turn: Turn,
     document: &str,
     answer: &Answer,
 ) -> Result<String, NoMemory> {
-    let name = block.name;
+    let mut line = named(alloc, block.name, turn.number)?;
     let status = answer.status;
-    let mut line = format!(in alloc; "{name}: {status:?}; ")?;
+    line.push_str(&format!(in alloc; ": {status:?}; ")?)?;
     match question_in(block, answer) {
         Some(words) => put_evidence(alloc, &mut line, words, document, answer)?,
         None => put_whole(alloc, &mut line, answer.text())?,
     }
     put_shows(alloc, &mut line, &block.shows, answer)?;
     Ok(line)
+}
+
+// The name of a case, and the number of its run.
+fn named(alloc: Global, name: &str, number: Option<u32>) -> Result<String, NoMemory> {
+    match number {
+        Some(number) => Ok(format!(in alloc; "{name} {number}")?),
+        None => Ok(String::from_str(alloc, name)?),
+    }
 }
 
 // The words of a question that was answered with a certificate.

@@ -3,6 +3,7 @@
 use crate::certificates::Certificate;
 use crate::documents::Document;
 use crate::keys::Key;
+use crate::turns::Numbers;
 use job_runs::NoMemory;
 use std::alloc::Global;
 
@@ -31,6 +32,8 @@ pub(crate) struct Block<'a> {
     /// Whether something is asked, be it no word.
     pub(crate) is_asked: bool,
     pub(crate) words: Vec<&'a str>,
+    /// The numbers for which it is run, if it is run more than once.
+    pub(crate) turns: Option<Numbers>,
     pub(crate) shows: Vec<Show<'a>>,
 }
 
@@ -45,6 +48,7 @@ impl<'a> Block<'a> {
             certificate: Certificate::new(alloc),
             is_asked: false,
             words: Vec::new(alloc),
+            turns: None,
             shows: Vec::new(alloc),
         }
     }
@@ -68,6 +72,9 @@ impl<'a> Block<'a> {
             Key::Case | Key::Document | Key::Like => Ok(false),
             Key::Axioms => self.document.push_axioms(rest),
             Key::Text => self.document.push_text(rest),
+            Key::Lines => self.document.push_lines(rest),
+            Key::More => self.document.push_more(rest),
+            Key::Blanks => Ok(self.document.fill_to(rest)),
             Key::Empty => Ok(rest.is_empty() && self.document.make_whole()),
             Key::Certificate => self.certificate.push(rest),
             Key::Change => Ok(self.certificate.change(rest)),
@@ -79,6 +86,7 @@ impl<'a> Block<'a> {
             Key::Ask => self.ask(rest),
             Key::Word => self.push_word(rest),
             Key::Budget => self.push_budget(rest),
+            Key::Each => Ok(self.take_numbers(rest)),
             Key::Find => self.show(Show::Find(rest), !rest.is_empty()),
             Key::Count => self.show(Show::Count(rest), is_word(rest)),
             Key::First => self.show(Show::First(rest), is_word(rest)),
@@ -108,6 +116,11 @@ impl<'a> Block<'a> {
         self.words.push("budget")?;
         self.words.push(number)?;
         Ok(self.is_asked && is_word(number))
+    }
+
+    fn take_numbers(&mut self, rest: &str) -> bool {
+        self.turns = Numbers::read(rest);
+        self.is_case && self.turns.is_some()
     }
 
     fn show(&mut self, show: Show<'a>, is_whole: bool) -> Result<bool, NoMemory> {

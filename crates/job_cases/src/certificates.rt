@@ -95,12 +95,13 @@ impl<'a> Certificate<'a> {
         true
     }
 
-    /// Puts the lines behind a text.
-    pub(crate) fn put(&self, text: &mut String) -> Result<(), NoMemory> {
+    /// Puts the lines behind a text, or as many of the first ones as are wanted.
+    pub(crate) fn put(&self, text: &mut String, wanted: usize) -> Result<(), NoMemory> {
         let end = if self.has_returns { "\r\n" } else { "\n" };
-        for (index, line) in self.lines.iter().enumerate() {
+        let lines = &self.lines[..wanted.min(self.lines.len())];
+        for (index, line) in lines.iter().enumerate() {
             text.push_str(line)?;
-            if !self.is_unended || index + 1 < self.lines.len() {
+            if !self.is_unended || index + 1 < lines.len() {
                 text.push_str(end)?;
             }
         }

@@ -12,6 +12,9 @@
 //! | `like NAME` | right after the name: the document, the certificate and the words are those of an earlier block |
 //! | `axioms TEXT` | a line of axioms, which stand between a prefix and `Ontology(` on two lines, and `)` |
 //! | `text TEXT` | a line of a document that is given whole |
+//! | `lines N TEXT` | N lines of the same kind; `@` in the text stands for a line's number, from 1 on, `%` for the next |
+//! | `more N TEXT` | the last line goes on with N times this text, which may begin with a blank |
+//! | `blanks N` | blanks stand behind the document, up to N bytes |
 //! | `empty` | the document is given whole, and has no line so far |
 //! | `certificate TEXT` | a line of the certificate, which stands behind the document |
 //! | `change N TEXT` | line N of the certificate is this one |
@@ -23,10 +26,15 @@
 //! | `ask JOB TEXT` | the words, in place of those that were taken over: a job and one text, a job alone, or none |
 //! | `word WORD` | one word more, which may be empty |
 //! | `budget N` | the words `budget` and N |
+//! | `each KIND M N` | the case is run for each number from M to N, and each run is printed, with the number behind the name |
 //! | `find KINDS` | print which kinds of lines, by their first words, the answer has, and which it lacks |
 //! | `count KIND` | print how many lines of a kind it has |
 //! | `first KIND` | print its first line of a kind |
 //! | `steps` | print how many steps it took |
+//!
+//! The kinds of `each` are `budget` (the words `budget` and the number stand behind the others), `cut` (of the input there
+//! are so many bytes alone), `keep` (of the certificate so many lines), `read` and `write` (a read gives at most 8 bytes, a
+//! write takes at most 4, and the one of this number fails).
 //!
 //! Of each case its name is printed, how the run ended, and the answer, with ` | ` between its lines. Of `sat` and
 //! `entails` the first line is printed, and what `check` says of the whole answer as a certificate. Then comes what
@@ -44,6 +52,7 @@ mod faults;
 mod files;
 mod keys;
 mod shows;
+mod turns;
 
 use answers::report;
 use blocks::Block;
@@ -51,6 +60,7 @@ use faults::Fault;
 use files::read_cases;
 use shq_io::{StdSource, read_all};
 use std::alloc::Global;
+use turns::{Numbers, Turn};
 
 // The most bytes of a file of cases.
 const MOST: u32 = 1 << 24;
@@ -77,7 +87,26 @@ fn print_cases(rt: &impl Print, alloc: Global, blocks: &[Block<'_>]) -> Result<(
 }
 
 fn print_case(rt: &impl Print, alloc: Global, block: &Block<'_>) -> Result<(), Fault> {
-    let line = report(alloc, block)?;
+    match block.turns {
+        Some(turns) => print_turns(rt, alloc, block, turns),
+        None => print_turn(rt, alloc, block, Turn::PLAIN),
+    }
+}
+
+fn print_turns(
+    rt: &impl Print,
+    alloc: Global,
+    block: &Block<'_>,
+    turns: Numbers,
+) -> Result<(), Fault> {
+    for number in turns.first..=turns.last {
+        print_turn(rt, alloc, block, turns.turn(number))?;
+    }
+    Ok(())
+}
+
+fn print_turn(rt: &impl Print, alloc: Global, block: &Block<'_>, turn: Turn) -> Result<(), Fault> {
+    let line = report(alloc, block, turn)?;
     println!(rt; "{line}")?;
     Ok(())
 }
