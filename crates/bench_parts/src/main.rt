@@ -1,16 +1,11 @@
 //! Times parts of the program. The first word says which: `sets`, how many times as fast as plain loops the kernels over sets
-//! are; `pinpointing`, nodes, questions and time of the hitting-set tree; `module`, how long a module takes beside the
-//! reading of its document; `blocks`, how long it takes to follow the blocks of chains and rings; `tree`, how fast facts
-//! are put, asked for, joined and undone; `rows`, how long the tables of rows of many axioms and of few take. For any other
-//! word it prints these words. It promises nothing, and is outside of every theorem.
+//! are; `pinpointing`, nodes, questions and time of the hitting-set tree; `tree`, how fast facts are put, asked for, joined
+//! and undone. For any other word it prints these words. It promises nothing, and is outside of every theorem.
 #![tactic(auto)]
 
-mod blocks;
 mod families;
-mod module;
 mod pinpointing;
 mod plain_loops;
-mod rows;
 mod sets;
 mod tree;
 
@@ -23,20 +18,14 @@ use std::{env, io};
 enum Part {
     Sets,
     Pinpointing,
-    Module,
-    Blocks,
     Tree,
-    Rows,
 }
 
 /// The word of each part.
-const PARTS: [(&str, Part); 6] = [
+const PARTS: [(&str, Part); 3] = [
     ("sets", Part::Sets),
     ("pinpointing", Part::Pinpointing),
-    ("module", Part::Module),
-    ("blocks", Part::Blocks),
     ("tree", Part::Tree),
-    ("rows", Part::Rows),
 ];
 
 fn out_of_memory() -> io::Error {
@@ -65,18 +54,13 @@ fn time_part(rt: &(impl Print + Clock), alloc: Global, part: Part) -> io::Result
     match part {
         Part::Sets => sets::run(rt, alloc),
         Part::Pinpointing => pinpointing::run(rt, alloc),
-        Part::Module => module::run(rt, alloc),
-        Part::Blocks => blocks::run(rt, alloc),
         Part::Tree => tree::run(rt, alloc),
-        Part::Rows => rows::run(rt, alloc),
     }
 }
 
 fn main(rt: HostRuntime) -> io::Result<()> {
     match wanted_part(&rt)? {
         Some(part) => time_part(&rt, rt.alloc(), part),
-        None => {
-            println!(rt; "what is timed: one of sets, pinpointing, module, blocks, tree, rows")
-        }
+        None => { println!(rt; "what is timed: one of sets, pinpointing, tree") }
     }
 }
