@@ -9,3 +9,4 @@ pub mod Pushed
 pub mod Fronts
 pub mod BlockFront
 pub mod AuditFirst
+pub mod Counted

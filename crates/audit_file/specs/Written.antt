@@ -12,6 +12,7 @@ use Rattle.refutation_tree.specs.Written.{refutation_text, names_are_listed}
 use Rattle.refutation_tree.specs.ReadBack.{IsWritable}
 use Rattle.audit_file.specs.AuditLists.{AuditLists, IsOrdered}
 use Rattle.audit_file.specs.AuditText.{audit_in}
+use Rattle.audit_file.specs.Fitting.{AreOfAxioms}
 use Rattle.audit_file.specs.declared.entries.Justification.{Justification}
 use Rattle.audit_file.specs.declared.entries.Repair.{Repair}
 
@@ -63,3 +64,18 @@ pub record IsWritableAudit (o : Listed) (a : AuditLists) : Type 0 where
 -- the lines of an audit's text stand for this audit
 abbrev pub AuditsAreReadBack : Type 0
 AuditsAreReadBack = (o : Listed) (a : AuditLists) → AreNames o.classes → AreNames o.roles → IsWritableAudit o a → audit_in o (lines (audit_text o a)) ≡ Ok a
+
+-- An audit as it is kept, over listed names: its lists are in order, no set has a number above its limit, and each
+-- model is one that its text is read back to.
+pub record IsKeptAudit (o : Listed) (a : AuditLists) : Type 0 where
+  pub ordered : IsOrdered a.justifications a.repairs
+  pub justified : All (λ (j : Justification). IsWithin j.set.limit j.set.members) a.justifications
+  pub repaired : All (λ (r : Repair). IsWithin r.set.limit r.set.members) a.repairs
+  pub models : All (λ (r : Repair). IsKept o r.model) a.repairs
+
+-- The text that was written of an audit, over sets of axioms of the document and with refutations that can be written,
+-- is read as that audit, if it has fewer than 2 ^ 32 lines.
+abbrev pub WhatIsWrittenIsRead : Type 0
+WhatIsWrittenIsRead =
+    (o : Listed) (a : AuditLists) → AreNames o.classes → AreNames o.roles → length o.axioms + 1 < 2 ^ 32 → AreOfAxioms o a → All (λ (j : Justification). IsWritable o j.refutation) a.justifications
+    → IsKeptAudit o a → length (lines (audit_text o a)) < 2 ^ 32 → audit_in o (lines (audit_text o a)) ≡ Ok a

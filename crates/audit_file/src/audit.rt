@@ -11,8 +11,8 @@ use shq_terms::NoMemory;
 use std::alloc::Global;
 use std::marker::Model;
 
-/// Sets of axioms from which a query follows, each with a refutation, and sets without which it does not follow, each with
-/// an interpretation. Each list is in the order of sets, and no set stands in it twice.
+/// Sets of axioms from which a query follows, each with a refutation, and sets without which it does not follow, each
+/// with an interpretation. Each list is in the order of sets, and no set stands in it twice.
 #[derive(Drop)]
 pub struct Audit {
     justifications: Vec<Justification>,

@@ -12,16 +12,16 @@ use refutation_tree::Refutation;
 use shq_terms::Ontology;
 use std::alloc::Global;
 
-/// The audit whose text these lines are: `audit`, `justifications M`, for each of them a line `set K ..` and a refutation
-/// from its line `refutation` to its line `end`, `repairs P`, for each of them a line `set K ..` and a model from its line
-/// `model N` to its line `end`, the line `end audit`, and blank lines. The numbers on a line `set` are those of axioms and
-/// ascend, and the sets of each list are in the order of sets, each once.
+/// The audit whose text these lines are: `audit`, `justifications M`, for each of them a line `set K ..` and a
+/// refutation from its line `refutation` to its line `end`, `repairs P`, for each of them a line `set K ..` and a
+/// model from its line `model N` to its line `end`, the line `end audit`, and blank lines. The numbers on a line `set`
+/// are those of axioms and ascend, and the sets of each list are in the order of sets, each once.
 ///
 /// # Errors
 ///
-/// `Malformed` exactly where the lines are no such text, with the number of the first malformed line, where the first of
-/// all has the number 1, and `NoMemory`. Where a needed line is missing, that is the number of lines and one more. A
-/// number above 4,294,967,295 is told as 4,294,967,295.
+/// `Malformed` exactly where the lines are no such text, with the number of the first malformed line, where the first
+/// of all has the number 1, and `NoMemory`. Where a needed line is missing, that is the number of lines and one more.
+/// A number above 4,294,967,295 is told as 4,294,967,295.
 pub fn read_text(alloc: Global, lines: &[&[u8]], ontology: &Ontology) -> Result<Audit, AuditFault>
     ensures audit { IfOk result (λ a. audit_in ontology.now (bytes_of lines.now) ≡ Ok a) }
     ensures fits { IfOk result (Fits ontology.now (length lines.now)) }

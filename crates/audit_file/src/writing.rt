@@ -1,11 +1,12 @@
 // The text of an audit, as it is written.
 ghost use Rattle.std.specs.Prelude.{◌≡◌, ◌++◌, ◌∷◌, [], codes, decimal, length, map, IsTrue, IfOk, OnOk, OnErr};
-ghost use Rattle.std.specs.List.{list_all, flat_map};
-ghost use Rattle.axiom_sets.specs.Sets.{member_list};
+ghost use Rattle.std.specs.List.{All, list_all, flat_map};
+ghost use Rattle.axiom_sets.specs.Sets.{IsWithin, member_list};
 ghost use Rattle.certificate_lines.specs.Written.{spaced};
+ghost use Rattle.finite_model.specs.ReadBack.{IsKept};
 ghost use Rattle.finite_model.specs.Written.{uses_listed_names};
 ghost use Rattle.refutation_tree.specs.Written.{names_are_listed};
-ghost use Rattle.audit_file.specs.Written.{set_text, count_text, justification_text, repair_text, justifications_text, repairs_text, audit_text, audit_is_listed};
+ghost use Rattle.audit_file.specs.Written.{set_text, count_text, justification_text, repair_text, justifications_text, repairs_text, audit_text, audit_is_listed, IsKeptAudit};
 
 use crate::{Audit, Justification, Repair};
 use axiom_sets::AxiomSet;
@@ -13,9 +14,13 @@ use shq_terms::{NoMemory, Ontology};
 use std::alloc::Global;
 
 impl Audit {
-    /// Appends the text of the audit, or nothing: `audit`, `justifications M`, for each justification its line `set K ..`
-    /// and the text of its refutation, `repairs P`, for each repair its line `set K ..` and the text of its model, and `end
-    /// audit`, each with a line feed after it. The classes and roles that it names are listed. The memory is `alloc`'s.
+    /// Appends the text of the audit, or nothing: `audit`, `justifications M`, for each justification its line
+    /// `set K ..` and the text of its refutation, `repairs P`, for each repair its line `set K ..` and the text of its
+    /// model, and `end audit`, each with a line feed after it. The classes and roles that it names are listed. The
+    /// memory is `alloc`'s.
+    ///
+    /// What was written is read as this audit again, where [`what_is_written_is_read`](crate::what_is_written_is_read)
+    /// says so.
     ///
     /// # Errors
     ///
@@ -29,6 +34,7 @@ impl Audit {
         requires { IsTrue (audit_is_listed ontology.now self.now) }
         ensures text { OnOk result (out.new.items ≡ out.old.items ++ audit_text ontology.now self.now) }
         ensures unchanged { OnErr result (out.new.items ≡ out.old.items) }
+        ensures kept { OnOk result (IsKeptAudit ontology.now self.now) }
     {
         let text = self.whole_text(alloc, ontology)?;
         out.extend_from_slice(&text)?;
@@ -37,7 +43,8 @@ impl Audit {
 
     fn whole_text(&self, alloc: Global, ontology: &Ontology) -> Result<Vec<u8>, NoMemory>
         requires { IsTrue (audit_is_listed ontology.now self.now) }
-        ensures { IfOk result (λ text. text.items ≡ audit_text ontology.now self.now) }
+        ensures text { IfOk result (λ text. text.items ≡ audit_text ontology.now self.now) }
+        ensures kept { IfOk result (λ text. IsKeptAudit ontology.now self.now) }
     {
         let mut text = Vec::from_slice(alloc, b"audit")?;
         text.push(b'\n')?;
@@ -56,7 +63,8 @@ fn push_justifications(
     ontology: &Ontology,
 ) -> Result<(), NoMemory>
     requires { IsTrue (list_all (λ j. names_are_listed ontology.now j.refutation) justifications.now) }
-    ensures { OnOk result (text.new.items ≡ text.old.items ++ justifications_text ontology.now justifications.now) }
+    ensures text { OnOk result (text.new.items ≡ text.old.items ++ justifications_text ontology.now justifications.now) }
+    ensures within { OnOk result (All (λ j. IsWithin j.set.limit j.set.members) justifications.now) }
 {
     push_count(alloc, text, b"justifications", justifications.len())?;
     push_each_justification(alloc, text, justifications, ontology)
@@ -69,7 +77,8 @@ fn push_each_justification(
     ontology: &Ontology,
 ) -> Result<(), NoMemory>
     requires { IsTrue (list_all (λ j. names_are_listed ontology.now j.refutation) justifications.now) }
-    ensures { OnOk result (text.new.items ≡ text.old.items ++ flat_map (justification_text ontology.now) justifications.now) }
+    ensures text { OnOk result (text.new.items ≡ text.old.items ++ flat_map (justification_text ontology.now) justifications.now) }
+    ensures within { OnOk result (All (λ j. IsWithin j.set.limit j.set.members) justifications.now) }
 {
     for justification in justifications {
         push_justification(alloc, text, justification, ontology)?;
@@ -84,7 +93,8 @@ fn push_justification(
     ontology: &Ontology,
 ) -> Result<(), NoMemory>
     requires { IsTrue (names_are_listed ontology.now justification.now.refutation) }
-    ensures { OnOk result (text.new.items ≡ text.old.items ++ justification_text ontology.now justification.now) }
+    ensures text { OnOk result (text.new.items ≡ text.old.items ++ justification_text ontology.now justification.now) }
+    ensures within { OnOk result (IsWithin justification.now.set.limit justification.now.set.members) }
 {
     let Justification { set, refutation } = justification;
     push_set(alloc, text, set)?;
@@ -98,7 +108,9 @@ fn push_repairs(
     ontology: &Ontology,
 ) -> Result<(), NoMemory>
     requires { IsTrue (list_all (λ r. uses_listed_names ontology.now r.model) repairs.now) }
-    ensures { OnOk result (text.new.items ≡ text.old.items ++ repairs_text ontology.now repairs.now) }
+    ensures text { OnOk result (text.new.items ≡ text.old.items ++ repairs_text ontology.now repairs.now) }
+    ensures within { OnOk result (All (λ r. IsWithin r.set.limit r.set.members) repairs.now) }
+    ensures kept { OnOk result (All (λ r. IsKept ontology.now r.model) repairs.now) }
 {
     push_count(alloc, text, b"repairs", repairs.len())?;
     push_each_repair(alloc, text, repairs, ontology)
@@ -111,7 +123,9 @@ fn push_each_repair(
     ontology: &Ontology,
 ) -> Result<(), NoMemory>
     requires { IsTrue (list_all (λ r. uses_listed_names ontology.now r.model) repairs.now) }
-    ensures { OnOk result (text.new.items ≡ text.old.items ++ flat_map (repair_text ontology.now) repairs.now) }
+    ensures text { OnOk result (text.new.items ≡ text.old.items ++ flat_map (repair_text ontology.now) repairs.now) }
+    ensures within { OnOk result (All (λ r. IsWithin r.set.limit r.set.members) repairs.now) }
+    ensures kept { OnOk result (All (λ r. IsKept ontology.now r.model) repairs.now) }
 {
     for repair in repairs {
         push_repair(alloc, text, repair, ontology)?;
@@ -126,7 +140,9 @@ fn push_repair(
     ontology: &Ontology,
 ) -> Result<(), NoMemory>
     requires { IsTrue (uses_listed_names ontology.now repair.now.model) }
-    ensures { OnOk result (text.new.items ≡ text.old.items ++ repair_text ontology.now repair.now) }
+    ensures text { OnOk result (text.new.items ≡ text.old.items ++ repair_text ontology.now repair.now) }
+    ensures within { OnOk result (IsWithin repair.now.set.limit repair.now.set.members) }
+    ensures kept { OnOk result (IsKept ontology.now repair.now.model) }
 {
     let Repair { set, model } = repair;
     push_set(alloc, text, set)?;
@@ -151,8 +167,10 @@ fn push_count(
 
 // Appends a line `set K ..`.
 fn push_set(alloc: Global, text: &mut Vec<u8>, set: &AxiomSet) -> Result<(), NoMemory>
-    ensures { OnOk result (text.new.items ≡ text.old.items ++ set_text set.now) }
+    ensures text { OnOk result (text.new.items ≡ text.old.items ++ set_text set.now) }
+    ensures within { IsWithin set.now.limit set.now.members }
 {
+    let _limit = set.limit();
     text.extend_from_slice(b"set")?;
     push_numbers(alloc, text, set)?;
     text.push(b'\n')?;
