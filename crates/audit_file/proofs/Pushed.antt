@@ -1,9 +1,27 @@
--- One text more of a list of texts.
+-- One text more of a list of texts, and what is known of the whole.
 use Rattle.std.proofs.Common.{◌≡◌, ℕ, ◌+◌, ◌<◌, Bool, true, List, ◌∷◌, ◌++◌, length, drop, take, get_or, ap, sym, ◌∙◌, subst, append_assoc}
 use Rattle.std.specs.List.{All, list_all, flat_map}
 use Rattle.std.proofs.lemmas.Bool.{and_parts}
 use Rattle.std.proofs.lemmas.List.{drop_more}
 use Rattle.std.proofs.lemmas.List.Elements.{All-more}
+use Rattle.axiom_sets.specs.Sets.{IsWithin}
+use Rattle.pinpointing_specs.specs.Order.{IsAscending}
+use Rattle.shq_terms.specs.Listed.{Listed}
+use Rattle.finite_model.specs.ReadBack.{IsKept}
+use Rattle.audit_file.specs.AuditLists.{AuditLists, justified_sets, repaired_sets}
+use Rattle.audit_file.specs.Written.{IsKeptAudit}
+use Rattle.audit_file.specs.declared.entries.Justification.{Justification}
+use Rattle.audit_file.specs.declared.entries.Repair.{Repair}
+
+-- what is known of the lists is known of the audit
+pub kept_audit : (o : Listed) (a : AuditLists) (js : List Justification) (rs : List Repair) → js ≡ a.justifications → rs ≡ a.repairs → IsAscending (justified_sets a.justifications) → IsAscending (repaired_sets a.repairs)
+    → All (λ (j : Justification). IsWithin j.set.limit j.set.members) js → All (λ (r : Repair). IsWithin r.set.limit r.set.members) rs → All (λ (r : Repair). IsKept o r.model) rs → IsKeptAudit o a
+kept_audit o a js rs e f up_js up_rs justified repaired models = record {
+  ordered = record { justifications = up_js; repairs = up_rs };
+  justified = subst (All (λ (j : Justification). IsWithin j.set.limit j.set.members)) e justified;
+  repaired = subst (All (λ (r : Repair). IsWithin r.set.limit r.set.members)) f repaired;
+  models = subst (All (λ (r : Repair). IsKept o r.model)) f models;
+}
 
 module _ {X : Type 0} (xs : List X) (i : ℕ) (x : X) (lt : i < length xs) (is : x ≡ get_or xs i x) where
   next : drop i xs ≡ x ∷ drop (i + 1) xs

@@ -41,6 +41,7 @@ impl Audit {
         Ok(())
     }
 
+    #[tactic(auto, using(crate::proofs::Pushed::kept_audit))]
     fn whole_text(&self, alloc: Global, ontology: &Ontology) -> Result<Vec<u8>, NoMemory>
         requires { IsTrue (audit_is_listed ontology.now self.now) }
         ensures text { IfOk result (λ text. text.items ≡ audit_text ontology.now self.now) }
@@ -94,7 +95,7 @@ fn push_justification(
 ) -> Result<(), NoMemory>
     requires { IsTrue (names_are_listed ontology.now justification.now.refutation) }
     ensures text { OnOk result (text.new.items ≡ text.old.items ++ justification_text ontology.now justification.now) }
-    ensures within { OnOk result (IsWithin justification.now.set.limit justification.now.set.members) }
+    ensures within { IsWithin justification.now.set.limit justification.now.set.members }
 {
     let Justification { set, refutation } = justification;
     push_set(alloc, text, set)?;
@@ -141,12 +142,13 @@ fn push_repair(
 ) -> Result<(), NoMemory>
     requires { IsTrue (uses_listed_names ontology.now repair.now.model) }
     ensures text { OnOk result (text.new.items ≡ text.old.items ++ repair_text ontology.now repair.now) }
-    ensures within { OnOk result (IsWithin repair.now.set.limit repair.now.set.members) }
+    ensures within { IsWithin repair.now.set.limit repair.now.set.members }
     ensures kept { OnOk result (IsKept ontology.now repair.now.model) }
 {
     let Repair { set, model } = repair;
     push_set(alloc, text, set)?;
-    model.text(alloc, text, ontology)
+    model.text(alloc, text, ontology)?;
+    Ok(())
 }
 
 // Appends a line of a keyword and a number.

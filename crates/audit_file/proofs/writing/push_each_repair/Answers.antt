@@ -17,6 +17,6 @@ loop-repair-preserved c =
     record {
       text = text_more rs i r lt is (repair_text o) c.args.text.now.items c.loop-repair.text.items c.push_repair.new.text.items c.loop-repair.invariant.text c.in_ok-push_repair.ensures.text;
       listed = all_more rs i r lt is (λ (x : Repair). uses_listed_names o x.model) c.loop-repair.invariant.listed;
-      within = fact_more rs i r lt is (λ (x : Repair). IsWithin x.set.limit x.set.members) c.loop-repair.invariant.within c.in_ok-push_repair.ensures.within;
+      within = fact_more rs i r lt is (λ (x : Repair). IsWithin x.set.limit x.set.members) c.loop-repair.invariant.within c.push_repair.ensures.within;
       kept = fact_more rs i r lt is (λ (x : Repair). IsKept o x.model) c.loop-repair.invariant.kept c.in_ok-push_repair.ensures.kept;
     }
