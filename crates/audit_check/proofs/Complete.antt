@@ -6,8 +6,8 @@ use Rattle.axiom_sets.specs.Sets.{Limited, IsWithin}
 use Rattle.pinpointing_specs.specs.Smallest.{rest, IsMinimalYes, IsMinimalRemoval}
 use Rattle.pinpointing_specs.specs.LocalModule.{of_axioms, FollowsFrom, IsJustification, IsRepair}
 use Rattle.pinpointing_specs.proofs.Kept.{grows}
-use Rattle.minimal_transversals.specs.Audits.{IsAudited}
-use Rattle.minimal_transversals.proofs.Audited.{audited_yes, audited_removals}
+use Rattle.audit_check.specs.Audits.{IsAudited}
+use Rattle.audit_check.proofs.Audited.{audited_yes, audited_removals}
 use Rattle.shq_terms.specs.Listed.{Listed}
 use Rattle.shq_terms.specs.declared.axioms.Numbered.{Numbered}
 use Rattle.shq_terms.specs.declared.axioms.Query.{Query}

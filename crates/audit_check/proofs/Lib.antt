@@ -1,3 +1,8 @@
+pub mod Growing
+pub mod Hits
+pub mod Found
+pub mod Ascending
+pub mod Audited
 pub mod Judged
 pub mod Items
 pub mod Follows

@@ -9,7 +9,7 @@ use Rattle.std.proofs.lemmas.List.{length-map}
 use Rattle.std.proofs.lemmas.Option.{slice_get_read}
 use Rattle.lane_sieve.specs.Sets.{NumberSet}
 use Rattle.axiom_sets.specs.Sets.{Limited}
-use Rattle.minimal_transversals.specs.Listed.{ContainsAnother}
+use Rattle.audit_check.specs.Listed.{ContainsAnother}
 use Rattle.shq_terms.specs.Listed.{Listed}
 use Rattle.shq_terms.specs.NoMemory.{NoMemory}
 use Rattle.shq_terms.specs.declared.axioms.Numbered.{Numbered}

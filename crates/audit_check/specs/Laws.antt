@@ -9,12 +9,11 @@ use Rattle.audit_file.specs.Fitting.{AreOfAxioms}
 use Rattle.audit_check.specs.Sound.{IsSound, ListsAll}
 use Rattle.audit_check.specs.Verdicts.{IsVerdict}
 use Rattle.audit_check.specs.declared.verdict.AuditVerdict.{AuditVerdict}
-use Rattle.audit_check.specs.declared.verdict.AuditVerdict.TheVariants as verdict
 
 -- the lists of a sound audit over sets of axioms are exactly all justifications and all repairs
 abbrev pub SoundAuditsListAll : Type 0
 SoundAuditsListAll = (o : Listed) (q : Query) (a : AuditLists) → AreOfAxioms o a → All (λ s. IsWithin s.limit s.members) (justified_sets a.justifications) → IsSound o q a → ListsAll o q a
 
--- a sound audit gets no other verdict
-abbrev pub SoundAloneIsAccepted : Type 0
-SoundAloneIsAccepted = (o : Listed) (q : Query) (a : AuditLists) (v : AuditVerdict) → IsOrdered a.justifications a.repairs → IsVerdict o q a v → IsSound o q a → v ≡ verdict.Accepted
+-- an audit whose lists are in order has one verdict; a sound one is accepted, since that is a verdict on it
+abbrev pub VerdictsAreUnique : Type 0
+VerdictsAreUnique = (o : Listed) (q : Query) (a : AuditLists) (v w : AuditVerdict) → IsOrdered a.justifications a.repairs → IsVerdict o q a v → IsVerdict o q a w → v ≡ w

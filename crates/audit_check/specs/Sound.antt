@@ -5,8 +5,8 @@ use Rattle.std.specs.FinSet as set
 use Rattle.lane_sieve.specs.Sets.{NumberSet}
 use Rattle.axiom_sets.specs.Sets.{Limited, IsWithin}
 use Rattle.pinpointing_specs.specs.LocalModule.{IsJustification, IsRepair}
-use Rattle.minimal_transversals.specs.Audits.{IsAntichain}
-use Rattle.minimal_transversals.specs.Transversals.{AreTransversals}
+use Rattle.audit_check.specs.Audits.{IsAntichain}
+use Rattle.audit_check.specs.Transversals.{AreTransversals}
 use Rattle.shq_terms.specs.Listed.{Listed}
 use Rattle.shq_terms.specs.declared.axioms.Numbered.{Numbered}
 use Rattle.shq_terms.specs.declared.axioms.Query.{Query}
@@ -26,8 +26,8 @@ abbrev pub meets_rest : Interpretation → ℕ → NumberSet → List Numbered �
 meets_rest i k s [] = true
 meets_rest i k s (a ∷ as_) = (set.contains s k || meets i a.axiom) && meets_rest i (k + 1) s as_
 
--- the model meets the axioms without those of the set, and some element is in the left class of the query and not in the
--- right one
+-- the model meets the axioms without those of the set, and some element is in the left class of the query and not in
+-- the right one
 pub record IsCounterModel (axioms : List Numbered) (q : Query) (r : Repair) : Type 0 where
   pub meets_them : IsTrue (meets_rest (meaning r.model) 1 r.set.members axioms)
   pub refutes : (x : ℕ) × (x < r.model.size) × (refutes_at (meaning r.model) q x ≡ true)

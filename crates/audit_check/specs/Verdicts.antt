@@ -1,8 +1,8 @@
 -- The verdict on an audit: at which place it fails first.
 use Rattle.std.specs.Prelude.{◌≡◌, ℕ, ◌+◌, ◌<◌, List, length, Some, slice_get}
 use Rattle.certificate_lines.specs.Malformed.{clamped_line}
-use Rattle.minimal_transversals.specs.Listed.{ContainsAnother}
-use Rattle.minimal_transversals.specs.Transversals.{AreTransversals}
+use Rattle.audit_check.specs.Listed.{ContainsAnother}
+use Rattle.audit_check.specs.Transversals.{AreTransversals}
 use Rattle.shq_terms.specs.Listed.{Listed}
 use Rattle.shq_terms.specs.declared.axioms.Numbered.{Numbered}
 use Rattle.shq_terms.specs.declared.axioms.Query.{Query}

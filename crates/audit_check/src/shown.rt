@@ -8,10 +8,10 @@ ghost use Rattle.audit_file.specs.Fitting.{IsOfAxioms};
 ghost use Rattle.audit_check.specs.Sound.{IsShown, meets_rest, IsCounterModel};
 ghost use Rattle.audit_check.specs.Verdicts.{JustificationHolds, RepairHolds, JustificationsHold, RepairsHold, FailsFirst};
 
+use crate::listed::contains_another;
 use audit_file::{Justification, Repair};
 use axiom_sets::AxiomSet;
 use finite_model::Interp;
-use minimal_transversals::contains_another;
 use refutation_check::{Verdict, check};
 use shq_terms::{NoMemory, Ontology, Query};
 use std::alloc::Global;

@@ -3,19 +3,19 @@ ghost use Rattle.std.specs.Prelude.{◌≡◌, ◌≤◌, ◌↔◌, IsTrue, IfO
 ghost use Rattle.std.specs.List.{All};
 ghost use Rattle.ontology_limits.specs.Limits.{IsInLimit};
 ghost use Rattle.axiom_sets.specs.Sets.{IsWithin};
-ghost use Rattle.minimal_transversals.specs.Transversals.{AreTransversals};
-ghost use Rattle.audit_file.specs.AuditLists.{justified_sets, repaired_sets};
+ghost use Rattle.audit_check.specs.Transversals.{AreTransversals};
+ghost use Rattle.audit_file.specs.AuditLists.{justified_sets, repaired_sets, IsOrdered};
 ghost use Rattle.audit_file.specs.Fitting.{AreOfAxioms};
 ghost use Rattle.audit_check.specs.Sound.{ListsAll};
 ghost use Rattle.audit_check.specs.Verdicts.{JustificationsHold, IsVerdict};
 ghost use Rattle.audit_check.specs.declared.verdict.AuditVerdict.TheVariants as verdict;
 
+use crate::listed::are_transversals;
 use crate::lists::{justified_sets, repaired_sets};
 use crate::shown::{first_failing_justification, first_failing_repair};
 use audit_file::Audit;
 use axiom_sets::AxiomSet;
 use certificate_lines::clamped_line;
-use minimal_transversals::are_transversals;
 use shq_terms::{NoMemory, Ontology, Query};
 use std::alloc::Global;
 
@@ -32,12 +32,13 @@ pub enum AuditVerdict {
     Transversal,
 }
 
-/// Whether an audit is sound for an ontology and a query, else at which place it fails first. Justifications come before
-/// repairs, and both before the question whether the two lists fit each other.
+/// Whether an audit is sound for an ontology and a query, else at which place it fails first. Justifications come
+/// before repairs, and both before the question whether the two lists fit each other.
 ///
 /// # Errors
 ///
 /// Out of memory.
+#[tactic(auto, using(crate::proofs::Accepted::ordered_both))]
 pub fn verify(
     alloc: Global,
     ontology: &Ontology,
@@ -49,7 +50,9 @@ pub fn verify(
     requires lines { All (λ j. length j.refutation.lines ≤ 4294967293) audit.now.justifications }
     ensures verdict { IfOk result (IsVerdict ontology.now query.now audit.now) }
     ensures all { IfOk result (λ v. v ≡ verdict.Accepted → ListsAll ontology.now query.now audit.now) }
+    ensures ordered { IsOrdered audit.now.justifications audit.now.repairs }
 {
+    let _repairs = audit.repairs();
     let sets = justified_sets(alloc, audit.justifications())?;
     match first_failing_justification(alloc, ontology, query, audit.justifications(), &sets)? {
         Some(place) => Ok(AuditVerdict::Justification(clamped_line(place + 1))),

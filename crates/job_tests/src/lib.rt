@@ -1,10 +1,12 @@
 //! Tests of the jobs that no text can say: budgets from one step on, calls that fail, lists and taxonomies compared
-//! with what all subsets and all pairs say, long documents, and calls below the jobs. What can be said by text stands
+//! with what all subsets and all pairs say, long documents, audits, and calls below the jobs. What can be said by text stands
 //! in `job_cases`.
 #![tactic(auto)]
 
 #[cfg(test)]
 mod asker_tests;
+#[cfg(test)]
+mod audit_tests;
 #[cfg(test)]
 mod budget_tests;
 #[cfg(test)]
@@ -21,3 +23,5 @@ mod set_tests;
 mod subset_tests;
 #[cfg(test)]
 mod taxonomy_tests;
+#[cfg(test)]
+mod transversal_tests;

@@ -8,6 +8,4 @@ mod family_tests;
 #[cfg(test)]
 mod module_tests;
 #[cfg(test)]
-mod transversal_tests;
-#[cfg(test)]
 mod written_sets;

@@ -4,7 +4,7 @@ use Rattle.std.proofs.lemmas.Bool.{true≢false}
 use Rattle.std.proofs.lemmas.List.{length-map}
 use Rattle.std.proofs.lemmas.Option.{slice_get_read}
 use Rattle.axiom_sets.specs.Sets.{Limited}
-use Rattle.minimal_transversals.specs.Listed.{ContainsAnother}
+use Rattle.audit_check.specs.Listed.{ContainsAnother}
 use Rattle.audit_file.specs.declared.entries.Justification.{Justification}
 use Rattle.audit_check.proofs.Places.{justified_limits, same_limits, holds_ok}
 use Rattle.audit_check.proofs.shown.justification_holds.Goals as goal

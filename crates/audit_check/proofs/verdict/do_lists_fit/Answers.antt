@@ -1,7 +1,7 @@
 use Rattle.std.proofs.Common.{◌≡◌, List, ap, ◌∙◌, subst}
 use Rattle.std.specs.Prelude.{◌↔◌, IsTrue, IfOk}
 use Rattle.axiom_sets.specs.Sets.{Limited}
-use Rattle.minimal_transversals.specs.Transversals.{AreTransversals}
+use Rattle.audit_check.specs.Transversals.{AreTransversals}
 use Rattle.audit_file.specs.AuditLists.{repaired_sets}
 use Rattle.audit_check.proofs.verdict.do_lists_fit.Goals as goal
 

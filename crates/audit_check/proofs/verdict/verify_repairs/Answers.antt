@@ -2,7 +2,7 @@ use Rattle.std.proofs.Common.{◌≡◌, ℕ, List, length, sym, ◌∙◌, subs
 use Rattle.std.specs.List.{All}
 use Rattle.std.proofs.lemmas.Bool.{true≢false}
 use Rattle.axiom_sets.specs.Sets.{Limited, IsWithin}
-use Rattle.minimal_transversals.specs.Transversals.{AreTransversals}
+use Rattle.audit_check.specs.Transversals.{AreTransversals}
 use Rattle.audit_file.specs.AuditLists.{justified_sets, repaired_sets}
 use Rattle.audit_file.specs.declared.entries.Repair.{Repair}
 use Rattle.audit_check.specs.Verdicts.{RepairsHold}
