@@ -1,0 +1,4 @@
+pub mod Replied
+pub mod Reasons
+pub mod InLimit
+pub mod OneAnswer
