@@ -39,6 +39,7 @@ class Job:
 
 JOBS = {
     "check": Job(("AXIOM",), has_budget=False),
+    "audit": Job(("AXIOM",), has_budget=False),
     "entails": Job(("AXIOM",)),
     "sat": Job(("CLASS",)),
     "classify": Job(()),

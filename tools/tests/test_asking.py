@@ -46,6 +46,7 @@ class Words(unittest.TestCase):
             "sat :A f.ofn --budget 5": ("sat :A budget 5", "f.ofn"),
             "explain --budget 5 X f.ofn": ("explain X budget 5", "f.ofn"),
             "check X f.txt": ("check X", "f.txt"),
+            "audit X f.txt": ("audit X", "f.txt"),
             "classify --help": ("classify --help", None),
             "workload 5 f.ofn": ("workload 5 f.ofn", None),
             "other word": ("other word", None),

@@ -34,7 +34,7 @@ fn answer_to(
     document: &str,
 ) -> Result<Answer, NoMemory> {
     let mut input = String::from_str(alloc, document)?;
-    block.certificate.put(&mut input, turn.lines)?;
+    block.certificate.put(&mut input, turn)?;
     run_turn(alloc, &block.words, turn, input.as_bytes())
 }
 

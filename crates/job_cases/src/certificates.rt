@@ -1,5 +1,6 @@
 // What stands behind a document.
 
+use crate::turns::Turn;
 use job_runs::NoMemory;
 use std::alloc::Global;
 
@@ -95,17 +96,38 @@ impl<'a> Certificate<'a> {
         true
     }
 
-    /// Puts the lines behind a text, or as many of the first ones as are wanted.
-    pub(crate) fn put(&self, text: &mut String, wanted: usize) -> Result<(), NoMemory> {
-        let end = if self.has_returns { "\r\n" } else { "\n" };
-        let lines = &self.lines[..wanted.min(self.lines.len())];
+    /// Puts the lines behind a text, or those of a run, as that has them.
+    pub(crate) fn put(&self, text: &mut String, turn: Turn) -> Result<(), NoMemory> {
+        let lines = &self.lines[..turn.lines.min(self.lines.len())];
         for (index, line) in lines.iter().enumerate() {
-            text.push_str(line)?;
-            if !self.is_unended || index + 1 < lines.len() {
-                text.push_str(end)?;
+            if !is_at(turn.dropped, index) {
+                text.push_str(line)?;
+                if is_at(turn.spoiled, index) {
+                    text.push_str(" x")?;
+                }
+                text.push_str(self.end_of(index + 1 < lines.len()))?;
             }
         }
         Ok(())
+    }
+
+    // What stands behind a line, by whether one more follows.
+    fn end_of(&self, is_followed: bool) -> &'static str {
+        if self.is_unended && !is_followed {
+            ""
+        } else if self.has_returns {
+            "\r\n"
+        } else {
+            "\n"
+        }
+    }
+}
+
+// Whether a number, counted from 1, is that of a place, counted from 0.
+fn is_at(number: Option<u32>, place: usize) -> bool {
+    match number {
+        Some(number) => number as usize == place.saturating_add(1),
+        None => false,
     }
 }
 

@@ -33,8 +33,9 @@
 //! | `steps` | print how many steps it took |
 //!
 //! The kinds of `each` are `budget` (the words `budget` and the number stand behind the others), `cut` (of the input there
-//! are so many bytes alone), `keep` (of the certificate so many lines), `read` and `write` (a read gives at most 8 bytes, a
-//! write takes at most 4, and the one of this number fails).
+//! are so many bytes alone), `keep` (of the certificate so many lines), `drop` (it lacks the line of this number), `spoil`
+//! (that line has a word more), `read` and `write` (a read gives at most 8 bytes, a write takes at most 4, and the one of
+//! this number fails).
 //!
 //! Of each case its name is printed, how the run ended, and the answer, with ` | ` between its lines. Of `sat` and
 //! `entails` the first line is printed, and what `check` says of the whole answer as a certificate. Then comes what

@@ -7,16 +7,20 @@ use job_runs::Failing;
 enum Kind {
     Budget,
     Cut,
+    Drop,
     Keep,
     Read,
+    Spoil,
     Write,
 }
 
 const KINDS: &[(&str, Kind)] = &[
     ("budget", Kind::Budget),
     ("cut", Kind::Cut),
+    ("drop", Kind::Drop),
     ("keep", Kind::Keep),
     ("read", Kind::Read),
+    ("spoil", Kind::Spoil),
     ("write", Kind::Write),
 ];
 
@@ -39,6 +43,10 @@ pub(crate) struct Turn {
     pub(crate) bytes: usize,
     /// How many lines the certificate has at most.
     pub(crate) lines: usize,
+    /// Which line of the certificate is left out, counted from 1.
+    pub(crate) dropped: Option<u32>,
+    /// Which line of it has a word more.
+    pub(crate) spoiled: Option<u32>,
     /// Which call fails.
     pub(crate) failing: Failing,
 }
@@ -50,6 +58,8 @@ impl Turn {
         budget: None,
         bytes: usize::MAX,
         lines: usize::MAX,
+        dropped: None,
+        spoiled: None,
         failing: Failing::Nothing,
     };
 }
@@ -84,12 +94,20 @@ impl Numbers {
                 bytes: number as usize,
                 ..plain
             },
+            Kind::Drop => Turn {
+                dropped: Some(number),
+                ..plain
+            },
             Kind::Keep => Turn {
                 lines: number as usize,
                 ..plain
             },
             Kind::Read => Turn {
                 failing: Failing::Read(number),
+                ..plain
+            },
+            Kind::Spoil => Turn {
+                spoiled: Some(number),
                 ..plain
             },
             Kind::Write => Turn {

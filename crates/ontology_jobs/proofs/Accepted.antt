@@ -7,7 +7,12 @@ use Rattle.shq_terms.specs.declared.axioms.Query.{Query as Asked}
 use Rattle.shq_meaning.specs.Truth.{Entails}
 use Rattle.decision_jobs.proofs.Truth.{followed, not_followed}
 use Rattle.run_log.specs.declared.entry.Entry.{Entry}
-use Rattle.ontology_jobs.specs.Words.{check}
+use Rattle.audit_jobs.specs.Audited.{IsAuditEnd, IsJudgedOn, end_answer}
+use Rattle.audit_jobs.specs.AuditVerdict.{AuditVerdict}
+use Rattle.audit_jobs.specs.AuditVerdict.TheVariants as A
+use Rattle.audit_jobs.specs.Unread.{Unread}
+use Rattle.audit_jobs.specs.Unread.TheVariants as U
+use Rattle.ontology_jobs.specs.Words.{check, audit}
 use Rattle.classification_jobs.specs.LimitLaws.{with_names}
 use Rattle.classification_jobs.specs.Asked.{Reply, judged, refused_document, refused_query, malformed_line}
 use Rattle.decision_jobs.specs.Checking.{IsVerdictOn, first_unmet, Shows, IsReply, no_document, no_query, shown}
@@ -15,7 +20,7 @@ use Rattle.classification_jobs.specs.Complaints.{Complaint, sort_status, complai
 use Rattle.classification_jobs.specs.Answer.{line, Answer, complaint_answer}
 use Rattle.classification_jobs.specs.Replies.{reply_answer}
 use Rattle.ontology_jobs.specs.Answers.{AnswersJob}
-use Rattle.ontology_jobs.specs.Laws.{HaveRead}
+use Rattle.ontology_jobs.specs.Laws.{HaveRead, HaveAudited, AcceptedAuditsListAll}
 use Rattle.decision_jobs.specs.Certificate.{Certificate}
 use Rattle.decision_jobs.specs.Certificate.TheVariants as C
 use Rattle.classification_jobs.specs.Place.{Place}
@@ -83,3 +88,28 @@ module _ (query bytes : List ℕ) where
         | inl (entailed, long) ↦ absurd (omega (arith, long))
         | inr (not_entailed, long) ↦ judged_on (λ axioms q. Entails axioms q → ⊥) NotEntailed not_followed r not_entailed says
       ]
+
+-- ---- audits
+
+module _ (query bytes out : List ℕ) where
+  -- an audit that is accepted lists all
+  all_listed : IsJudgedOn query bytes A.Accepted → HaveAudited query bytes
+  all_listed j = record { both = j.both; asked = j.asked; rest = j.rest; lists = j.audit; is_asked = j.is_asked; is_audit = j.is_audit; are_all = j.judged.lists_all refl }
+
+  -- only one that is accepted is done
+  end_lists : (end : Result AuditVerdict Unread) → IsAuditEnd query bytes end → ◌≡◌ {A = Answer} (Done, out) (end_answer end) → HaveAudited query bytes
+  end_lists (Ok A.Accepted) says is = all_listed says
+  end_lists (Ok (A.Justification n)) says is = let clash = ap (λ (a : Answer). a.0) is in absurd (cc clash)
+  end_lists (Ok (A.Repair n)) says is = let clash = ap (λ (a : Answer). a.0) is in absurd (cc clash)
+  end_lists (Ok A.Transversal) says is = let clash = ap (λ (a : Answer). a.0) is in absurd (cc clash)
+  end_lists (Err (U.Document e)) says is = absurd (no_complaint_is_done P.Document (complaint e) out is)
+  end_lists (Err (U.Query e)) says is = absurd (no_complaint_is_done P.Query (complaint e) out is)
+  end_lists (Err (U.Line n)) says is = let clash = ap (λ (a : Answer). a.0) is in absurd (cc clash)
+  end_lists (Err U.NoMemory) says is = let clash = ap (λ (a : Answer). a.0) is in absurd (cc clash)
+
+  done_lists : (log : List Entry) → AnswersJob (audit query) bytes out Done log → HaveAudited query bytes
+  done_lists log (inl long) = let clash = ap (λ (a : Answer). a.0) long.answer in absurd (cc clash)
+  done_lists log (inr (short, ((end, says, is), none))) = end_lists end says is
+
+pub lists_all : AcceptedAuditsListAll
+lists_all query bytes log answer = done_lists query bytes (line (codes "accepted audit")) log answer

@@ -8,11 +8,11 @@ use Rattle.classification_jobs.specs.Replies.{reply_answer}
 use Rattle.classification_jobs.specs.Status.{Status}
 use Rattle.classification_jobs.specs.Status.TheVariants.{Done, Rejected, BadWords, BadText, Outside, Limit, ReadFault, WriteFault, Undecided, NoMemory}
 use Rattle.classification_jobs.proofs.OneReading.{alone_not_refused, alone_refusals, questions_not_refused, question_refusals}
-use Rattle.ontology_jobs.specs.Words.{Job, check, decide, classify, pinpoint, Request, on_input, generated, request_of}
+use Rattle.ontology_jobs.specs.Words.{Job, check, audit, decide, classify, pinpoint, Request, on_input, generated, request_of}
 use Rattle.ontology_jobs.specs.Answers.{IsTooLong, IsBadWords, AnswersJob, AnswersRequest}
 use Rattle.ontology_jobs.specs.Laws.{IsFinal, IsRefusal, IsFaultless, RefusalsAreAnsweredAlike}
 use Rattle.ontology_jobs.proofs.Ended.{Ended, too_long, is_refused, is_done, is_undecided, RefusesDocument, IsReadBy, IsReadDocument, question_ended, list_ended, class_ended, workload_ended}
-use Rattle.ontology_jobs.proofs.Decided.{same_check}
+use Rattle.ontology_jobs.proofs.Decided.{same_check, same_audit}
 use Rattle.ontology_jobs.proofs.Spending.{spends_all}
 
 -- ---- statuses
@@ -77,8 +77,22 @@ checked_final query bytes out WriteFault log known answer = absurd known
 checked_final query bytes out Undecided log known answer = spends_all (on_input (check query)) bytes out log answer
 checked_final query bytes out NoMemory log known answer = absurd known
 
+-- nor is an audit
+audited_final : (query bytes out : List ℕ) (t : Status) (log : List Entry) → IsFaultless t → AnswersJob (audit query) bytes out t log → IsFinal t
+audited_final query bytes out Done log known answer = tt
+audited_final query bytes out Rejected log known answer = tt
+audited_final query bytes out BadWords log known answer = tt
+audited_final query bytes out BadText log known answer = tt
+audited_final query bytes out Outside log known answer = tt
+audited_final query bytes out Limit log known answer = tt
+audited_final query bytes out ReadFault log known answer = absurd known
+audited_final query bytes out WriteFault log known answer = absurd known
+audited_final query bytes out Undecided log known answer = spends_all (on_input (audit query)) bytes out log answer
+audited_final query bytes out NoMemory log known answer = absurd known
+
 by_job_alike : (job : Job) (bytes out text : List ℕ) (s t : Status) (log more : List Entry) → IsRefusal s → IsFaultless t → AnswersJob job bytes out s log → AnswersJob job bytes text t more → (s ≡ t) × (out ≡ text)
 by_job_alike (check query) bytes out text s t log more r known a b = same_check query bytes out text s t log more (is_final s r) (checked_final query bytes text t more known b) a b
+by_job_alike (audit query) bytes out text s t log more r known a b = same_audit query bytes out text s t log more (is_final s r) (audited_final query bytes text t more known b) a b
 by_job_alike (decide question budget) bytes out text s t log more r known a b =
     two_ends (IsRefusedQuestion question bytes) (IsReadBy question bytes) (λ p so why. questions_not_refused question bytes so.0 so.1 p so.2 why) (question_refusals question bytes) bytes out text s t log more r
     (question_ended question budget bytes out s log (faultless s r) a) (question_ended question budget bytes text t more known b)

@@ -5,10 +5,10 @@ use Rattle.classification_jobs.specs.Answer.{Answer}
 use Rattle.classification_jobs.specs.Asked.{Reply}
 use Rattle.classification_jobs.specs.Status.{Status}
 use Rattle.classification_jobs.specs.Status.TheVariants.{Done, BadWords, Limit, Undecided}
-use Rattle.ontology_jobs.specs.Words.{Job, check, decide, classify, pinpoint, Request, on_input, generated, request_of}
+use Rattle.ontology_jobs.specs.Words.{Job, check, audit, decide, classify, pinpoint, Request, on_input, generated, request_of}
 use Rattle.ontology_jobs.specs.Answers.{IsTooLong, IsBadWords, AnswersJob, AnswersRequest, Answers, AnswersAll}
 use Rattle.ontology_jobs.specs.Laws.{AsksForNothing, BadWordsAskForNothing}
-use Rattle.ontology_jobs.proofs.Said.{not_said}
+use Rattle.ontology_jobs.proofs.Said.{not_said, not_audited}
 use Rattle.ontology_jobs.proofs.Ended.{Ended, too_long, is_refused, is_done, is_undecided, question_ended, list_ended, class_ended, workload_ended}
 
 no_limit : (bytes out : List ℕ) (log : List Entry) → IsTooLong bytes out BadWords log → ⊥
@@ -23,6 +23,8 @@ no_end refused read bytes out log (is_undecided short so is) = absurd (cc is)
 no_job : (job : Job) (bytes out : List ℕ) (log : List Entry) → AnswersJob job bytes out BadWords log → ⊥
 no_job (check query) bytes out log (inl long) = no_limit bytes out log long
 no_job (check query) bytes out log (inr (short, ((r, says, is), none))) = not_said BadWords refl r out is
+no_job (audit query) bytes out log (inl long) = no_limit bytes out log long
+no_job (audit query) bytes out log (inr (short, ((end, says, is), none))) = not_audited BadWords refl end out is
 no_job (decide question budget) bytes out log answer = no_end _ _ bytes out log (question_ended question budget bytes out BadWords log tt answer)
 no_job (classify budget) bytes out log answer = no_end _ _ bytes out log (class_ended budget bytes out BadWords log tt answer)
 no_job (pinpoint w inclusion budget) bytes out log answer = no_end _ _ bytes out log (list_ended w inclusion budget bytes out BadWords log tt answer)

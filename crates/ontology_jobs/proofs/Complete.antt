@@ -7,6 +7,11 @@ use Rattle.ofn_reader.specs.Queries.{query_start}
 use Rattle.ofn_reader.proofs.Unique.{documents, documents_not_refused, queries_not_refused}
 use Rattle.run_log.specs.declared.entry.Entry.{Entry}
 use Rattle.run_log.specs.Entries.{spent_of, is_spent}
+use Rattle.audit_jobs.specs.Audited.{Audited, IsAuditEnd, end_answer}
+use Rattle.audit_jobs.specs.AuditVerdict.{AuditVerdict}
+use Rattle.audit_jobs.specs.AuditVerdict.TheVariants as A
+use Rattle.audit_jobs.specs.Unread.{Unread}
+use Rattle.audit_jobs.specs.Unread.TheVariants as U
 use Rattle.decision_jobs.specs.Checked.{Checked}
 use Rattle.decision_jobs.specs.Checking.{Shows, IsReply, no_document, no_query, shown}
 use Rattle.classification_jobs.specs.Answer.{Answer}
@@ -19,7 +24,7 @@ use Rattle.classification_jobs.specs.Verdict.TheVariants.{NotEntailed, Entailed,
 use Rattle.classification_jobs.specs.Status.{Status}
 use Rattle.classification_jobs.specs.Status.TheVariants.{Done, Rejected, BadWords, BadText, Outside, Limit, ReadFault, WriteFault, Undecided, NoMemory}
 use Rattle.classification_jobs.proofs.OneReading.{alone_not_refused, questions_not_refused}
-use Rattle.ontology_jobs.specs.Words.{Job, check, decide, classify, pinpoint, Request, on_input, generated, request_of}
+use Rattle.ontology_jobs.specs.Words.{Job, check, audit, decide, classify, pinpoint, Request, on_input, generated, request_of}
 use Rattle.ontology_jobs.specs.Answers.{IsTooLong, IsBadWords, AreAll, AnswersJob, AnswersRequest, Answers, AnswersAll}
 use Rattle.ontology_jobs.specs.Laws.{IsFaultless}
 use Rattle.ontology_jobs.specs.Complete.{BeginsWithDocument, IsReadable, HasLeft, IsDone, IsJudged, EndsWell, JobsAreDone, WorkloadsAreDone, IsComplete}
@@ -82,6 +87,36 @@ checked query bytes out WriteFault known b c = absurd known
 checked query bytes out Undecided known b (r, says, is) = replied query bytes r Undecided out b says is
 checked query bytes out NoMemory known b c = absurd known
 
+-- ---- audits
+
+known_judged : (s t : Status) (out text : List ℕ) → ◌≡◌ {A = Answer} (s, out) (t, text) → IsJudged t → IsJudged s
+known_judged s t out text is judged = subst IsJudged (sym (ap (λ (a : Answer). a.0) is)) judged
+
+end_judged : (query bytes : List ℕ) (s : Status) (out : List ℕ) → IsFaultless s → BeginsWithDocument query bytes → (end : Result AuditVerdict Unread) → IsAuditEnd query bytes end → ◌≡◌ {A = Answer} (s, out) (end_answer end) → IsJudged s
+end_judged query bytes s out known b (Ok A.Accepted) says is = known_judged s Done out _ is tt
+end_judged query bytes s out known b (Ok (A.Justification n)) says is = known_judged s Rejected out _ is tt
+end_judged query bytes s out known b (Ok (A.Repair n)) says is = known_judged s Rejected out _ is tt
+end_judged query bytes s out known b (Ok A.Transversal) says is = known_judged s Rejected out _ is tt
+end_judged query bytes s out known b (Err (U.Document e)) why is = absurd (documents_not_refused bytes b.document b.kept b.end e b.is_document why)
+end_judged query bytes s out known b (Err (U.Query e)) why is =
+    let same = documents bytes b.document why.document b.kept why.kept b.end why.end b.is_document why.is_document in
+    let there : IsAsked why.document why.kept query b.counts b.asked = subst (λ k. IsAsked why.document k query b.counts b.asked) same.1 (subst (λ l. IsAsked l b.kept query b.counts b.asked) same.0 b.is_query) in
+    absurd (queries_not_refused why.kept.prefixes why.document.axioms (query_start why.document why.kept.nodes) query b.counts b.asked e there why.not_asked)
+end_judged query bytes s out known b (Err (U.Line n)) why is = known_judged s Rejected out _ is tt
+end_judged query bytes s out known b (Err U.NoMemory) why is = absurd (subst IsFaultless (ap (λ (a : Answer). a.0) is) known)
+
+audited : (query bytes out : List ℕ) (s : Status) → IsFaultless s → BeginsWithDocument query bytes → Audited query bytes out s → IsJudged s
+audited query bytes out Done known b (end, says, is) = end_judged query bytes Done out known b end says is
+audited query bytes out Rejected known b (end, says, is) = end_judged query bytes Rejected out known b end says is
+audited query bytes out BadWords known b (end, says, is) = end_judged query bytes BadWords out known b end says is
+audited query bytes out BadText known b (end, says, is) = end_judged query bytes BadText out known b end says is
+audited query bytes out Outside known b (end, says, is) = end_judged query bytes Outside out known b end says is
+audited query bytes out Limit known b (end, says, is) = end_judged query bytes Limit out known b end says is
+audited query bytes out ReadFault known b c = absurd known
+audited query bytes out WriteFault known b c = absurd known
+audited query bytes out Undecided known b (end, says, is) = end_judged query bytes Undecided out known b end says is
+audited query bytes out NoMemory known b c = absurd known
+
 -- ---- jobs
 
 undecided : (job : Job) (bytes out : List ℕ) (s : Status) (log : List Entry) → s ≡ Undecided → AnswersJob job bytes out s log → AnswersJob job bytes out Undecided log
@@ -92,6 +127,11 @@ jobs_are_done (check query) bytes out s log readable left known answer =
     elim (by_job (check query) bytes out s log known answer) [
       | inl long ↦ absurd (omega (arith, readable.short, long.long))
       | inr read ↦ checked query bytes out s known readable.read read.1.0
+    ]
+jobs_are_done (audit query) bytes out s log readable left known answer =
+    elim (by_job (audit query) bytes out s log known answer) [
+      | inl long ↦ absurd (omega (arith, readable.short, long.long))
+      | inr read ↦ audited query bytes out s known readable.read read.1.0
     ]
 jobs_are_done (decide question budget) bytes out s log readable left known answer =
     done_by (IsRefusedQuestion question bytes) (IsReadBy question bytes) (λ r so why. questions_not_refused question bytes so.0 so.1 r so.2 why) bytes out log s readable.short readable.read

@@ -18,7 +18,12 @@ use Rattle.ofn_reader.specs.Queries.{query_start}
 use Rattle.ofn_reader.proofs.OneReason.{document_refusals, query_refusals}
 use Rattle.ofn_reader.proofs.Unique.{documents, documents_not_refused, queries, queries_not_refused}
 use Rattle.run_log.specs.declared.entry.Entry.{Entry}
-use Rattle.ontology_jobs.specs.Words.{Job, check, decide, classify, pinpoint, Request, on_input, generated, request_of}
+use Rattle.ontology_jobs.specs.Words.{Job, check, audit, decide, classify, pinpoint, Request, on_input, generated, request_of}
+use Rattle.audit_jobs.specs.Audited.{IsAuditEnd, end_answer}
+use Rattle.audit_jobs.specs.AuditVerdict.{AuditVerdict}
+use Rattle.audit_jobs.proofs.OneAnswer.{IsKnown, one_end}
+use Rattle.audit_jobs.specs.Unread.{Unread}
+use Rattle.audit_jobs.specs.Unread.TheVariants as U
 use Rattle.decision_jobs.specs.Certificates.{certificate_lines}
 use Rattle.decision_jobs.specs.Malformed.{certificate_read}
 use Rattle.decision_jobs.proofs.FirstMalformed.{first_is_one, malformed_is_none}
@@ -143,23 +148,36 @@ same_said query bytes _ _ (shown o k d b x r is asked shows) (shown p j c a y q 
     let there = moved (λ l i n. IsAsked l i query b x × Shows (with_names l b) x (drop n bytes) r) bytes o p k j d c is are (asked, shows) in
     same_asked query bytes p j c b a x y r q there.0 sought there.1 others
 
--- the two answers of a verification, each with what holds then
-data Outcome (query bytes : List ℕ) (a : Answer) : Type 0 where
-  too_long : 2 ^ 24 < length bytes → ◌≡◌ {A = Answer} a (Limit, line (codes "limit text")) → Outcome query bytes a
-  replied : length bytes ≤ 2 ^ 24 → (r : Reply) → IsReply query bytes r → ◌≡◌ {A = Answer} a (reply_answer r) → Outcome query bytes a
+-- the answers of a job that does not search: the input is too long, or the job says this
+data Outcome (says : Answer → Type 0) (bytes : List ℕ) (a : Answer) : Type 0 where
+  too_long : 2 ^ 24 < length bytes → ◌≡◌ {A = Answer} a (Limit, line (codes "limit text")) → Outcome says bytes a
+  replied : length bytes ≤ 2 ^ 24 → says a → Outcome says bytes a
 
-same_outcome : (query bytes : List ℕ) (a b : Answer) → Outcome query bytes a → Outcome query bytes b → ◌≡◌ {A = Answer} a b
-same_outcome query bytes a b (too_long long p) (too_long more q) = p ∙ sym q
-same_outcome query bytes a b (too_long long p) (replied short r is q) = absurd (omega arith)
-same_outcome query bytes a b (replied short r is p) (too_long long q) = absurd (omega arith)
-same_outcome query bytes a b (replied short r is p) (replied less s are q) = p ∙ same_said query bytes r s is are ∙ sym q
+-- where the job says one thing, there is one answer
+module _ (says : Answer → Type 0) (once : (a b : Answer) → says a → says b → ◌≡◌ {A = Answer} a b) (bytes out text : List ℕ) (s t : Status) where
+  same_outcome : (a b : Answer) → Outcome says bytes a → Outcome says bytes b → ◌≡◌ {A = Answer} a b
+  same_outcome a b (too_long long p) (too_long more q) = p ∙ sym q
+  same_outcome a b (too_long long p) (replied short q) = absurd (omega arith)
+  same_outcome a b (replied short p) (too_long long q) = absurd (omega arith)
+  same_outcome a b (replied short p) (replied less q) = once a b p q
+
+  same_answer : Outcome says bytes (s, out) → Outcome says bytes (t, text) → (s ≡ t) × (out ≡ text)
+  same_answer p q = let same = same_outcome (s, out) (t, text) p q in ((λ i. (same i).0), (λ i. (same i).1))
+
+-- ---- verifications
+
+abbrev Verifies : List ℕ → List ℕ → Answer → Type 0
+Verifies query bytes a = (r : Reply) × IsReply query bytes r × (◌≡◌ {A = Answer} a (reply_answer r))
+
+verified_once : (query bytes : List ℕ) (a b : Answer) → Verifies query bytes a → Verifies query bytes b → ◌≡◌ {A = Answer} a b
+verified_once query bytes a b (r, is, p) (s, are, q) = p ∙ same_said query bytes r s is are ∙ sym q
 
 -- which of the two an answer is
-by_length : (query bytes out : List ℕ) (s : Status) (log : List Entry) → (IsTooLong bytes out s log ⊎ ((length bytes ≤ 2 ^ 24) × (((r : Reply) × IsReply query bytes r × (◌≡◌ {A = Answer} (s, out) (reply_answer r))) × (log ≡ [])))) → Outcome query bytes (s, out)
+by_length : (query bytes out : List ℕ) (s : Status) (log : List Entry) → (IsTooLong bytes out s log ⊎ ((length bytes ≤ 2 ^ 24) × (Verifies query bytes (s, out) × (log ≡ [])))) → Outcome (Verifies query bytes) bytes (s, out)
 by_length query bytes out s log (inl long) = too_long long.long long.answer
-by_length query bytes out s log (inr (short, ((r, says, is), none))) = replied short r says is
+by_length query bytes out s log (inr (short, (says, none))) = replied short says
 
-outcome : (query bytes out : List ℕ) (s : Status) (log : List Entry) → IsFinal s → AnswersJob (check query) bytes out s log → Outcome query bytes (s, out)
+outcome : (query bytes out : List ℕ) (s : Status) (log : List Entry) → IsFinal s → AnswersJob (check query) bytes out s log → Outcome (Verifies query bytes) bytes (s, out)
 outcome query bytes out Done log known answer = by_length query bytes out Done log answer
 outcome query bytes out Rejected log known answer = by_length query bytes out Rejected log answer
 outcome query bytes out BadWords log known answer = by_length query bytes out BadWords log answer
@@ -173,8 +191,44 @@ outcome query bytes out NoMemory log known answer = absurd known
 
 pub same_check : (query bytes out text : List ℕ) (s t : Status) (log more : List Entry) → IsFinal s → IsFinal t → AnswersJob (check query) bytes out s log → AnswersJob (check query) bytes text t more → (s ≡ t) × (out ≡ text)
 same_check query bytes out text s t log more known sure p q =
-    let same = same_outcome query bytes (s, out) (t, text) (outcome query bytes out s log known p) (outcome query bytes text t more sure q) in
-    ((λ i. (same i).0), (λ i. (same i).1))
+    same_answer (Verifies query bytes) (verified_once query bytes) bytes out text s t (outcome query bytes out s log known p) (outcome query bytes text t more sure q)
+
+-- ---- audits
+
+abbrev Audits : List ℕ → List ℕ → Answer → Type 0
+Audits query bytes a = (end : Result AuditVerdict Unread) × IsKnown end × IsAuditEnd query bytes end × (◌≡◌ {A = Answer} a (end_answer end))
+
+audited_once : (query bytes : List ℕ) (a b : Answer) → Audits query bytes a → Audits query bytes b → ◌≡◌ {A = Answer} a b
+audited_once query bytes a b (e, known, is, p) (f, sure, are, q) = p ∙ one_end query bytes e f known sure is are ∙ sym q
+
+-- a status that does not depend on the memory is not that of out of memory
+known_end : (s : Status) (out : List ℕ) → IsFinal s → (end : Result AuditVerdict Unread) → ◌≡◌ {A = Answer} (s, out) (end_answer end) → IsKnown end
+known_end s out known (Ok v) is = tt
+known_end s out known (Err (U.Document e)) is = tt
+known_end s out known (Err (U.Query e)) is = tt
+known_end s out known (Err (U.Line n)) is = tt
+known_end s out known (Err U.NoMemory) is = subst IsFinal (ap (λ (a : Answer). a.0) is) known
+
+audit_by_length : (query bytes out : List ℕ) (s : Status) (log : List Entry) → IsFinal s
+    → (IsTooLong bytes out s log ⊎ ((length bytes ≤ 2 ^ 24) × (((end : Result AuditVerdict Unread) × IsAuditEnd query bytes end × (◌≡◌ {A = Answer} (s, out) (end_answer end))) × (log ≡ [])))) → Outcome (Audits query bytes) bytes (s, out)
+audit_by_length query bytes out s log known (inl long) = too_long long.long long.answer
+audit_by_length query bytes out s log known (inr (short, ((end, says, is), none))) = replied short (end, known_end s out known end is, says, is)
+
+audit_outcome : (query bytes out : List ℕ) (s : Status) (log : List Entry) → IsFinal s → AnswersJob (audit query) bytes out s log → Outcome (Audits query bytes) bytes (s, out)
+audit_outcome query bytes out Done log known answer = audit_by_length query bytes out Done log known answer
+audit_outcome query bytes out Rejected log known answer = audit_by_length query bytes out Rejected log known answer
+audit_outcome query bytes out BadWords log known answer = audit_by_length query bytes out BadWords log known answer
+audit_outcome query bytes out BadText log known answer = audit_by_length query bytes out BadText log known answer
+audit_outcome query bytes out Outside log known answer = audit_by_length query bytes out Outside log known answer
+audit_outcome query bytes out Limit log known answer = audit_by_length query bytes out Limit log known answer
+audit_outcome query bytes out ReadFault log known answer = absurd known
+audit_outcome query bytes out WriteFault log known answer = absurd known
+audit_outcome query bytes out Undecided log known answer = absurd known
+audit_outcome query bytes out NoMemory log known answer = absurd known
+
+pub same_audit : (query bytes out text : List ℕ) (s t : Status) (log more : List Entry) → IsFinal s → IsFinal t → AnswersJob (audit query) bytes out s log → AnswersJob (audit query) bytes text t more → (s ≡ t) × (out ≡ text)
+same_audit query bytes out text s t log more known sure p q =
+    same_answer (Audits query bytes) (audited_once query bytes) bytes out text s t (audit_outcome query bytes out s log known p) (audit_outcome query bytes text t more sure q)
 
 pub answers : AnswersAreUnique
 answers words bytes out text s t log more plain known sure = by (request_of words) plain
@@ -182,6 +236,7 @@ answers words bytes out text s t log more plain known sure = by (request_of word
     by : (r : Option Request) → AsksForNoSearch r → MatchOption r (IsBadWords out s log) (λ r. AnswersRequest r bytes out s log) → MatchOption r (IsBadWords text t more) (λ r. AnswersRequest r bytes text t more) → (s ≡ t) × (out ≡ text)
     by None plain p q = (p.status ∙ sym q.status, p.text ∙ sym q.text)
     by (Some (on_input (check query))) plain p q = same_check query bytes out text s t log more known sure p q
+    by (Some (on_input (audit query))) plain p q = same_audit query bytes out text s t log more known sure p q
     by (Some (on_input (decide question budget))) plain p q = absurd plain
     by (Some (on_input (classify budget))) plain p q = absurd plain
     by (Some (on_input (pinpoint wanted inclusion budget))) plain p q = absurd plain

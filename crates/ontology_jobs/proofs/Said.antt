@@ -1,5 +1,10 @@
 -- Which statuses replies have.
-use Rattle.std.proofs.Common.{◌≡◌, List, ℕ, Bool, true, false, Option, Some, None, refl, ap, sym, ◌∙◌}
+use Rattle.std.proofs.Common.{◌≡◌, List, ℕ, Bool, true, false, Option, Some, None, Result, Ok, Err, refl, ap, sym, ◌∙◌}
+use Rattle.audit_jobs.specs.Audited.{verdict_answer as audit_verdict, end_answer}
+use Rattle.audit_jobs.specs.AuditVerdict.{AuditVerdict}
+use Rattle.audit_jobs.specs.AuditVerdict.TheVariants as A
+use Rattle.audit_jobs.specs.Unread.{Unread}
+use Rattle.audit_jobs.specs.Unread.TheVariants as U
 use Rattle.classification_jobs.specs.Asked.{Reply, judged, refused_document, refused_query, malformed_line}
 use Rattle.classification_jobs.specs.Replies.{reply_answer}
 use Rattle.classification_jobs.specs.Answer.{Answer, complaint_answer}
@@ -13,7 +18,7 @@ use Rattle.classification_jobs.specs.Verdict.TheVariants.{NotEntailed, Entailed,
 use Rattle.classification_jobs.specs.Status.{Status}
 use Rattle.classification_jobs.specs.Status.TheVariants.{Done, Rejected, BadWords, BadText, Outside, Limit, ReadFault, WriteFault, Undecided, NoMemory}
 
--- whether some reply has the status
+-- whether some reply, or some check of an audit, has the status
 abbrev pub is_said : Status → Bool
 is_said Done = true
 is_said Rejected = true
@@ -44,6 +49,25 @@ reply_said (judged (Line n)) = refl
 reply_said (refused_document e) = complaint_said P.Document (complaint e)
 reply_said (refused_query e) = complaint_said P.Query (complaint e)
 reply_said (malformed_line n) = refl
+
+-- ---- an audit
+
+verdict_said : (v : AuditVerdict) → is_said (audit_verdict v).0 ≡ true
+verdict_said A.Accepted = refl
+verdict_said (A.Justification n) = refl
+verdict_said (A.Repair n) = refl
+verdict_said A.Transversal = refl
+
+end_said : (end : Result AuditVerdict Unread) → is_said (end_answer end).0 ≡ true
+end_said (Ok v) = verdict_said v
+end_said (Err (U.Document e)) = reply_said (refused_document e)
+end_said (Err (U.Query e)) = reply_said (refused_query e)
+end_said (Err (U.Line n)) = refl
+end_said (Err U.NoMemory) = refl
+
+-- no check of an audit has one of the others
+pub not_audited : (s : Status) → is_said s ≡ false → (end : Result AuditVerdict Unread) (out : List ℕ) → ◌≡◌ {A = Answer} (s, out) (end_answer end) → ⊥
+not_audited s none end out is = let clash : false ≡ true = sym none ∙ ap (λ (a : Answer). is_said a.0) is ∙ end_said end in absurd (cc clash)
 
 -- no reply has one of the others
 pub not_said : (s : Status) → is_said s ≡ false → (r : Reply) (out : List ℕ) → ◌≡◌ {A = Answer} (s, out) (reply_answer r) → ⊥

@@ -23,10 +23,10 @@ use Rattle.decision_jobs.specs.Decisions.{decision_status, IsDecided}
 use Rattle.pinpointing_jobs.specs.declared.wanted.Wanted.{Wanted}
 use Rattle.pinpointing_jobs.specs.Listings.{end_status, IsListing, IsListAnswer}
 use Rattle.pinpointing_jobs.specs.Counts.{IsCount, IsCounted}
-use Rattle.ontology_jobs.specs.Words.{Job, check, decide, classify, pinpoint, Request, on_input, generated, request_of}
+use Rattle.ontology_jobs.specs.Words.{Job, check, audit, decide, classify, pinpoint, Request, on_input, generated, request_of}
 use Rattle.ontology_jobs.specs.Answers.{IsTooLong, IsBadWords, AnswersJob, AnswersRequest, Answers, AnswersAll}
 use Rattle.ontology_jobs.specs.Laws.{SpendsAll, HasSpentAll, UndecidedSpendsAll}
-use Rattle.ontology_jobs.proofs.Said.{not_said}
+use Rattle.ontology_jobs.proofs.Said.{not_said, not_audited}
 
 -- ---- a refusal is not undecided
 
@@ -87,6 +87,8 @@ counted_spent number o q budget log out l = by l.finished l.status l.count
 pub spends_all : UndecidedSpendsAll
 spends_all (on_input (check query)) bytes out log (inl long) = too_long bytes out log long
 spends_all (on_input (check query)) bytes out log (inr (short, ((r, says, is), none))) = not_said Undecided refl r out is
+spends_all (on_input (audit query)) bytes out log (inl long) = too_long bytes out log long
+spends_all (on_input (audit query)) bytes out log (inr (short, ((end, says, is), none))) = not_audited Undecided refl end out is
 spends_all (on_input (decide question budget)) bytes out log (inl long) = absurd (too_long bytes out log long)
 spends_all (on_input (decide question budget)) bytes out log (inr (short, inl refused)) = absurd (no_refusal question bytes out log refused)
 spends_all (on_input (decide question budget)) bytes out log (inr (short, inr decided)) = decided_spent question budget bytes out log decided

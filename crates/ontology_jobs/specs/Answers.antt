@@ -13,7 +13,8 @@ use Rattle.decision_jobs.specs.Checked.{Checked}
 use Rattle.decision_jobs.specs.Decisions.{AnswersQuestion}
 use Rattle.classification_jobs.specs.Classifications.{AnswersClassification}
 use Rattle.pinpointing_jobs.specs.Answers.{AnswersPinpointing, AnswersWorkload}
-use Rattle.ontology_jobs.specs.Words.{Job, check, decide, classify, pinpoint, Request, on_input, generated, request_of}
+use Rattle.audit_jobs.specs.Audited.{Audited}
+use Rattle.ontology_jobs.specs.Words.{Job, check, audit, decide, classify, pinpoint, Request, on_input, generated, request_of}
 
 abbrev pub bad_words : List ℕ
 bad_words = line (codes "bad words")
@@ -33,6 +34,7 @@ pub record IsTooLong (bytes out : List ℕ) (s : Status) (log : List Entry) : Ty
 -- the answer of a job to an input that is not too long, and the log of what it asked
 abbrev pub AnswersRead : Job → List ℕ → List ℕ → Status → List Entry → Type 0
 AnswersRead (check query) bytes out s log = Checked query bytes out s × (log ≡ [])
+AnswersRead (audit query) bytes out s log = Audited query bytes out s × (log ≡ [])
 AnswersRead (decide question budget) bytes out s log = AnswersQuestion question budget bytes out s log
 AnswersRead (classify budget) bytes out s log = AnswersClassification budget bytes out s log
 AnswersRead (pinpoint wanted inclusion budget) bytes out s log = AnswersPinpointing wanted inclusion budget bytes out s log

@@ -12,7 +12,7 @@ use Rattle.classification_jobs.specs.Asked.{IsAsked}
 use Rattle.classification_jobs.specs.Questions.{follows, IsDocumentAlone, IsQuestion}
 use Rattle.classification_jobs.specs.Status.{Status}
 use Rattle.classification_jobs.specs.Status.TheVariants.{Done, Rejected, BadWords, BadText, Outside, Limit, ReadFault, WriteFault, Undecided, NoMemory}
-use Rattle.ontology_jobs.specs.Words.{Job, check, decide, classify, pinpoint, Request, on_input, generated}
+use Rattle.ontology_jobs.specs.Words.{Job, check, audit, decide, classify, pinpoint, Request, on_input, generated}
 use Rattle.ontology_jobs.specs.Answers.{AnswersJob, AnswersRequest}
 use Rattle.ontology_jobs.specs.Laws.{IsFaultless}
 
@@ -28,9 +28,11 @@ pub record BeginsWithDocument (query bytes : List ℕ) : Type 0 where
   pub is_document : IsDocument bytes document kept end
   pub is_query : IsAsked document kept query counts asked
 
--- the document is read and the question on it, behind which only a gap stands but where a certificate is asked for
+-- the document is read and the question on it, behind which only a gap stands but where a certificate or an
+-- audit is asked for
 abbrev pub IsRead : Job → List ℕ → Type 0
 IsRead (check query) bytes = BeginsWithDocument query bytes
+IsRead (audit query) bytes = BeginsWithDocument query bytes
 IsRead (decide question budget) bytes = (o : Listed) × (q : Asked) × IsQuestion question bytes o q
 IsRead (classify budget) bytes = (o : Listed) × (kept : DocumentContext) × IsDocumentAlone bytes o kept
 IsRead (pinpoint wanted inclusion budget) bytes = (o : Listed) × (q : Asked) × IsQuestion (follows inclusion) bytes o q
@@ -45,6 +47,7 @@ pub record IsReadable (job : Job) (bytes : List ℕ) : Type 0 where
 -- something of the budget is left; where all of it goes to tests, it is enough that none of them ended with the budget spent
 abbrev pub HasLeft : Request → List Entry → Type 0
 HasLeft (on_input (check query)) log = Unit {0}
+HasLeft (on_input (audit query)) log = Unit {0}
 HasLeft (on_input (decide question budget)) log = (spent_of log < budget) ⊎ (list_any is_spent log ≡ false)
 HasLeft (on_input (classify budget)) log = (spent_of log < budget) ⊎ (list_any is_spent log ≡ false)
 HasLeft (on_input (pinpoint wanted inclusion budget)) log = spent_of log < budget
@@ -65,7 +68,7 @@ IsDone WriteFault = ⊥
 IsDone Undecided = ⊥
 IsDone NoMemory = ⊥
 
--- the certificate was judged
+-- the certificate or the audit was judged
 abbrev pub IsJudged : Status → Type 0
 IsJudged Done = Unit {0}
 IsJudged Rejected = Unit {0}
@@ -80,6 +83,7 @@ IsJudged NoMemory = ⊥
 
 abbrev pub EndsWell : Request → Status → Type 0
 EndsWell (on_input (check query)) s = IsJudged s
+EndsWell (on_input (audit query)) s = IsJudged s
 EndsWell (on_input (decide question budget)) s = IsDone s
 EndsWell (on_input (classify budget)) s = IsDone s
 EndsWell (on_input (pinpoint wanted inclusion budget)) s = IsDone s

@@ -1,6 +1,6 @@
 -- The words and the input decide the answer, unless something fails, memory is refused or a search is asked for; and what is
 -- accepted is true.
-use Rattle.std.specs.Prelude.{◌≡◌, ℕ, [], List, map, codes, Option, Some, None}
+use Rattle.std.specs.Prelude.{◌≡◌, ℕ, [], List, map, codes, Option, Some, None, Ok}
 use Rattle.shq_terms.specs.declared.axioms.Axiom.{Axiom}
 use Rattle.shq_terms.specs.Listed.{Listed}
 use Rattle.shq_terms.specs.declared.axioms.Query.{Query as Asked}
@@ -10,7 +10,10 @@ use Rattle.ofn_reader.specs.DocumentContext.{DocumentContext}
 use Rattle.ofn_reader.specs.Documents.{IsDocument}
 use Rattle.run_log.specs.declared.entry.Entry.{Entry}
 use Rattle.run_log.specs.Entries.{spent_of}
-use Rattle.ontology_jobs.specs.Words.{Job, check, decide, classify, pinpoint, Request, on_input, generated, request_of}
+use Rattle.ontology_jobs.specs.Words.{Job, check, audit, decide, classify, pinpoint, Request, on_input, generated, request_of}
+use Rattle.audit_jobs.specs.AuditLists.{AuditLists}
+use Rattle.audit_jobs.specs.Sound.{ListsAll}
+use Rattle.audit_jobs.specs.Audited.{audit_after, IsAskedOn}
 use Rattle.classification_jobs.specs.Asked.{IsAsked}
 use Rattle.classification_jobs.specs.Answer.{line}
 use Rattle.ontology_jobs.specs.Answers.{AnswersJob, AnswersRequest, Answers}
@@ -34,6 +37,7 @@ IsFinal NoMemory = ⊥
 abbrev pub AsksForNoSearch : Option Request → Type 0
 AsksForNoSearch None = Unit {0}
 AsksForNoSearch (Some (on_input (check query))) = Unit {0}
+AsksForNoSearch (Some (on_input (audit query))) = Unit {0}
 AsksForNoSearch (Some (on_input (decide question budget))) = ⊥
 AsksForNoSearch (Some (on_input (classify budget))) = ⊥
 AsksForNoSearch (Some (on_input (pinpoint wanted inclusion budget))) = ⊥
@@ -47,6 +51,7 @@ AnswersAreUnique =
 -- the whole budget of what the words asked for was spent; a verification has none
 abbrev pub SpendsAll : Request → List Entry → Type 0
 SpendsAll (on_input (check query)) log = ⊥
+SpendsAll (on_input (audit query)) log = ⊥
 SpendsAll (on_input (decide question budget)) log = spent_of log ≡ budget
 SpendsAll (on_input (classify budget)) log = spent_of log ≡ budget
 SpendsAll (on_input (pinpoint wanted inclusion budget)) log = spent_of log ≡ budget
@@ -125,3 +130,18 @@ AcceptedQueriesFollow = (query bytes : List ℕ) (log : List Entry) → AnswersJ
 -- and one that is answered by `accepted not entailed` does not
 abbrev pub AcceptedQueriesDoNotFollow : Type 0
 AcceptedQueriesDoNotFollow = (query bytes : List ℕ) (log : List Entry) → AnswersJob (check query) bytes (line (codes "accepted not entailed")) Done log → HaveRead (λ axioms q. Entails axioms q → ⊥) query bytes
+
+-- The document, the query on it and the audit behind it that texts are, over the names of document and query; and the lists
+-- of the audit are exactly all justifications of the query and all its repairs.
+pub record HaveAudited (query bytes : List ℕ) : Type 0 where
+  pub both : Listed
+  pub asked : Asked
+  pub rest : List ℕ
+  pub lists : AuditLists
+  pub is_asked : IsAskedOn query bytes both asked rest
+  pub is_audit : audit_after both rest ≡ Ok lists
+  pub are_all : ListsAll both asked lists
+
+-- what is answered by `accepted audit` lists exactly all
+abbrev pub AcceptedAuditsListAll : Type 0
+AcceptedAuditsListAll = (query bytes : List ℕ) (log : List Entry) → AnswersJob (audit query) bytes (line (codes "accepted audit")) Done log → HaveAudited query bytes

@@ -11,12 +11,14 @@ use Rattle.ontology_jobs.specs.declared.words.Command.{Command}
 use Rattle.ontology_jobs.specs.declared.words.Command.TheVariants.{OnInput, Workload}
 use Rattle.ontology_jobs.specs.declared.workload_number.WorkloadNumber.{WorkloadNumber}
 use Rattle.ontology_jobs.specs.declared.words.Job.{Job as Kept}
-use Rattle.ontology_jobs.specs.declared.words.Job.TheVariants.{Check, Decide, Classify, Pinpoint}
+use Rattle.ontology_jobs.specs.declared.words.Job.TheVariants.{Check, Audit, Decide, Classify, Pinpoint}
 
 -- a job on an input, with a budget where it searches
 pub data Job : Type 0 where
   -- verify the certificate for the axiom of this text
   check : List ℕ → Job
+  -- verify the audit of the axiom of this text
+  audit : List ℕ → Job
   -- decide a question
   decide : Text → ℕ → Job
   -- which class is part of which
@@ -72,9 +74,12 @@ searching_request w text budget =
     else if bytes_eq w (codes "entails") then Some (on_input (decide (follows text) budget))
     else pinpointing_request w text budget
 
--- `check AXIOM`, and those that search, without a budget
+-- `check AXIOM` and `audit AXIOM`, and those that search, without a budget
 abbrev pub text_request : List ℕ → List ℕ → Option Request
-text_request w text = if bytes_eq w (codes "check") then Some (on_input (check text)) else searching_request w text default_budget
+text_request w text =
+    if bytes_eq w (codes "check") then Some (on_input (check text))
+    else if bytes_eq w (codes "audit") then Some (on_input (audit text))
+    else searching_request w text default_budget
 
 -- the same where the word before the budget is `budget`
 abbrev pub budgeted_request : List ℕ → List ℕ → List ℕ → List ℕ → Option Request
@@ -100,7 +105,8 @@ longer_request (w ∷ a ∷ []) = None
 longer_request (w ∷ b ∷ n ∷ []) = budgeted_alone w b n
 longer_request (w ∷ a ∷ b ∷ n ∷ rest) = longest_request (w ∷ a ∷ b ∷ n ∷ rest)
 
--- `check AXIOM`, and the jobs that search, each of which may have `budget B` after it; every other list of words asks for nothing
+-- `check AXIOM` and `audit AXIOM`, and the jobs that search, each of which may have `budget B` after it; every other list
+-- of words asks for nothing
 abbrev pub request_of : List (List ℕ) → Option Request
 request_of [] = None
 request_of (w ∷ []) = alone_request w default_budget
@@ -109,6 +115,7 @@ request_of (w ∷ a ∷ b ∷ rest) = longer_request (w ∷ a ∷ b ∷ rest)
 
 abbrev pub kept_job : Kept → Job
 kept_job (Check a) = check a.now
+kept_job (Audit a) = audit a.now
 kept_job (Decide question budget) = decide (question_text question) budget
 kept_job (Classify budget) = classify budget
 kept_job (Pinpoint wanted a budget) = pinpoint wanted a.now budget

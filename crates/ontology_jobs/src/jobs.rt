@@ -8,6 +8,7 @@ ghost use Rattle.ontology_jobs.specs.Complete.{IsComplete};
 ghost use Rattle.ontology_jobs.specs.Answers.{AnswersRead, AnswersJobOnAll, AnswersRequestOnAll, AnswersAll, AnsweredAll, SaysBadWords, IsBadWords, end_answer, ReadsNothing, LeavesFor, Leaves};
 
 use crate::words::{Command, Job, read_words};
+use audit_jobs::verify_audit;
 use classification_jobs::{Status, Text, classify};
 use decision_jobs::{answer, verify};
 use pinpointing_jobs::{pinpoint, run_workload};
@@ -127,6 +128,7 @@ fn do_on(alloc: Global, job: Job<'_>, input: &[u8], log: &mut RunLog) -> (Status
 {
     match job {
         Job::Check(query) => verify(alloc, query, input),
+        Job::Audit(query) => verify_audit(alloc, query, input),
         Job::Decide(question, budget) => answer(alloc, question, budget, input, log),
         Job::Classify(budget) => classify(alloc, budget, input, log),
         Job::Pinpoint(wanted, inclusion, budget) => {

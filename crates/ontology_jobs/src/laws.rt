@@ -1,5 +1,5 @@
 // The words and the input decide the answer, and what is accepted is true.
-ghost use Rattle.ontology_jobs.specs.Laws.{AnswersAreUnique, BadWordsAskForNothing, RefusalsAreAnsweredAlike, UndecidedSpendsAll, AcceptedQueriesDoNotFollow, AcceptedQueriesFollow};
+ghost use Rattle.ontology_jobs.specs.Laws.{AnswersAreUnique, BadWordsAskForNothing, RefusalsAreAnsweredAlike, UndecidedSpendsAll, AcceptedQueriesDoNotFollow, AcceptedQueriesFollow, AcceptedAuditsListAll};
 ghost use Rattle.ontology_jobs.specs.Complete.{JobsAreDone, WorkloadsAreDone};
 
 /// Words that ask for no search have one answer to an input, unless something fails or memory is refused.
@@ -41,4 +41,10 @@ pub fn accepted_queries_do_not_follow()
 /// interpretations.
 pub fn accepted_queries_follow()
     ensures { AcceptedQueriesFollow }
+{}
+
+/// What is answered by `accepted audit` is an audit whose lists are exactly all justifications of the query, the smallest
+/// sets of axioms from which it follows, and all its repairs, the smallest ones without which it does not.
+pub fn accepted_audits_list_all()
+    ensures { AcceptedAuditsListAll }
 {}

@@ -2,7 +2,8 @@
 //!
 //! A certifying program gives with each answer a certificate that can be checked without trust in the program (McConnell,
 //! Mehlhorn, Näher and Schweitzer, "Certifying algorithms", Computer Science Review 5, 2011). The jobs `sat` and `entails`
-//! find such certificates, finite counter-models and refutations, and the job `check` verifies them; `classify`, `explain` and
+//! find such certificates, finite counter-models and refutations, and the job `check` verifies them; `audit` verifies the reasons
+//! and repairs of a query, and that they are all; `classify`, `explain` and
 //! `repair` rest on many such tests, which the log shows. All of it is itself proved: the clause `answer` of `run` says for any
 //! words and input which text is written, with which status, and what the log then has.
 #![tactic(auto)]
@@ -15,8 +16,8 @@ mod workload_number;
 pub use classification_jobs::Status;
 pub use jobs::run;
 pub use laws::{
-    accepted_queries_do_not_follow, accepted_queries_follow, answers_are_unique,
-    bad_words_ask_for_nothing, refusals_are_answered_alike, runs_are_complete,
+    accepted_audits_list_all, accepted_queries_do_not_follow, accepted_queries_follow,
+    answers_are_unique, bad_words_ask_for_nothing, refusals_are_answered_alike, runs_are_complete,
     undecided_spends_all,
 };
 pub use run_log::RunLog;

@@ -21,6 +21,8 @@ pub enum Command<'a> {
 pub enum Job<'a> {
     /// `check AXIOM`: verify the certificate for this axiom that follows the document.
     Check(&'a str),
+    /// `audit AXIOM`: verify the audit of this axiom that follows the document.
+    Audit(&'a str),
     /// `sat CLASS` or `entails AXIOM`: decide the question.
     Decide(Question<'a>, u32),
     /// `classify`: which class is part of which.
@@ -88,6 +90,8 @@ fn read_job<'a>(job: &str, text: &'a str) -> Option<Command<'a>>
 {
     if job == "check" {
         Some(Command::OnInput(Job::Check(text)))
+    } else if job == "audit" {
+        Some(Command::OnInput(Job::Audit(text)))
     } else {
         read_searching(job, text, DEFAULT_BUDGET)
     }
