@@ -1,5 +1,0 @@
-pub mod Hits
-pub mod Audited
-mod Growing
-mod Found
-pub mod Ascending

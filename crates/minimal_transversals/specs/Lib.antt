@@ -1,4 +1,0 @@
-pub mod Transversals
-pub mod Audits
-pub mod Listed
-pub mod Territory
