@@ -1,3 +1,6 @@
+use Rattle.std.proofs.Common.{◌≤◌, length, subst, arith}
+use Rattle.std.specs.List.{All}
+use Rattle.std.proofs.lemmas.List.{take_all}
 use Rattle.axiom_sets.specs.Sets.{IsWithin}
 use Rattle.finite_model.specs.ReadBack.{IsKept}
 use Rattle.finite_model.specs.Written.{uses_listed_names}
@@ -20,3 +23,10 @@ loop-repair-preserved c =
       within = fact_more rs i r lt is (λ (x : Repair). IsWithin x.set.limit x.set.members) c.loop-repair.invariant.within c.push_repair.ensures.within;
       kept = fact_more rs i r lt is (λ (x : Repair). IsKept o x.model) c.loop-repair.invariant.kept c.in_ok-push_repair.ensures.kept;
     }
+
+pub returns-clause-kept : goal.returns-clause-kept
+returns-clause-kept c =
+    let rs = c.args.repairs.now in
+    let o = c.args.ontology.now in
+    let past : length rs ≤ c.loop-repair.repair-index = omega arith in
+    subst (All (λ (r : Repair). IsKept o r.model)) (take_all c.loop-repair.repair-index rs past) c.loop-repair.invariant.kept
