@@ -14,7 +14,7 @@ use Rattle.step_agenda.specs.Followed.{Printed, IsCurrent}
 use Rattle.step_finders.specs.declared.clash.Clash.{Clash}
 use Rattle.search_trace.specs.Trace.{TraceLists, begun}
 use Rattle.search_state.specs.Beginning.{begun_entries}
-use Rattle.search_state.specs.Progress.{ProgressLists, IsAsked, IsFitLine, IsStanding, IsSearching, IsClashOf}
+use Rattle.search_state.specs.Progress.{ProgressLists, IsAsked, IsFitLine, IsStanding, IsClashOf}
 use Rattle.search_state.specs.Stepping.{HasBegun}
 
 -- node 0 is known by what rests on no mark

@@ -1,13 +1,12 @@
 -- The plain clash of a search that begins.
-use Rattle.std.proofs.Common.{◌≡◌, ℕ, ◌+◌, ◌<◌, ◌||◌, eqb, Bool, true, false, List, [], ◌∷◌, ◌++◌, length, Option, Some, None, refl, ap, ◌∙◌, sym, subst, arith, inl, inr}
+use Rattle.std.proofs.Common.{◌≡◌, ℕ, ◌<◌, ◌||◌, eqb, Bool, true, false, List, [], ◌∷◌, length, Option, Some, None, refl, ap, ◌∙◌, sym, subst, arith, inl, inr}
 use Rattle.std.specs.Prelude.{MatchOption}
-use Rattle.std.specs.List.{list_any}
-use Rattle.std.proofs.lemmas.Bool.{or_cases, or_left, or_right, eqb-true}
+use Rattle.std.proofs.lemmas.Bool.{or_cases, or_left, eqb-true}
 use Rattle.calculus_specs.specs.Shape.{Shape, shape_of, IsTable}
-use Rattle.calculus_specs.specs.Shape.Shape.{top, bottom, name, not_name, at_most}
+use Rattle.calculus_specs.specs.Shape.Shape.{top, bottom, name, at_most}
 use Rattle.calculus_specs.specs.declared.facts.Fact.{Fact}
 use Rattle.calculus_specs.specs.declared.facts.Fact.TheVariants.{Has, Edge, Apart, Same}
-use Rattle.calculus_specs.specs.State.{node_count, has, has_edge}
+use Rattle.calculus_specs.specs.State.{node_count, has}
 use Rattle.tableau_specs.specs.Clash.{IsPlainClash, filled_successors}
 use Rattle.tableau_specs.specs.Clash.IsPlainClash.{plain_bottom, plain_names, plain_most}
 use Rattle.tableau_specs.specs.Steps.{SearchContext, below_of}

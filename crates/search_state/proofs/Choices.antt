@@ -1,28 +1,24 @@
 -- What a choice keeps, and the next alternative of one.
-use Rattle.std.proofs.Common.{◌≡◌, ℕ, zero, suc, ◌+◌, ◌-◌, ◌<◌, ◌≤◌, ◌&&◌, ◌||◌, eqb, Bool, true, false, List, [], ◌∷◌, ◌++◌, map, length, take, drop, Option, Some, None, refl, ap, ◌∙◌, sym, subst, arith, append_assoc, eq-eqb}
+use Rattle.std.proofs.Common.{◌≡◌, ℕ, zero, suc, ◌+◌, ◌^◌, ◌<◌, true, List, [], ◌∷◌, ◌++◌, map, length, take, drop, Option, Some, None, refl, ap, ◌∙◌, sym, subst, arith}
 use Rattle.std.specs.Prelude.{slice_get}
-use Rattle.std.specs.List.{All, list_all}
+use Rattle.std.specs.List.{list_all}
 use Rattle.std.specs.Cmp.{nat_cmp_total}
 use Rattle.std.specs.FinSet as sets
 use Rattle.std.proofs.lemmas.Bool.{or_right}
-use Rattle.std.proofs.lemmas.List.{length-take-le, length-append}
+use Rattle.std.proofs.lemmas.List.{length-take-le}
 use Rattle.std.proofs.Math.Seq.{take-append_seam}
 use Rattle.lane_sieve.specs.Sets.{NumberSet}
 use Rattle.calculus_specs.specs.declared.facts.Fact.{Fact}
-use Rattle.calculus_specs.specs.State.{node_count}
 use Rattle.calculus_specs.specs.Line.{Line}
-use Rattle.tableau_specs.specs.declared.Branch.{Branch}
 use Rattle.tableau_specs.specs.declared.Choice.{Choice}
 use Rattle.tableau_specs.specs.declared.Item.{Item}
 use Rattle.tableau_specs.specs.declared.Item.TheVariants.{Fact as Says, Mark as Marks}
-use Rattle.tableau_specs.specs.Items.{facts_of}
 use Rattle.tableau_specs.specs.Clash.{IsPlainClash}
-use Rattle.tableau_specs.specs.Steps.{SearchContext, below_of, MayBranch, IsAlternative, IsLegal, next_choice, HasClash}
+use Rattle.tableau_specs.specs.Steps.{SearchContext, below_of, MayBranch, IsAlternative, IsLegal, next_choice}
 use Rattle.tableau_specs.specs.Steps.IsLegal.{choose, back}
 use Rattle.search_trace.specs.Noted.{marked, noted_start}
-use Rattle.search_trace.specs.Premises.{Added}
-use Rattle.search_trace.specs.Grounded.{named, is_known_within, AreGrounded}
-use Rattle.search_trace.specs.Trail.{MarkedFact, Puts}
+use Rattle.search_trace.specs.Grounded.{is_known_within, AreGrounded}
+use Rattle.search_trace.specs.Trail.{MarkedFact}
 use Rattle.search_trace.specs.Places.{Place, opened_place, turned_place}
 use Rattle.completion_tree.specs.declared.tree.By.{By}
 use Rattle.completion_tree.specs.declared.tree.Entry.{Entry}
@@ -31,18 +27,18 @@ use Rattle.completion_tree.specs.Trail.{facts_in, items_of, item_of}
 use Rattle.step_finders.specs.declared.choosing.Choosing.{Choosing}
 use Rattle.step_finders.specs.Choosing.{branch_of, IsChoosable}
 use Rattle.step_lines.specs.Serving.{FactsStayGrounded, AlternativesSpeakOfNodes, branch_nodes}
-use Rattle.step_lines.specs.Kinds.{IsChild, alternative_count}
-use Rattle.search_trace.specs.Trace.{TraceLists, next_line, with_branching}
+use Rattle.step_lines.specs.Kinds.{alternative_count}
+use Rattle.search_trace.specs.Trace.{next_line, with_branching}
 use Rattle.search_trace.specs.Laws.{IsTracedAt}
 use Rattle.search_trace.proofs.Traced.{goes_on}
 use Rattle.search_state.specs.Marked.{marked_in}
-use Rattle.search_state.specs.Branchings.{AreAlternatives, IsMarkOf, AreMarks}
+use Rattle.search_state.specs.Branchings.{AreMarks}
 use Rattle.search_state.specs.Resting.{RestsChoice}
 use Rattle.search_state.specs.Progress.{ProgressLists, IsStanding, HasMoved}
 use Rattle.search_state.specs.Turning.{IsTurning}
-use Rattle.search_state.proofs.Entries.{facts-items, facts-append, items-append, marked-append}
-use Rattle.search_state.proofs.Marks.{get-within, marks_left, AreLeft, get-behind, marks_stay}
-use Rattle.search_state.proofs.Moving.{IsNext, AreKept, moved, lines_fit}
+use Rattle.search_state.proofs.Entries.{items-append, marked-append}
+use Rattle.search_state.proofs.Marks.{get-within, AreLeft, get-behind}
+use Rattle.search_state.proofs.Moving.{IsNext, moved, lines_fit}
 use Rattle.search_state.proofs.Steps.{at_items}
 
 -- ---- lists
@@ -76,11 +72,11 @@ items-choice es c f by = items-append es (Mark c ∷ Grounded f by ∷ [])
 
 module _ (w : SearchContext) (old : ProgressLists) (st : IsStanding w old) where
   pub choice_moves : (k : Choosing) → ¬ IsPlainClash (below_of w) w.table (facts_in old.entries) → IsChoosable w (facts_in old.entries) k → FactsStayGrounded → AlternativesSpeakOfNodes
-      → (line : Line) (u : NumberSet) → RestsChoice w old.entries (branch_of k) line u → (left : ℕ) → left + 1 ≡ alternative_count w.table (branch_of k) → (f : Fact ℕ) → IsAlternative w.table (branch_of k) 1 f
+      → (line : Line) (u : NumberSet) → RestsChoice w old.entries (branch_of k) line u → (left : ℕ) → left + 1 ≡ alternative_count w.table (branch_of k) → left + 1 < 2 ^ 32 → (f : Fact ℕ) → IsAlternative w.table (branch_of k) 1 f
       → (by : By) → by.marks ≡ sets.insert u old.trace.next
       → (new : ProgressLists) → IsNext old new (with_choice old.entries (record { line = old.trace.next; branch = branch_of k; alternative = 1 }) f by) (with_branching old.trace line u left) (length old.entries ∷ old.marks)
       → HasMoved w old new
-  choice_moves k none is stay speak line u r left counts f alternative by same new n =
+  choice_moves k none is stay speak line u r left counts small f alternative by same new n =
       let m = old.trace.next in
       let c : Choice = record { line = m; branch = branch_of k; alternative = 1 } in
       let ms = marked_in old.entries in
@@ -115,6 +111,7 @@ module _ (w : SearchContext) (old : ProgressLists) (st : IsStanding w old) where
             facts = facts_in old.entries;
             children = r.children;
             alternatives = r.alternatives;
+            small = subst (λ (i : ℕ). i < 2 ^ 32) counts small;
             rest = refl;
           },
           subst (λ (us : List Entry). AreMarks w us old.marks st.places) (sym front) st.are_marks,
@@ -178,6 +175,7 @@ module _ (w : SearchContext) (s : ProgressLists) (mark : ℕ) (marks : NumberSet
             facts = m.facts;
             children = m.children;
             alternatives = m.alternatives;
+            small = m.small;
             rest = refl;
           },
           subst (λ (us : List Entry). AreMarks w us l.older t.older) (sym here) l.others,

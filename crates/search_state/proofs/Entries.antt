@@ -1,12 +1,12 @@
 -- Entries as items, as facts and as facts with their marks.
-use Rattle.std.proofs.Common.{◌≡◌, ℕ, Bool, true, false, cond, List, [], ◌∷◌, ◌++◌, map, refl, ap, ◌∙◌, sym}
+use Rattle.std.proofs.Common.{◌≡◌, ℕ, true, false, cond, List, [], ◌∷◌, ◌++◌, map, refl, ap}
 use Rattle.std.specs.List.{filter}
 use Rattle.std.specs.FinSet as sets
 use Rattle.lane_sieve.specs.Sets.{NumberSet}
 use Rattle.calculus_specs.specs.declared.facts.Fact.{Fact}
 use Rattle.tableau_specs.specs.declared.Choice.{Choice}
 use Rattle.tableau_specs.specs.declared.Item.{Item}
-use Rattle.tableau_specs.specs.declared.Item.TheVariants.{Fact as Says, Mark as Marks}
+use Rattle.tableau_specs.specs.declared.Item.TheVariants.{Fact as Says}
 use Rattle.tableau_specs.specs.Items.{facts_of, says}
 use Rattle.search_trace.specs.Noted.{marked, is_within, within, items}
 use Rattle.search_trace.specs.Trail.{MarkedFact}

@@ -1,6 +1,6 @@
 -- Facts that hold by those which rest on few marks hold by more.
-use Rattle.std.proofs.Common.{◌≡◌, ℕ, zero, suc, ◌+◌, ◌<◌, ◌&&◌, ◌||◌, eqb, Bool, true, List, [], ◌∷◌, ◌++◌, length, get_or, take, refl, ap, ◌∙◌, sym, subst, arith, inl, inr, eq-eqb}
-use Rattle.std.specs.List.{list_any, list_all}
+use Rattle.std.proofs.Common.{◌≡◌, ℕ, zero, suc, ◌+◌, ◌<◌, ◌&&◌, eqb, true, List, [], ◌∷◌, length, get_or, take, refl, ap, ◌∙◌, sym, subst, arith, inl, inr, eq-eqb}
+use Rattle.std.specs.List.{list_all}
 use Rattle.std.specs.FinSet as sets
 use Rattle.std.proofs.lemmas.Cmp.{nat_cmp_total}
 use Rattle.std.proofs.lemmas.Bool.{and_parts, and_from, or_cases, or_left, or_right, eqb-true}
@@ -15,7 +15,6 @@ use Rattle.calculus_specs.specs.State.{is_given, is_so}
 use Rattle.calculus_specs.proofs.Joined.{rep-joined, joined-rep, joined_on, joined_back}
 use Rattle.calculus_specs.specs.Line.{Line}
 use Rattle.tableau_specs.specs.Steps.{SearchContext}
-use Rattle.tableau_specs.specs.declared.Branch.{Branch}
 use Rattle.search_trace.specs.Among.{IsAmong}
 use Rattle.search_trace.specs.Noted.{Marked, is_within, within}
 use Rattle.search_trace.specs.Premises.{Added}

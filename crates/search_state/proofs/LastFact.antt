@@ -1,5 +1,5 @@
 -- Whether the last fact has made a plain clash.
-use Rattle.std.proofs.Common.{◌≡◌, ℕ, zero, suc, ◌+◌, ◌<◌, ◌≤◌, ◌&&◌, ◌||◌, eqb, Bool, true, false, max, List, [], ◌∷◌, ◌++◌, map, length, take, Option, Some, None, refl, ap, ◌∙◌, sym, subst, arith, eq-eqb}
+use Rattle.std.proofs.Common.{◌≡◌, ℕ, ◌<◌, ◌≤◌, ◌||◌, eqb, true, false, List, [], ◌∷◌, ◌++◌, length, take, Option, Some, None, refl, ap, ◌∙◌, sym, subst, arith, eq-eqb}
 use Rattle.std.specs.Prelude.{slice_get, MatchOption}
 use Rattle.std.specs.List.{list_any}
 use Rattle.std.proofs.lemmas.Bool.{and_from, or_left, or_right}
@@ -14,14 +14,13 @@ use Rattle.tableau_specs.specs.declared.Item.TheVariants.{Fact as Says}
 use Rattle.tableau_specs.specs.Items.{facts_of}
 use Rattle.tableau_specs.specs.Clash.{IsPlainClash}
 use Rattle.tableau_specs.specs.Steps.{SearchContext, below_of}
-use Rattle.tableau_specs.specs.StepLaws.{IsOn, IsChild}
+use Rattle.tableau_specs.specs.StepLaws.{IsOn}
 use Rattle.tableau_specs.proofs.Reached.{nodes_before, successor_is_child}
 use Rattle.tableau_specs.specs.Near.{speak_of_nodes}
 use Rattle.tableau_specs.proofs.Marks.{reached_speak}
 use Rattle.tableau_specs.proofs.Concept.{concept_clashes}
 use Rattle.tableau_specs.proofs.Join.{join_clashes}
 use Rattle.tableau_specs.proofs.Parted.{apart_clashes}
-use Rattle.completion_tree.specs.declared.tree.Entry.{Entry}
 use Rattle.completion_tree.specs.declared.tree.Entry.TheVariants.{Fact as Grounded}
 use Rattle.completion_tree.specs.Trail.{facts_in, items_of}
 use Rattle.step_finders.specs.declared.clash.Clash.{Clash}

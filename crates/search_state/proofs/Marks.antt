@@ -1,5 +1,5 @@
 -- The marks of a trail that grows or is cut.
-use Rattle.std.proofs.Common.{◌≡◌, ℕ, zero, suc, ◌+◌, ◌<◌, ◌≤◌, List, [], ◌∷◌, ◌++◌, length, take, drop, Option, Some, None, refl, ap, ◌∙◌, sym, subst, arith}
+use Rattle.std.proofs.Common.{◌≡◌, ℕ, zero, suc, ◌<◌, ◌≤◌, List, [], ◌∷◌, ◌++◌, length, take, drop, Some, refl, ap, ◌∙◌, sym, subst, arith}
 use Rattle.std.specs.Prelude.{slice_get}
 use Rattle.tableau_specs.specs.Steps.{SearchContext}
 use Rattle.search_trace.specs.Places.{Place}
@@ -61,6 +61,7 @@ module _ (w : SearchContext) where
     facts = m.facts;
     children = m.children;
     alternatives = m.alternatives;
+    small = m.small;
     rest = m.rest;
   }
 
@@ -103,6 +104,7 @@ module _ (w : SearchContext) where
         facts = m.facts;
         children = m.children;
         alternatives = m.alternatives;
+        small = m.small;
         rest = m.rest;
       }
 

@@ -1,15 +1,13 @@
 -- A step that is made keeps what is always so of a search.
-use Rattle.std.proofs.Common.{◌≡◌, ℕ, suc, ◌+◌, ◌<◌, Bool, true, false, cond, List, [], ◌∷◌, ◌++◌, map, length, refl, ap, ◌∙◌, sym, subst, arith}
-use Rattle.std.specs.List.{All, list_all}
+use Rattle.std.proofs.Common.{◌≡◌, ℕ, suc, ◌+◌, true, List, [], ◌∷◌, ◌++◌, map, ap, ◌∙◌, sym, subst, arith}
+use Rattle.std.specs.List.{All}
 use Rattle.std.proofs.lemmas.List.Elements.{All-append, All-cons, All-nil}
-use Rattle.std.proofs.lemmas.List.{append-nil}
 use Rattle.lane_sieve.specs.Sets.{NumberSet}
 use Rattle.shq_terms.specs.Concept.{Concept}
 use Rattle.calculus_specs.specs.declared.facts.Fact.{Fact}
 use Rattle.calculus_specs.specs.Line.{Line}
-use Rattle.tableau_specs.specs.Items.{facts_of, says}
-use Rattle.tableau_specs.specs.KeptKinds.{IsKept}
-use Rattle.tableau_specs.specs.Steps.{SearchContext, below_of, IsLegal}
+use Rattle.tableau_specs.specs.Items.{says}
+use Rattle.tableau_specs.specs.Steps.{SearchContext, IsLegal}
 use Rattle.tableau_specs.specs.Reached.{start, Follows, IsReached}
 use Rattle.tableau_specs.specs.StepLaws.{AreOfKind}
 use Rattle.tableau_specs.proofs.KeptKinds.{kept_kinds_stay}
@@ -22,13 +20,13 @@ use Rattle.completion_tree.specs.declared.tree.By.{By}
 use Rattle.completion_tree.specs.declared.tree.Entry.{Entry}
 use Rattle.completion_tree.specs.Trail.{facts_in, items_of, grounded}
 use Rattle.step_agenda.specs.Followed.{IsCurrent}
-use Rattle.search_trace.specs.Trace.{TraceLists, next_line, with_line}
+use Rattle.search_trace.specs.Trace.{TraceLists, with_line}
 use Rattle.search_trace.specs.Laws.{IsTracedAt}
 use Rattle.search_trace.proofs.Traced.{goes_on}
 use Rattle.search_state.specs.Marked.{marked_in}
 use Rattle.search_state.specs.Branchings.{AreMarks}
 use Rattle.search_state.specs.Resting.{IsResting}
-use Rattle.search_state.specs.Progress.{ProgressLists, IsAsked, IsFitLine, IsStanding, IsSameQuery, HasMoved}
+use Rattle.search_state.specs.Progress.{ProgressLists, IsAsked, IsFitLine, IsStanding, HasMoved}
 use Rattle.search_state.proofs.Entries.{facts-items, items-append, items-grounded, marked-append, marked-grounded}
 use Rattle.search_state.proofs.Marks.{marks_stay}
 

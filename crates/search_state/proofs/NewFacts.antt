@@ -1,11 +1,11 @@
 -- Whether new nodes have made a plain clash.
-use Rattle.std.proofs.Common.{◌≡◌, ℕ, zero, suc, ◌+◌, ◌<◌, ◌≤◌, ◌&&◌, ◌||◌, eqb, Bool, true, false, List, [], ◌∷◌, ◌++◌, length, Option, Some, None, refl, ap, ◌∙◌, sym, subst, arith, eq-eqb}
+use Rattle.std.proofs.Common.{◌≡◌, ℕ, zero, suc, ◌+◌, ◌<◌, eqb, true, List, ◌++◌, Option, Some, None, refl, ap, ◌∙◌, sym, subst, arith, eq-eqb}
 use Rattle.std.specs.Prelude.{MatchOption}
 use Rattle.std.specs.List.{list_any}
 use Rattle.std.proofs.lemmas.Bool.{and_from, or_left, or_right}
 use Rattle.std.proofs.lemmas.List.Folds.{list_any-append}
 use Rattle.calculus_specs.specs.declared.facts.Fact.{Fact}
-use Rattle.calculus_specs.specs.declared.facts.Fact.TheVariants.{Has, Edge}
+use Rattle.calculus_specs.specs.declared.facts.Fact.TheVariants.{Has}
 use Rattle.calculus_specs.specs.Joins.{rep}
 use Rattle.calculus_specs.specs.State.{node_count, has, is_given, gives_concept, fresh_facts}
 use Rattle.tableau_specs.specs.Clash.{IsPlainClash}

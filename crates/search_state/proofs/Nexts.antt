@@ -1,5 +1,5 @@
 -- Whether there is a next step.
-use Rattle.std.proofs.Common.{◌≡◌, ℕ, zero, suc, ◌+◌, ◌<◌, Bool, true, false, List, [], ◌∷◌, ◌++◌, length, take, get_or, Some, None, Option, refl, ap, ◌∙◌, sym, subst, arith}
+use Rattle.std.proofs.Common.{◌≡◌, ℕ, zero, suc, ◌+◌, ◌<◌, true, List, [], ◌∷◌, ◌++◌, take, get_or, refl, ap, ◌∙◌, sym, subst, arith}
 use Rattle.std.proofs.lemmas.Option.{slice_get-get_or}
 use Rattle.lane_sieve.specs.Sets.{NumberSet}
 use Rattle.calculus_specs.specs.Shape.{Shape, shape_of}
@@ -12,7 +12,7 @@ use Rattle.tableau_specs.specs.declared.Branch.{Branch}
 use Rattle.tableau_specs.specs.declared.Branch.TheVariants.{Or, Choose, Pair}
 use Rattle.tableau_specs.specs.declared.Item.TheVariants.{Fact as Says, Mark as Marks}
 use Rattle.tableau_specs.specs.LineLaws.{IsNumbered}
-use Rattle.tableau_specs.specs.Steps.{SearchContext, below_of, IsAlternative, IsLegal, HasClash, HasPlainClash, next_choice}
+use Rattle.tableau_specs.specs.Steps.{SearchContext, below_of, IsAlternative, HasClash, HasPlainClash, next_choice}
 use Rattle.tableau_specs.specs.Steps.IsAlternative.{of_union, of_filler, of_complement, of_joining, of_parting}
 use Rattle.tableau_specs.specs.Steps.IsLegal.{add, generate, choose, back}
 use Rattle.tableau_specs.specs.declared.Choice.{Choice}

@@ -1,8 +1,5 @@
 -- What each kind of step keeps.
-use Rattle.std.proofs.Common.{◌≡◌, ℕ, zero, suc, ◌+◌, ◌<◌, ◌≤◌, ◌&&◌, leb, Bool, true, false, List, [], ◌∷◌, ◌++◌, map, length, take, drop, Option, Some, None, refl, ap, ◌∙◌, sym, subst, arith}
-use Rattle.std.specs.Prelude.{slice_get}
-use Rattle.std.specs.List.{list_all}
-use Rattle.std.specs.FinSet as sets
+use Rattle.std.proofs.Common.{◌≡◌, ℕ, ◌<◌, leb, true, false, List, [], ◌∷◌, ◌++◌, refl, sym, subst, arith}
 use Rattle.std.proofs.lemmas.Bool.{and_parts, leb-true}
 use Rattle.lane_sieve.specs.Sets.{NumberSet}
 use Rattle.calculus_specs.specs.Shape.{Shape, shape_of, is_normal, IsTable}
@@ -13,13 +10,10 @@ use Rattle.calculus_specs.specs.State.{node_count, has, fresh_facts}
 use Rattle.calculus_specs.specs.Line.{Line}
 use Rattle.tableau_specs.specs.Items.{facts_of, says}
 use Rattle.tableau_specs.specs.Clash.{IsPlainClash}
-use Rattle.tableau_specs.specs.Steps.{SearchContext, below_of, Adds, Generates, IsLegal, HasPlainClash}
+use Rattle.tableau_specs.specs.Steps.{SearchContext, below_of, Adds, Generates, IsLegal}
 use Rattle.tableau_specs.specs.Steps.IsLegal.{add, generate}
-use Rattle.search_trace.specs.Noted.{marked}
-use Rattle.search_trace.specs.Grounded.{named, is_known_within, AreGrounded}
-use Rattle.search_trace.specs.Trail.{MarkedFact}
+use Rattle.search_trace.specs.Grounded.{is_known_within}
 use Rattle.completion_tree.specs.declared.tree.By.{By}
-use Rattle.completion_tree.specs.declared.tree.Entry.{Entry}
 use Rattle.completion_tree.specs.declared.tree.Entry.TheVariants.{Fact as Grounded}
 use Rattle.completion_tree.specs.Trail.{facts_in, items_of, grounded, with_fresh}
 use Rattle.step_finders.specs.declared.reason.Addition.{Addition}

@@ -1,5 +1,5 @@
 -- The mark to whose next alternative a search goes back.
-use Rattle.std.proofs.Common.{◌≡◌, ℕ, zero, suc, ◌+◌, ◌<◌, ◌≤◌, List, [], ◌∷◌, ◌++◌, length, take, drop, reverse, Some, refl, ap, ◌∙◌, sym, subst, arith, append_assoc}
+use Rattle.std.proofs.Common.{◌≡◌, ℕ, zero, suc, ◌+◌, ◌^◌, ◌<◌, ◌≤◌, List, [], ◌∷◌, ◌++◌, length, take, drop, reverse, Some, refl, ap, ◌∙◌, sym, subst, arith, append_assoc}
 use Rattle.std.specs.Prelude.{slice_get}
 use Rattle.std.proofs.lemmas.List.{length-append, length-reverse, reverse-append, take-append-drop, length-take-le}
 use Rattle.std.proofs.Math.Seq.{take-append_seam}
@@ -98,6 +98,10 @@ module _ (w : SearchContext) (s : ProgressLists) (mark : ℕ) (marks : NumberSet
   pub is_numbered : IsNumbered w.table left.mark.choice.branch
   is_numbered = left.mark.alternatives.numbered
 
+  -- the number of the next alternative
+  is_small : left.mark.choice.alternative + 1 < 2 ^ 32
+  is_small = omega (arith, has_more, left.mark.small)
+
   -- ---- the trail before the mark
 
   facts_before : facts_of (take left.at (items_of s.entries)) ≡ facts_in (take left.at s.entries)
@@ -161,6 +165,9 @@ module _ (w : SearchContext) (s : ProgressLists) (mark : ℕ) (marks : NumberSet
 
       pub more_at : c.alternative < alternative_count w.table c.branch
       more_at = subst (λ (d : Choice). d.alternative < alternative_count w.table d.branch) (sym c_is) has_more
+
+      pub small_at : c.alternative + 1 < 2 ^ 32
+      small_at = subst (λ (d : Choice). d.alternative + 1 < 2 ^ 32) (sym c_is) is_small
 
       pub numbered_at : IsNumbered w.table c.branch
       numbered_at = subst (λ (d : Choice). IsNumbered w.table d.branch) (sym c_is) is_numbered

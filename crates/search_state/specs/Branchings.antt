@@ -1,5 +1,5 @@
 -- The marks of a trail, and the open branchings of the trace to which they belong.
-use Rattle.std.specs.Prelude.{◌≡◌, ℕ, ◌+◌, true, List, [], ◌∷◌, take, drop, length, Some, slice_get}
+use Rattle.std.specs.Prelude.{◌≡◌, ℕ, ◌+◌, ◌^◌, ◌<◌, true, List, [], ◌∷◌, take, drop, length, Some, slice_get}
 use Rattle.std.specs.List.{list_all}
 use Rattle.calculus_specs.specs.declared.facts.Fact.{Fact}
 use Rattle.tableau_specs.specs.declared.Branch.{Branch}
@@ -21,8 +21,8 @@ pub record AreAlternatives (w : SearchContext) (fs : List (Fact ℕ)) (b : Branc
   pub count : length children ≡ alternative_count w.table b
   pub numbered : IsNumbered w.table b
 
--- The mark of the branching stands at this place of the trail. The nodes of its branch are known before it, and the
--- alternatives that come after the one taken are left.
+-- The mark of the branching stands at this place of the trail. The nodes of its branch are known before it, each of its
+-- alternatives has a number in a mark, and those that come after the one taken are left.
 pub record IsMarkOf (w : SearchContext) (es : List Entry) (at : ℕ) (p : Place) : Type 0 where
   pub choice : Choice
   pub stands : slice_get es at ≡ Some (Mark choice)
@@ -33,6 +33,7 @@ pub record IsMarkOf (w : SearchContext) (es : List Entry) (at : ℕ) (p : Place)
   pub facts : List (Fact ℕ)
   pub children : List Added
   pub alternatives : AreAlternatives w facts choice.branch children
+  pub small : alternative_count w.table choice.branch < 2 ^ 32
   pub rest : drop choice.alternative children ≡ p.rest
 
 -- the marks of the branchings stand at these places of the trail, the latest first

@@ -1,5 +1,5 @@
 // The next step of a search.
-ghost use Rattle.std.specs.Prelude.{◌≡◌, ◌+◌, ◌<◌, ◌^◌, None, MatchOption, OnOk, IfOk, IfSome};
+ghost use Rattle.std.specs.Prelude.{◌≡◌, ◌+◌, ◌<◌, ◌^◌, None, MatchOption, OnOk, OnErr, IfOk, IfSome};
 ghost use Rattle.completion_tree.specs.Trail.{facts_in};
 ghost use Rattle.step_agenda.specs.Followed.{IsCurrent};
 ghost use Rattle.step_finders.specs.Clashing.{IsShown};
@@ -8,6 +8,7 @@ ghost use Rattle.step_finders.specs.Making.{IsMaking};
 ghost use Rattle.step_finders.specs.Reasons.{IsAddition};
 ghost use Rattle.step_finders.specs.Stepping.{NoStep, IsStep};
 ghost use Rattle.search_state.specs.Progress.{IsStanding, IsClashOf, IsSearching, HasMoved};
+ghost use Rattle.tableau_specs.specs.LineLaws.{IsNumbered};
 ghost use Rattle.tableau_specs.specs.Steps.{IsAlternative};
 ghost use Rattle.step_finders.specs.Choosing.{branch_of};
 ghost use Rattle.step_lines.specs.Kinds.{alternative_count};
@@ -15,7 +16,8 @@ ghost use Rattle.search_state.specs.Turning.{IsTurning};
 ghost use Rattle.search_state.specs.Advancing.{HasAdvanced};
 ghost use Rattle.search_state.specs.Stepping.{IsStepped};
 
-use crate::alternatives::{count_alternatives, fact_of};
+use crate::alternatives::count_alternatives;
+use crate::next_alternative::alternative_after;
 use crate::progress::Progress;
 use crate::resting::{rest_addition, rest_choice, rest_new_nodes};
 use crate::{NoMemory, Stepped};
@@ -65,8 +67,9 @@ impl<'b, A: Allocator + Copy> Progress<'b, A> {
         requires countable { self.old.steps + 1 < 2 ^ 64 }
         ensures { OnOk result (HasAdvanced (R.context rules.now) self.old self.new) }
     {
-        let (left, fact) = first_of(rules, choosing)?;
         let resting = rest_choice(self.heap, &self.tree, &self.prints, rules, choosing)?;
+        let left = left_after_first(rules, choosing)?;
+        let fact = first_of(rules, choosing);
         self.put_choice(rules, choosing, resting, left, fact)?;
         self.look(rules, fact)?;
         Ok(())
@@ -187,19 +190,22 @@ impl<'b, A: Allocator + Copy> Progress<'b, A> {
     }
 }
 
-// How many alternatives are left after the first, and the fact of the first.
-fn first_of<R: Rules>(rules: &R, choosing: &Choosing) -> Result<(u32, Fact<u32>), NoMemory>
-    ensures left { IfOk result (λ p. p.0 + 1 ≡ alternative_count (R.context rules.now).table (branch_of choosing.now)) }
-    ensures first { IfOk result (λ p. IsAlternative (R.context rules.now).table (branch_of choosing.now) 1 p.1) }
+// How many alternatives are left after the first. Where they have no number, there are too many.
+fn left_after_first<R: Rules>(rules: &R, choosing: &Choosing) -> Result<u32, NoMemory>
+    requires { 0 < alternative_count (R.context rules.now).table (branch_of choosing.now) }
+    ensures left { IfOk result (λ n. n + 1 ≡ alternative_count (R.context rules.now).table (branch_of choosing.now)) }
+    ensures small { IfOk result (λ n. n + 1 < 2 ^ 32) }
+    ensures too_many { OnErr result (u32.MAX < alternative_count (R.context rules.now).table (branch_of choosing.now)) }
 {
-    let branch = choosing.branch();
-    let count = count_alternatives(rules, branch);
-    if count == 0 || count > u32::MAX as usize {
-        return Err(NoMemory);
-    }
-    let left = (count - 1) as u32;
-    match fact_of(rules, branch, 1) {
-        Some(fact) => Ok((left, fact)),
-        None => Err(NoMemory),
-    }
+    let count = count_alternatives(rules, choosing.branch())?;
+    Ok(count - 1)
+}
+
+// The fact of the first alternative.
+fn first_of<R: Rules>(rules: &R, choosing: &Choosing) -> Fact<u32>
+    requires some { 0 < alternative_count (R.context rules.now).table (branch_of choosing.now) }
+    requires numbered { IsNumbered (R.context rules.now).table (branch_of choosing.now) }
+    ensures { IsAlternative (R.context rules.now).table (branch_of choosing.now) 1 result }
+{
+    alternative_after(rules, choosing.branch(), 0)
 }

@@ -77,7 +77,7 @@ impl<'b, A: Allocator + Copy> Progress<'b, A> {
         let place = cut_marks(&mut self.marks, count);
         let choice = choice_at(&self.tree, place);
         let fact = alternative_after(rules, choice.branch, choice.alternative);
-        let next = at_next(choice)?;
+        let next = at_next(choice);
         let from = cut(&mut self.tree, place);
         let by = By { line: mark, marks };
         put_alternative(&mut self.tree, next, fact, by)?;
@@ -92,15 +92,13 @@ impl<'b, A: Allocator + Copy> Progress<'b, A> {
 }
 
 // The choice at its next alternative.
-fn at_next(choice: Choice) -> Result<Choice, NoMemory>
-    ensures { IfOk result (λ c. c ≡ record choice { alternative = choice.alternative + 1 }) }
+fn at_next(choice: Choice) -> Choice
+    requires { choice.alternative + 1 < 2 ^ 32 }
+    ensures { result ≡ record choice { alternative = choice.alternative + 1 } }
 {
-    match choice.alternative.checked_add(1) {
-        Some(alternative) => Ok(Choice {
-            alternative,
-            ..choice
-        }),
-        None => Err(NoMemory),
+    Choice {
+        alternative: choice.alternative + 1,
+        ..choice
     }
 }
 

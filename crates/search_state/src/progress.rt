@@ -202,6 +202,7 @@ impl<'b, A: Allocator + Copy> Progress<'b, A> {
         requires choosable { IsChoosable (R.context rules.now) (facts_in self.old.entries) choosing.now }
         requires rests { RestsChoice (R.context rules.now) self.old.entries (branch_of choosing.now) (line_of resting.line) resting.marks }
         requires left { left + 1 ≡ alternative_count (R.context rules.now).table (branch_of choosing.now) }
+        requires small { left + 1 < 2 ^ 32 }
         requires first { IsAlternative (R.context rules.now).table (branch_of choosing.now) 1 fact }
         requires fits { IsFit (node_count (facts_in self.old.entries)) fact }
         requires countable { self.old.steps + 1 < 2 ^ 64 }

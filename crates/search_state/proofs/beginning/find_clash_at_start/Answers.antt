@@ -1,4 +1,4 @@
-use Rattle.std.proofs.Common.{◌≡◌, ap, subst, Option, None}
+use Rattle.std.proofs.Common.{ap, subst, Option}
 use Rattle.std.specs.Prelude.{MatchOption}
 use Rattle.std.proofs.lemmas.Result.{IfOk-weaker}
 use Rattle.calculus_specs.specs.declared.facts.Fact.TheVariants.{Has}

@@ -1,10 +1,10 @@
-use Rattle.std.proofs.Common.{◌≡◌, ℕ, subst, sym, List}
+use Rattle.std.proofs.Common.{ℕ, subst, sym, List}
 use Rattle.calculus_specs.specs.declared.facts.Fact.{Fact}
 use Rattle.calculus_specs.specs.declared.facts.Fact.TheVariants.{Has, Apart, Same}
 use Rattle.completion_tree.specs.declared.tree.Entry.{Entry}
 use Rattle.completion_tree.specs.Trail.{facts_in}
 use Rattle.step_finders.specs.Clashing.{IsOfParent}
-use Rattle.search_state.specs.Looking.{IsLookedAt, IsLookable}
+use Rattle.search_state.specs.Looking.{IsLookable}
 use Rattle.search_state.proofs.looking.find_clash_by.Goals as goal
 
 pub find_clash-requires-clause-above : goal.find_clash-requires-clause-above

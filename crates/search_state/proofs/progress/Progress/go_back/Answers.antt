@@ -1,4 +1,4 @@
-use Rattle.std.proofs.Common.{◌≡◌, subst}
+use Rattle.std.proofs.Common.{subst}
 use Rattle.search_trace.specs.declared.opens.Back.{Back}
 use Rattle.search_state.specs.Turning.{HasGoneBack}
 use Rattle.search_state.proofs.Nexts.{closing_is_closed}

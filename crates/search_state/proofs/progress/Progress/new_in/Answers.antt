@@ -1,13 +1,8 @@
-use Rattle.std.proofs.Common.{◌≡◌, ◌∙◌, ℕ, List, [], ◌∷◌, ◌++◌, None, ap, refl, sym, subst, reverse}
+use Rattle.std.proofs.Common.{◌≡◌, ◌∙◌, List, [], ◌∷◌, ◌++◌, ap, reverse}
 use Rattle.calculus_specs.specs.declared.facts.Fact.TheVariants.{Has}
-use Rattle.step_agenda.specs.Followed.{IsCurrent}
 use Rattle.completion_tree.specs.declared.tree.Entry.{Entry}
 use Rattle.completion_tree.specs.declared.tree.Entry.TheVariants.{Fact as Grounded}
-use Rattle.completion_tree.specs.Trail.{facts_in}
-use Rattle.search_trace.specs.Trace.{TraceLists}
 use Rattle.search_state.specs.Beginning.{by_start, begun_entries}
-use Rattle.search_state.specs.Progress.{ProgressLists, IsClashOf}
-use Rattle.search_state.specs.Stepping.{HasBegun}
 use Rattle.search_state.proofs.Beginnings.{begins}
 use Rattle.search_state.proofs.progress.Progress.new_in.Goals as goal
 

@@ -53,7 +53,7 @@ returns-clause-moved g c =
     (subst (λ (q : ProgressLists). IsChoosable w (facts_in q.entries) k) (sym is) c.requires.choosable)
     c.facts_stay_grounded.ensures c.alternatives_speak_of_nodes.ensures line u
     (subst (λ (q : ProgressLists). RestsChoice w q.entries (branch_of k) line u) (sym is) c.requires.rests)
-    c.args.left c.requires.left c.args.fact c.requires.first
+    c.args.left c.requires.left c.requires.small c.args.fact c.requires.first
     by (c.in_ok-more.ensures ∙ ap (λ (n : ℕ). sets.insert u n) c.in_ok-mark.ensures.number) new
     (record {
       query = refl;

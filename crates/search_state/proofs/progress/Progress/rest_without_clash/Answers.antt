@@ -1,4 +1,4 @@
-use Rattle.std.proofs.Common.{◌≡◌, refl, sym, subst, List, ℕ, Option, None, Some}
+use Rattle.std.proofs.Common.{refl, sym, subst, List, ℕ, Option}
 use Rattle.std.specs.Prelude.{MatchOption}
 use Rattle.calculus_specs.specs.declared.facts.Fact.{Fact}
 use Rattle.tableau_specs.specs.Clash.{IsPlainClash}

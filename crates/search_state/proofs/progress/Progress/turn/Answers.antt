@@ -11,7 +11,7 @@ use Rattle.search_state.specs.Progress.{ProgressLists, HasMoved, IsLast}
 use Rattle.search_state.specs.Turning.{IsTurning}
 use Rattle.search_state.proofs.Choices.{with_choice}
 use Rattle.search_state.proofs.Parts.{alternative_no_edge}
-use Rattle.search_state.proofs.Taking.{marks_within, is_marked, at_within, at_still_within, front_at, last_at, more_at, numbered_at, fits_at, moves_at}
+use Rattle.search_state.proofs.Taking.{marks_within, is_marked, at_within, at_still_within, front_at, last_at, more_at, small_at, numbered_at, fits_at, moves_at}
 use Rattle.search_state.proofs.progress.Progress.turn.Goals as goal
 
 pub cut_marks-place-requires-clause-within : goal.cut_marks-place-requires-clause-within
@@ -58,6 +58,17 @@ alternative_after-fact-requires-clause-numbered g c =
     let t : IsTurning w old m ms = subst (λ (q : ProgressLists). IsTurning w q m ms) (sym is) c.requires.turning in
     numbered_at w old m ms t s.marks.items refl c.open_count-count.result c.cut_marks-place.result c.open_count-count.ensures c.cut_marks-place.ensures.latest c.choice_at-choice.result c.choice_at-choice.ensures
 
+pub at_next-next-requires : goal.at_next-next-requires
+at_next-next-requires g c =
+    let w = g.R.Rules.context c.args.rules.now in
+    let s = c.self.inside in
+    let old : ProgressLists = record { query = s.query.now; sub = s.sub; not_sup = s.not_sup; entries = s.tree; prints = s.prints; trace = s.trace; marks = reverse s.marks.items; clash = s.clash; steps = s.steps } in
+    let m = c.args.mark in
+    let ms = c.args.marks in
+    let is : old ≡ c.args.self.now = c.self.view_is in
+    let t : IsTurning w old m ms = subst (λ (q : ProgressLists). IsTurning w q m ms) (sym is) c.requires.turning in
+    small_at w old m ms t s.marks.items refl c.open_count-count.result c.cut_marks-place.result c.open_count-count.ensures c.cut_marks-place.ensures.latest c.choice_at-choice.result c.choice_at-choice.ensures
+
 pub cut-from-requires : goal.cut-from-requires
 cut-from-requires g c =
     let w = g.R.Rules.context c.args.rules.now in
@@ -90,7 +101,7 @@ follow-requires-clause-place g c =
     let is : old ≡ c.args.self.now = c.self.view_is in
     let t : IsTurning w old m ms = subst (λ (q : ProgressLists). IsTurning w q m ms) (sym is) c.requires.turning in
     let by : By = record { line = m; marks = ms } in
-    let next : Choice = c.in_ok-next.next in
+    let next : Choice = c.at_next-next.result in
     let f = c.alternative_after-fact.result in
     let at = c.cut_marks-place.result in
     let put : c.put_alternative.new.tree ≡ with_choice (take at s.tree) next f by = c.in_ok-put_alternative.ensures ∙ ap (λ (es : List Entry). with_choice es next f by) c.cut-from.ensures.cut in
@@ -106,7 +117,7 @@ follow-requires-clause-stood g c =
     let is : old ≡ c.args.self.now = c.self.view_is in
     let t : IsTurning w old m ms = subst (λ (q : ProgressLists). IsTurning w q m ms) (sym is) c.requires.turning in
     let by : By = record { line = m; marks = ms } in
-    let next : Choice = c.in_ok-next.next in
+    let next : Choice = c.at_next-next.result in
     let f = c.alternative_after-fact.result in
     let at = c.cut_marks-place.result in
     let put : c.put_alternative.new.tree ≡ with_choice (take at s.tree) next f by = c.in_ok-put_alternative.ensures ∙ ap (λ (es : List Entry). with_choice es next f by) c.cut-from.ensures.cut in
@@ -122,7 +133,7 @@ returns-clause-last g c =
     let is : old ≡ c.args.self.now = c.self.view_is in
     let t : IsTurning w old m ms = subst (λ (q : ProgressLists). IsTurning w q m ms) (sym is) c.requires.turning in
     let by : By = record { line = m; marks = ms } in
-    let next : Choice = c.in_ok-next.next in
+    let next : Choice = c.at_next-next.result in
     let f = c.alternative_after-fact.result in
     let at = c.cut_marks-place.result in
     let put : c.put_alternative.new.tree ≡ with_choice (take at s.tree) next f by = c.in_ok-put_alternative.ensures ∙ ap (λ (es : List Entry). with_choice es next f by) c.cut-from.ensures.cut in
@@ -138,7 +149,7 @@ returns-clause-moved g c =
     let is : old ≡ c.args.self.now = c.self.view_is in
     let t : IsTurning w old m ms = subst (λ (q : ProgressLists). IsTurning w q m ms) (sym is) c.requires.turning in
     let by : By = record { line = m; marks = ms } in
-    let next : Choice = c.in_ok-next.next in
+    let next : Choice = c.at_next-next.result in
     let f = c.alternative_after-fact.result in
     let at = c.cut_marks-place.result in
     let put : c.put_alternative.new.tree ≡ with_choice (take at s.tree) next f by = c.in_ok-put_alternative.ensures ∙ ap (λ (es : List Entry). with_choice es next f by) c.cut-from.ensures.cut in
@@ -149,7 +160,7 @@ returns-clause-moved g c =
       query = refl;
       sub = refl;
       not_sup = refl;
-      entries_are = put ∙ ap (λ (d : Choice). with_choice (take at s.tree) d f by) c.in_ok-next.ensures;
+      entries_are = put ∙ ap (λ (d : Choice). with_choice (take at s.tree) d f by) c.at_next-next.ensures;
       trace_is = refl;
       marks_are = ap reverse c.cut_marks-place.ensures.kept;
       counted = refl;
