@@ -37,3 +37,10 @@ pub mod AllowedParts
 pub mod CounterModelComputed
 pub mod InLimit
 pub mod CounterModelLaws
+pub mod Turned
+pub mod Root
+pub mod ReuseSetting
+pub mod Stepping
+pub mod Running
+pub mod Answering
+pub mod Last

@@ -10,4 +10,7 @@ pub mod Built
 pub mod Computed
 pub mod CounterModelLaws
 pub mod CounterModelExamples
+pub mod Runs
+pub mod ReuseLaws
+pub mod ReuseExamples
 pub use Rattle.refutation_truth.specs.Theory

@@ -3,10 +3,12 @@
 //! - `trail_laws`: what bounds and counter-models both need of reached trails.
 //! - `bound_laws`: every legal search ends, and after how many steps.
 //! - `counter_model_laws`: a saturated trail describes a finite interpretation that meets the axioms and refutes the query.
+//! - `reuse_laws`: what the run of one search shows of other queries.
 #![tactic(auto)]
 
 mod bound_laws;
 mod counter_model_laws;
+mod reuse_laws;
 mod trail_laws;
 
 pub use bound_laws::{
@@ -18,4 +20,5 @@ pub use counter_model_laws::{
     labels_are_part, labels_are_true, labels_count_simple, parts_are_met, roles_are_met,
     saturated_does_not_entail, saturated_is_counter_model, successors_are_elements,
 };
+pub use reuse_laws::{one_run_answers_more, steps_put_last};
 pub use trail_laws::{few_successors_fit, the_start_stays, theories_are_their_axioms};

@@ -1,29 +1,62 @@
--- Which concepts the run of a search ever put.
-use Rattle.std.specs.Prelude.{◌≡◌, ℕ, ◌+◌, ◌||◌, Bool, true, List, [], length, Contains}
+-- With which classes the run of a search has had to do.
+use Rattle.std.specs.Prelude.{◌≡◌, ℕ, ◌+◌, ◌<◌, ◌==◌, ◌&&◌, ◌||◌, Bool, false, List, [], Option, Some, None}
 use Rattle.std.specs.List.{list_any}
 use Rattle.std.specs.FinSet as set
 use Rattle.axiom_sets.specs.Sets.{Limited}
 use Rattle.calculus_specs.specs.Shape.{Shape, shape_of}
 use Rattle.calculus_specs.specs.Shape.Shape.{top, bottom, name, not_name, intersection, union, some_of, all_of, at_least, at_most}
 use Rattle.calculus_specs.specs.declared.facts.Fact.{Fact}
+use Rattle.calculus_specs.specs.declared.facts.Fact.TheVariants.{Has, Edge, Apart, Same}
 use Rattle.tableau_specs.specs.declared.Item.{Item}
-use Rattle.reuse_laws.specs.Runs.{was_ever, puts, puts_at_root}
+use Rattle.search_laws.specs.Runs.{was_ever}
 
--- sets of concept numbers: those that a node was given, those that node 0 was given, and the parts of the unions among these.
--- Numbers begin at 0 and members at 1, so number c stands in a set as c + 1
+-- sets of classes: those that node 0 was given, and those whose complement bears on node 0: it was given to some node, or is a
+-- part of a union that node 0 was given. Class numbers begin at 0 and members at 1, so class a stands in a set as a + 1
 pub record SeenSets : Type 0 where
-  pub put : Limited
   pub at_root : Limited
-  pub parts : Limited
+  pub complements : Limited
 
 abbrev pub holds : Limited → ℕ → Bool
-holds s c = set.contains s.members (c + 1)
+holds s a = set.contains s.members (a + 1)
 
-abbrev pub no_numbers : ℕ → Limited
-no_numbers count = record { limit = count; members = set.empty }
+abbrev pub no_classes : ℕ → Limited
+no_classes count = record { limit = count; members = set.empty }
 
 abbrev pub nothing_seen : ℕ → SeenSets
-nothing_seen count = record { put = no_numbers count; at_root = no_numbers count; parts = no_numbers count }
+nothing_seen count = record { at_root = no_classes count; complements = no_classes count }
+
+-- the sets are of classes below a count
+pub record AreOver (count : ℕ) (s : SeenSets) : Type 0 where
+  pub root_limit : s.at_root.limit ≡ count
+  pub complements_limit : s.complements.limit ≡ count
+
+-- ---- facts that have to do with a class
+
+-- the class that a shape is, if it is one
+abbrev pub class_of : Shape → Option ℕ
+class_of (name a) = Some a
+class_of (not_name a) = None
+class_of top = None
+class_of bottom = None
+class_of (intersection parts) = None
+class_of (union parts) = None
+class_of (some_of r c) = None
+class_of (all_of r c) = None
+class_of (at_least n r c) = None
+class_of (at_most n r c) = None
+
+-- the class in whose complement a shape is, if it is one
+abbrev pub complement_of : Shape → Option ℕ
+complement_of (not_name a) = Some a
+complement_of (name a) = None
+complement_of top = None
+complement_of bottom = None
+complement_of (intersection parts) = None
+complement_of (union parts) = None
+complement_of (some_of r c) = None
+complement_of (all_of r c) = None
+complement_of (at_least n r c) = None
+complement_of (at_most n r c) = None
 
 -- the parts of a union, and none of any other shape
 abbrev pub union_parts : Shape → List ℕ
@@ -38,41 +71,50 @@ union_parts (all_of r c) = []
 union_parts (at_least n r c) = []
 union_parts (at_most n r c) = []
 
--- some union that node 0 was given has the part
-pub record IsPartAtRoot (table : List Shape) (at_root : Limited) (d : ℕ) : Type 0 where
-  pub whole : ℕ
-  pub is_at_root : holds at_root whole ≡ true
-  pub is_part : Contains (union_parts (shape_of table whole)) d
+-- whether it is class a
+abbrev pub is_one : ℕ → Option ℕ → Bool
+is_one a (Some b) = b == a
+is_one a None = false
 
--- the sets are of numbers of the table, and the parts are those of the unions
-pub record AreOver (table : List Shape) (s : SeenSets) : Type 0 where
-  pub put_limit : s.put.limit ≡ length table
-  pub root_limit : s.at_root.limit ≡ length table
-  pub parts_limit : s.parts.limit ≡ length table
-  pub parts_are : (d : ℕ) → holds s.parts d ≡ true → IsPartAtRoot table s.at_root d
-  pub has_parts : (c d : ℕ) → holds s.at_root c ≡ true → Contains (union_parts (shape_of table c)) d → holds s.parts d ≡ true
+-- whether the number of a table is that of the complement of class a
+abbrev pub is_complement : List Shape → ℕ → ℕ → Bool
+is_complement table a d = is_one a (complement_of (shape_of table d))
+
+-- whether one of the numbers is
+abbrev pub has_complement : List Shape → ℕ → List ℕ → Bool
+has_complement table a numbers = list_any (is_complement table a) numbers
+
+-- whether the fact gives node 0 class a
+abbrev pub gives_class : List Shape → ℕ → Fact ℕ → Bool
+gives_class table a (Has x c) = x == 0 && is_one a (class_of (shape_of table c))
+gives_class table a (Edge r x y) = false
+gives_class table a (Apart y z) = false
+gives_class table a (Same y z) = false
+
+-- whether the fact gives a node the complement of class a, or node 0 a union of which that is a part
+abbrev pub gives_complement : List Shape → ℕ → Fact ℕ → Bool
+gives_complement table a (Has x c) = is_complement table a c || (x == 0 && has_complement table a (union_parts (shape_of table c)))
+gives_complement table a (Edge r x y) = false
+gives_complement table a (Apart y z) = false
+gives_complement table a (Same y z) = false
+
+-- ---- what is noted
+
+-- a set has gained those classes of which a test says so
+pub record HasGained (test : ℕ → Bool) (old new : Limited) : Type 0 where
+  pub limit : new.limit ≡ old.limit
+  pub held : (a : ℕ) → a < old.limit → holds new a ≡ (test a || holds old a)
 
 -- the facts are noted
-pub record HasNoted (fs : List (Fact ℕ)) (old new : SeenSets) : Type 0 where
-  pub put : (c : ℕ) → holds new.put c ≡ (list_any (puts c) fs || holds old.put c)
-  pub at_root : (c : ℕ) → holds new.at_root c ≡ (list_any (puts_at_root c) fs || holds old.at_root c)
+pub record HasNoted (table : List Shape) (fs : List (Fact ℕ)) (old new : SeenSets) : Type 0 where
+  pub at_root : HasGained (λ a. list_any (gives_class table a) fs) old.at_root new.at_root
+  pub complements : HasGained (λ a. list_any (gives_complement table a) fs) old.complements new.complements
 
--- the sets are those of the run, no more and no less
+-- the sets are those of the run, no more and no less, as far as they reach
 pub record AreSeenIn (table : List Shape) (run : List (List Item)) (s : SeenSets) : Type 0 where
-  pub over : AreOver table s
-  pub put : (c : ℕ) → holds s.put c ≡ was_ever (puts c) run
-  pub at_root : (c : ℕ) → holds s.at_root c ≡ was_ever (puts_at_root c) run
+  pub at_root : (a : ℕ) → a < s.at_root.limit → holds s.at_root a ≡ was_ever (gives_class table a) run
+  pub complements : (a : ℕ) → a < s.complements.limit → holds s.complements a ≡ was_ever (gives_complement table a) run
 
--- ---- a class of which the sets know nothing
-
--- node 0 was not given class a
-abbrev pub LacksName : List Shape → SeenSets → ℕ → Type 0
-LacksName table s a = (c : ℕ) → holds s.at_root c ≡ true → ¬ (shape_of table c ≡ name a)
-
--- the complement of class a is no part of a union that node 0 was given, and no node was given it
-pub record LacksComplement (table : List Shape) (s : SeenSets) (a : ℕ) : Type 0 where
-  pub is_no_part : (c d : ℕ) (parts : List ℕ) → holds s.at_root c ≡ true → shape_of table c ≡ union parts → Contains parts d → ¬ (shape_of table d ≡ not_name a)
-  pub was_not_put : (c : ℕ) → holds s.put c ≡ true → ¬ (shape_of table c ≡ not_name a)
-
-abbrev pub LacksClass : List Shape → SeenSets → ℕ → Type 0
-LacksClass table s a = LacksName table s a × LacksComplement table s a
+-- whether the run has had to do with class a
+abbrev pub has_seen : SeenSets → ℕ → Bool
+has_seen s a = holds s.at_root a || holds s.complements a

@@ -1,36 +1,32 @@
-// What was ever put.
-ghost use Rattle.std.specs.Prelude.{◌≡◌, ℕ, ◌+◌, ◌<◌, ◌≤◌, ◌||◌, ◌==◌, ◌↔◌, true, List, [], ◌∷◌, nat_lt, length, drop, IfOk, MatchOption};
-ghost use Rattle.std.specs.List.{list_all, list_any};
+// The classes with which a run has had to do.
+ghost use Rattle.std.specs.Prelude.{◌≡◌, ℕ, ◌<◌, ◌≤◌, ◌==◌, not, [], ◌∷◌, length, drop, IfOk};
 ghost use Rattle.calculus_specs.specs.declared.facts.Fact.TheVariants.{Has};
-ghost use Rattle.calculus_specs.specs.Reading.{are_listed};
 ghost use Rattle.calculus_specs.specs.Shape.{shape_of};
-ghost use Rattle.calculus_specs.specs.Shape.Shape.{name, not_name};
 ghost use Rattle.tableau_specs.specs.Items.{facts_of};
 ghost use Rattle.completion_tree.specs.Trail.{items_of};
-ghost use Rattle.seen_concepts.specs.Seen.{holds, nothing_seen, union_parts, AreOver, HasNoted, LacksName, LacksComplement, LacksClass};
+ghost use Rattle.seen_concepts.specs.Seen.{holds, nothing_seen, class_of, complement_of, union_parts, is_one, is_complement, has_complement};
+ghost use Rattle.seen_concepts.specs.Seen.{has_seen, HasGained, HasNoted};
 
 use crate::NoMemory;
 use axiom_sets::AxiomSet;
 use calculus_specs::Fact;
 use completion_tree::{Item, Tree};
-use shq_nnf::{Concepts, OwnedShape, Shape};
+use shq_nnf::Shape;
 use std::alloc::{Allocator, Global};
 use std::marker::Model;
 use step_finders::Rules;
 
-/// The concepts that a run ever put, by their numbers in its table.
+/// The classes with which a run has had to do, as far as they are below a count.
 ///
-/// Number c stands in the sets as c + 1, since their members begin at 1.
+/// Class a stands in the sets as a + 1, since their members begin at 1.
 #[derive(Drop)]
-pub struct SeenConcepts {
-    put: AxiomSet,
+pub struct SeenClasses {
     at_root: AxiomSet,
-
-    // The parts of the unions among these, so that no question goes through the unions.
-    parts: AxiomSet,
+    complements: AxiomSet,
 }
 
-impl Model for SeenConcepts {
+impl Model for SeenClasses {
+    ghost use Rattle.std.specs.Prelude.{◌≡◌};
     ghost use Rattle.std.specs.Coded.{codes};
     ghost use Rattle.axiom_sets.specs.Sets.{limited_code};
     ghost use Rattle.seen_concepts.specs.Seen.{SeenSets};
@@ -39,32 +35,30 @@ impl Model for SeenConcepts {
 
     ghost coded = { Prim.hlevel (codes, limited_code) };
 
-    ghost view = { λ s. record { put = s.put; at_root = s.at_root; parts = s.parts } };
+    ghost view = { λ s. record { at_root = s.at_root; complements = s.complements } };
+
+    ghost invariant = { λ s. s.complements.limit ≡ s.at_root.limit };
 }
 
-impl SeenConcepts {
-    /// Nothing is seen, of a table with so many numbers.
+impl SeenClasses {
+    /// Nothing is seen, of classes below a count.
     ///
     /// # Errors
     ///
     /// Out of memory.
-    pub fn new(alloc: Global, count: u32) -> Result<SeenConcepts, NoMemory>
+    pub fn new(alloc: Global, count: u32) -> Result<SeenClasses, NoMemory>
         ensures { IfOk result (λ s. s ≡ nothing_seen count) }
     {
-        Ok(SeenConcepts {
-            put: AxiomSet::empty(alloc, count)?,
+        Ok(SeenClasses {
             at_root: AxiomSet::empty(alloc, count)?,
-            parts: AxiomSet::empty(alloc, count)?,
+            complements: AxiomSet::empty(alloc, count)?,
         })
     }
 
     /// Notes the facts of the tree's trail from a place on.
     pub fn note<A: Allocator + Copy, R: Rules>(&mut self, rules: &R, tree: &Tree<A>, from: u32)
-        requires from { from ≤ length tree.now }
-        requires listed { are_listed (length (R.context rules.now).table) (facts_of (items_of tree.now)) ≡ true }
-        requires over { AreOver (R.context rules.now).table self.old }
-        ensures noted { HasNoted (facts_of (drop from (items_of tree.now))) self.old self.new }
-        ensures over { AreOver (R.context rules.now).table self.new }
+        requires { from ≤ length tree.now }
+        ensures { HasNoted (R.context rules.now).table (facts_of (drop from (items_of tree.now))) self.old self.new }
     {
         for place in from..tree.len() {
             self.note_item(rules, tree.item(place));
@@ -72,11 +66,9 @@ impl SeenConcepts {
     }
 
     // Notes what the item gives, if it is a fact that gives a concept.
+    #[tactic(auto, using(crate::proofs::Noting::nothing_noted))]
     fn note_item<R: Rules>(&mut self, rules: &R, item: Item)
-        requires listed { are_listed (length (R.context rules.now).table) (facts_of (item ∷ [])) ≡ true }
-        requires over { AreOver (R.context rules.now).table self.old }
-        ensures noted { HasNoted (facts_of (item ∷ [])) self.old self.new }
-        ensures over { AreOver (R.context rules.now).table self.new }
+        ensures { HasNoted (R.context rules.now).table (facts_of (item ∷ [])) self.old self.new }
     {
         match item {
             Item::Fact(Fact::Has(node, concept)) => self.note_concept(rules, node, concept),
@@ -84,77 +76,84 @@ impl SeenConcepts {
         }
     }
 
+    // Notes what a concept of a node has to do with classes.
+    #[tactic(auto, using(crate::proofs::Noting::noted_at_root, crate::proofs::Noting::noted_elsewhere))]
     fn note_concept<R: Rules>(&mut self, rules: &R, node: u32, concept: u32)
-        requires listed { concept < length (R.context rules.now).table }
-        requires over { AreOver (R.context rules.now).table self.old }
-        ensures noted { HasNoted (Has node concept ∷ []) self.old self.new }
-        ensures over { AreOver (R.context rules.now).table self.new }
+        ensures { HasNoted (R.context rules.now).table (Has node concept ∷ []) self.old self.new }
     {
-        put_number(&mut self.put, concept);
+        self.note_complement(rules, concept);
         if node == 0 {
             self.note_at_root(rules, concept);
         }
     }
 
-    // Notes a concept of node 0 with its parts, if it is a union. One that was noted has its parts noted too.
+    // Notes a concept that is the complement of a class.
+    fn note_complement<R: Rules>(&mut self, rules: &R, concept: u32)
+        ensures complements { HasGained (λ a. is_complement (R.context rules.now).table a concept) self.old.complements self.new.complements }
+        ensures at_root { self.new.at_root ≡ self.old.at_root }
+    {
+        put_complement(&mut self.complements, rules, concept);
+    }
+
+    // Notes what a concept of node 0 is besides: a class, or a union.
     fn note_at_root<R: Rules>(&mut self, rules: &R, concept: u32)
-        requires listed { concept < length (R.context rules.now).table }
-        requires over { AreOver (R.context rules.now).table self.old }
-        ensures put { self.new.put ≡ self.old.put }
-        ensures at_root { (c : ℕ) → holds self.new.at_root c ≡ ((concept == c) || holds self.old.at_root c) }
-        ensures over { AreOver (R.context rules.now).table self.new }
+        ensures at_root { HasGained (λ a. is_one a (class_of (shape_of (R.context rules.now).table concept))) self.old.at_root self.new.at_root }
+        ensures complements { HasGained (λ a. has_complement (R.context rules.now).table a (union_parts (shape_of (R.context rules.now).table concept))) self.old.complements self.new.complements }
     {
-        rules.is_ready();
-        if has_number(&self.at_root, concept) {
-            return;
-        }
-        put_number(&mut self.at_root, concept);
-        put_each(&mut self.parts, parts_of(rules, concept));
+        put_if(&mut self.at_root, class_of(rules, concept));
+        put_complements(&mut self.complements, rules, parts_of(rules, concept));
     }
 
-    /// Whether class `class` was not given to node 0, its complement is no part of a union there, and was given to no node.
-    pub fn lack_class(&self, concepts: &Concepts, class: u32) -> bool
-        requires { AreOver concepts.now self.now }
-        ensures { (result ≡ true) ↔ LacksClass concepts.now self.now class }
+    /// The classes below the count with which the run has had nothing to do, each number greater by one.
+    ///
+    /// # Errors
+    ///
+    /// Out of memory.
+    pub fn others(&self, alloc: Global) -> Result<AxiomSet, NoMemory>
+        ensures limit { IfOk result (λ s. s.limit ≡ self.now.at_root.limit) }
+        ensures exact { IfOk result (λ s. (a : ℕ) → a < self.now.at_root.limit → holds s a ≡ not (has_seen self.now a)) }
     {
-        self.lack_name(concepts, class) && self.lack_complement(concepts, class)
-    }
-
-    fn lack_name(&self, concepts: &Concepts, class: u32) -> bool
-        requires { AreOver concepts.now self.now }
-        ensures { (result ≡ true) ↔ LacksName concepts.now self.now class }
-    {
-        let _count = concepts.len();
-        match name_number(concepts, class) {
-            Some(number) => !has_number(&self.at_root, number),
-            None => true,
-        }
-    }
-
-    fn lack_complement(&self, concepts: &Concepts, class: u32) -> bool
-        requires { AreOver concepts.now self.now }
-        ensures { (result ≡ true) ↔ LacksComplement concepts.now self.now class }
-    {
-        let _count = concepts.len();
-        match complement_number(concepts, class) {
-            Some(number) => !has_number(&self.put, number) && !has_number(&self.parts, number),
-            None => true,
-        }
+        let mut classes = AxiomSet::full(alloc, self.at_root.limit())?;
+        classes.take_all(&self.at_root);
+        classes.take_all(&self.complements);
+        Ok(classes)
     }
 }
 
-// The number of a class, if it has one.
-fn name_number(concepts: &Concepts, class: u32) -> Option<u32>
-    ensures { MatchOption result ((n : ℕ) → n < length concepts.now → ¬ (shape_of concepts.now n ≡ name class)) (λ n. (n < length concepts.now) × (shape_of concepts.now n ≡ name class)) }
+// The class that a concept is, if it is one.
+fn class_of<R: Rules>(rules: &R, concept: u32) -> Option<u32>
+    ensures { result ≡ class_of (shape_of (R.context rules.now).table concept) }
 {
-    concepts.find(&OwnedShape::Name(class))
+    match rules.shape(concept) {
+        Shape::Name(class) => Some(class),
+        Shape::Top
+        | Shape::Bottom
+        | Shape::NotName(_)
+        | Shape::And(_)
+        | Shape::Or(_)
+        | Shape::SomeOf(..)
+        | Shape::AllOf(..)
+        | Shape::Min(..)
+        | Shape::Max(..) => None,
+    }
 }
 
-// The number of the complement of a class, if it has one.
-fn complement_number(concepts: &Concepts, class: u32) -> Option<u32>
-    ensures { MatchOption result ((n : ℕ) → n < length concepts.now → ¬ (shape_of concepts.now n ≡ not_name class)) (λ n. (n < length concepts.now) × (shape_of concepts.now n ≡ not_name class)) }
+// The class in whose complement a concept is, if it is one.
+fn complement_of<R: Rules>(rules: &R, concept: u32) -> Option<u32>
+    ensures { result ≡ complement_of (shape_of (R.context rules.now).table concept) }
 {
-    concepts.find(&OwnedShape::NotName(class))
+    match rules.shape(concept) {
+        Shape::NotName(class) => Some(class),
+        Shape::Top
+        | Shape::Bottom
+        | Shape::Name(_)
+        | Shape::And(_)
+        | Shape::Or(_)
+        | Shape::SomeOf(..)
+        | Shape::AllOf(..)
+        | Shape::Min(..)
+        | Shape::Max(..) => None,
+    }
 }
 
 // The parts of a concept that is a union.
@@ -175,30 +174,38 @@ fn parts_of<R: Rules>(rules: &R, concept: u32) -> &[u32]
     }
 }
 
-// Puts each of the numbers.
-fn put_each(set: &mut AxiomSet, numbers: &[u32])
-    requires { list_all (λ d. nat_lt d set.old.limit) numbers.now ≡ true }
-    ensures limit { set.new.limit ≡ set.old.limit }
-    ensures held { (c : ℕ) → holds set.new c ≡ (list_any (λ d. d == c) numbers.now || holds set.old c) }
+// Puts the classes in whose complements are among the concepts.
+#[tactic(auto, using(crate::proofs::Noting::puts_next))]
+fn put_complements<R: Rules>(set: &mut AxiomSet, rules: &R, concepts: &[u32])
+    ensures { HasGained (λ a. has_complement (R.context rules.now).table a concepts.now) set.old set.new }
 {
-    for number in numbers {
-        put_number(set, *number);
+    for concept in concepts {
+        put_complement(set, rules, *concept);
     }
 }
 
-fn put_number(set: &mut AxiomSet, number: u32)
-    requires { number < set.old.limit }
-    ensures limit { set.new.limit ≡ set.old.limit }
-    ensures held { (c : ℕ) → holds set.new c ≡ ((number == c) || holds set.old c) }
+// Puts the class in whose complement the concept is, if it is one.
+fn put_complement<R: Rules>(set: &mut AxiomSet, rules: &R, concept: u32)
+    ensures { HasGained (λ a. is_complement (R.context rules.now).table a concept) set.old set.new }
 {
-    let _limit = set.limit();
-    set.put(number + 1);
+    put_if(set, complement_of(rules, concept));
 }
 
-fn has_number(set: &AxiomSet, number: u32) -> bool
-    requires { number < set.now.limit }
-    ensures { result ≡ holds set.now number }
+// Puts a class in, if one is given and there is room for it.
+fn put_if(set: &mut AxiomSet, class: Option<u32>)
+    ensures { HasGained (λ a. is_one a class) set.old set.new }
 {
-    let _limit = set.limit();
-    set.has(number + 1)
+    match class {
+        Some(class) => put_class(set, class),
+        None => {}
+    }
+}
+
+// Puts a class in, if there is room for it.
+fn put_class(set: &mut AxiomSet, class: u32)
+    ensures { HasGained (λ a. class == a) set.old set.new }
+{
+    if class < set.limit() {
+        set.put(class + 1);
+    }
 }

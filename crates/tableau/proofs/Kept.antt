@@ -4,15 +4,12 @@ use Rattle.shq_terms.specs.declared.axioms.Query.{Query}
 use Rattle.ontology_limits.specs.Limits.{IsInLimit}
 use Rattle.refutation_tree.specs.RefutationLists.{RefutationLists}
 use Rattle.tableau_specs.specs.Reached.{start, IsReached, Follows}
-use Rattle.calculus_specs.specs.Reading.{are_listed}
-use Rattle.tableau_specs.specs.Items.{facts_of}
-use Rattle.tableau_specs.proofs.Listed.{reached_listed}
 use Rattle.tableau_specs.specs.Steps.{IsLegal}
 use Rattle.tableau_specs.specs.declared.Item.{Item}
 use Rattle.completion_tree.specs.declared.tree.Entry.{Entry}
 use Rattle.completion_tree.specs.Trail.{items_of, facts_in}
-use Rattle.reuse_laws.specs.Runs.{IsRun}
-use Rattle.seen_concepts.specs.Seen.{SeenSets, AreSeenIn}
+use Rattle.search_laws.specs.Runs.{IsRun}
+use Rattle.seen_concepts.specs.Seen.{SeenSets, AreOver, AreSeenIn}
 use Rattle.search_state.specs.Followed.{IsCurrent}
 use Rattle.search_trace.specs.Trace.{begun}
 use Rattle.search_rules.specs.RuleLists.{RuleLists, AreNumbersOf, context_in}
@@ -22,7 +19,7 @@ use Rattle.search_state.specs.declared.stepping.Stepped.{Stepped}
 use Rattle.search_state.specs.declared.stepping.Stepped.TheVariants.{Moved as StepMoved, Closed as StepClosed}
 use Rattle.search_state.specs.declared.stepping.Rested.{Rested}
 use Rattle.search_state.specs.declared.stepping.Rested.TheVariants.{Closed as RestClosed}
-use Rattle.tableau.specs.SearchState.{SearchState, context_of, trail_of, IsReachedBy, HasRun, IsSameSearch}
+use Rattle.tableau.specs.SearchState.{SearchState, room_for, context_of, trail_of, IsReachedBy, HasRun, IsSameSearch}
 use Rattle.tableau.specs.Steps.{Refutes, Stays, IsAtRefutation, IsEvent, IsEnd, Runs}
 use Rattle.tableau.specs.declared.search.Event.{Event}
 use Rattle.tableau.specs.declared.search.Event.TheVariants.{Moved, Saturated, Closed}
@@ -30,7 +27,7 @@ use Rattle.tableau.specs.declared.search.End.{End}
 use Rattle.tableau.specs.declared.search.End.TheVariants.{Saturated as RunSaturated, Closed as RunClosed, Spent}
 use Rattle.tableau.specs.Inside.{IsProgressOf, IsKept, HasClosed, IsAdvanced, HasNotedNew, IsNotedAfter, IsSettled, IsHalted, IsWalked, goes_on, is_spent}
 use Rattle.tableau.proofs.Reached.{standing_is_reached}
-use Rattle.tableau.proofs.Seen.{seen_after}
+use Rattle.tableau.proofs.Seen.{over_after, seen_after}
 
 abbrev pub state : RuleLists → Query → ℕ → ℕ → ProgressLists → SeenSets → ℕ → Bool → Bool → SearchState
 state rules query sub not_sup p seen steps ended failed = record {
@@ -67,25 +64,12 @@ module _ (rules : RuleLists) (query : Query) (sub not_sup : ℕ) (p : ProgressLi
   }
 
 pub begun_is_kept : (rules : RuleLists) (query : Query) (sub not_sup : ℕ) (p : ProgressLists) (seen : SeenSets) → IsInLimit rules.ontology query → rules.set.limit ≡ length rules.ontology.axioms
-    → AreNumbersOf rules query sub not_sup → HasBegun (context_in rules) p → p.query ≡ query → p.sub ≡ sub → p.not_sup ≡ not_sup → AreSeenIn rules.table (items_of p.entries ∷ []) seen
+    → AreNumbersOf rules query sub not_sup → HasBegun (context_in rules) p → p.query ≡ query → p.sub ≡ sub → p.not_sup ≡ not_sup → AreOver (room_for (length rules.ontology.classes) not_sup) seen
+    → AreSeenIn rules.table (items_of p.entries ∷ []) seen
     → IsKept (state rules query sub not_sup p seen 0 false false) p
-begun_is_kept rules query sub not_sup p seen limit set numbers h q s n seen_is =
+begun_is_kept rules query sub not_sup p seen limit set numbers h q s n over seen_is =
     let first : items_of p.entries ≡ start sub not_sup = h.trail_is ∙ (λ i. start (s i) (n i)) in
-    searching_is_kept rules query sub not_sup p seen 0 q h.no_steps limit set numbers s n h.is_searching false false (record { earlier = []; is_run = first; counted = refl; are_seen = seen_is })
-
--- ---- numbers of the table
-
--- the numbers of what has begun, and of what has moved, are in the table
-searching_listed : (rules : RuleLists) (p : ProgressLists) → IsSearching (context_in rules) p → are_listed (length rules.table) (facts_of (items_of p.entries)) ≡ true
-searching_listed rules p h =
-    let w = context_in rules in
-    reached_listed w.theory p.query.sub p.query.sup w.table w.rows p.steps (items_of p.entries) (standing_is_reached w p h.standing)
-
-pub begun_listed : (rules : RuleLists) (p : ProgressLists) → HasBegun (context_in rules) p → are_listed (length rules.table) (facts_of (items_of p.entries)) ≡ true
-begun_listed rules p h = searching_listed rules p h.is_searching
-
-pub stepped_listed : (rules : RuleLists) (old new : ProgressLists) (s : Stepped) → s ≡ StepMoved → IsStepped (context_in rules) old new s → are_listed (length rules.table) (facts_of (items_of new.entries)) ≡ true
-stepped_listed rules old new s is h = searching_listed rules new (subst (IsStepped (context_in rules) old new) is h).1
+    searching_is_kept rules query sub not_sup p seen 0 q h.no_steps limit set numbers s n h.is_searching false false (record { earlier = []; is_run = first; counted = refl; are_over = over; are_seen = seen_is })
 
 -- ---- closing
 
@@ -168,6 +152,7 @@ module _ (rules : RuleLists) (query : Query) (sub not_sup : ℕ) (p p' : Progres
             earlier = run.earlier;
             is_run = subst (λ (es : List Entry). IsRun w (start sub not_sup) (items_of es ∷ run.earlier)) (sym entries) run.is_run;
             counted = run.counted ∙ sym steps_is;
+            are_over = subst (AreOver (room_for (length rules.ontology.classes) not_sup)) (sym seen_is) run.are_over;
             are_seen = subst (λ (es : List Entry). AreSeenIn rules.table (items_of es ∷ run.earlier) seen') (sym entries)
                 (subst (AreSeenIn rules.table (items_of p.entries ∷ run.earlier)) (sym seen_is) run.are_seen);
           };
@@ -190,7 +175,7 @@ module _ (rules : RuleLists) (query : Query) (sub not_sup : ℕ) (p p' : Progres
         (subst (λ (s : SeenSets). IsKept (state rules query sub not_sup p s steps' (not goes) false) p) (sym seen_is)
         (subst (λ (k : ℕ). IsKept (state rules query sub not_sup p seen k (not goes) false) p) (sym counts)
         (searching_is_kept rules query sub not_sup p seen steps is.query is.steps kept.in_limit kept.set kept.numbers is.sub is.not_sup (kept.searching whole goes_still) (not goes) false
-        (record { earlier = run.earlier; is_run = run.is_run; counted = run.counted; are_seen = run.are_seen }))))
+        (record { earlier = run.earlier; is_run = run.is_run; counted = run.counted; are_over = run.are_over; are_seen = run.are_seen }))))
 
     -- a trail that has moved on
     moved_kept : HasMoved (context_in rules) p p' → IsSearching (context_in rules) p' → HasNotedNew rules (length p.entries) p'.entries seen seen' → steps' ≡ p'.steps → (goes : Bool) → IsKept (now goes) p'
@@ -203,6 +188,7 @@ module _ (rules : RuleLists) (query : Query) (sub not_sup : ℕ) (p p' : Progres
           earlier = items_of p.entries ∷ run.earlier;
           is_run = (moved.is_legal, run.is_run);
           counted = omega (arith, run.counted, counts, moved.counted, is.steps);
+          are_over = over_after (room_for (length rules.ontology.classes) not_sup) rules (length p.entries) p'.entries seen seen' run.are_over noted;
           are_seen = seen_after rules p.entries p'.entries run.earlier seen seen' moved.is_legal run.are_seen noted;
         })
 

@@ -5,4 +5,5 @@ pub mod Kept
 pub mod Apart
 pub use Rattle.search_laws.proofs.CounterModelLaws
 pub use Rattle.search_laws.proofs.Counting
+pub use Rattle.seen_concepts.proofs.Left
 pub use Rattle.refutation_truth.proofs.Entailed

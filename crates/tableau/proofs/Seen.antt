@@ -1,5 +1,5 @@
 -- What is noted of a run is what it has put.
-use Rattle.std.proofs.Common.{◌≡◌, ℕ, ◌+◌, ◌-◌, ◌≤◌, ◌||◌, min, Bool, false, List, [], ◌∷◌, length, drop, refl, ap, ◌∙◌, sym, arith}
+use Rattle.std.proofs.Common.{◌≡◌, ℕ, ◌+◌, ◌-◌, ◌<◌, ◌≤◌, ◌||◌, min, Bool, false, List, [], ◌∷◌, length, drop, ap, ◌∙◌, sym, arith}
 use Rattle.std.specs.List.{list_any}
 use Rattle.std.proofs.lemmas.List.{length-map}
 use Rattle.std.specs.FinSet as set
@@ -12,34 +12,34 @@ use Rattle.tableau_specs.specs.Items.{facts_of}
 use Rattle.tableau_specs.specs.Steps.{SearchContext, IsLegal}
 use Rattle.completion_tree.specs.declared.tree.Entry.{Entry}
 use Rattle.completion_tree.specs.Trail.{items_of, item_of}
-use Rattle.reuse_laws.specs.Runs.{was_ever, puts, puts_at_root}
-use Rattle.reuse_laws.proofs.Last.{steps_put_last}
-use Rattle.seen_concepts.specs.Seen.{SeenSets, holds, nothing_seen, AreOver, HasNoted, AreSeenIn}
+use Rattle.search_laws.specs.Runs.{was_ever}
+use Rattle.search_laws.proofs.Last.{steps_put_last}
+use Rattle.seen_concepts.specs.Seen.{SeenSets, holds, no_classes, nothing_seen, gives_class, gives_complement, AreOver, HasNoted, AreSeenIn}
 use Rattle.search_rules.specs.RuleLists.{RuleLists, context_in}
 use Rattle.tableau.specs.Inside.{HasNotedNew}
 
 -- ---- the start
 
-none_held : (count c : ℕ) → holds (nothing_seen count).put c ≡ false
-none_held count c = set.contains-empty nat_cmp (c + 1)
+none_held : (count a : ℕ) → holds (no_classes count) a ≡ false
+none_held count a = set.contains-empty nat_cmp (a + 1)
 
-pub over_nothing : (table : List Shape) → AreOver table (nothing_seen (length table))
-over_nothing table = record {
-  put_limit = refl;
-  root_limit = refl;
-  parts_limit = refl;
-  parts_are = λ d h. (let k = none_held (length table) d in cc);
-  has_parts = λ c d h m. (let k = none_held (length table) c in cc);
-}
+pub over_at_start : (table : List Shape) (fs : List (Fact ℕ)) (count : ℕ) (s : SeenSets) → HasNoted table fs (nothing_seen count) s → AreOver count s
+over_at_start table fs count s noted = record { root_limit = noted.at_root.limit; complements_limit = noted.complements.limit }
 
-pub seen_at_start : (table : List Shape) (first : List Item) (s : SeenSets) → HasNoted (facts_of first) (nothing_seen (length table)) s → AreOver table s → AreSeenIn table (first ∷ []) s
-seen_at_start table first s noted over = record {
-  over = over;
-  put = λ c. noted.put c ∙ ap (λ (b : Bool). list_any (puts c) (facts_of first) || b) (none_held (length table) c);
-  at_root = λ c. noted.at_root c ∙ ap (λ (b : Bool). list_any (puts_at_root c) (facts_of first) || b) (none_held (length table) c);
+pub seen_at_start : (table : List Shape) (first : List Item) (count : ℕ) (s : SeenSets) → HasNoted table (facts_of first) (nothing_seen count) s → AreSeenIn table (first ∷ []) s
+seen_at_start table first count s noted = record {
+  at_root = λ a lt.
+      let below : a < count = omega (arith, lt, noted.at_root.limit) in
+      noted.at_root.held a below ∙ ap (λ (b : Bool). list_any (gives_class table a) (facts_of first) || b) (none_held count a);
+  complements = λ a lt.
+      let below : a < count = omega (arith, lt, noted.complements.limit) in
+      noted.complements.held a below ∙ ap (λ (b : Bool). list_any (gives_complement table a) (facts_of first) || b) (none_held count a);
 }
 
 -- ---- a step
+
+pub over_after : (count : ℕ) (rules : RuleLists) (before : ℕ) (new : List Entry) (s s' : SeenSets) → AreOver count s → HasNotedNew rules before new s s' → AreOver count s'
+over_after count rules before new s s' over noted = record { root_limit = noted.at_root.limit ∙ over.root_limit; complements_limit = noted.complements.limit ∙ over.complements_limit }
 
 still_ever : (p : Fact ℕ → Bool) (place : ℕ) (w : SearchContext) (old new : List Item) (earlier : List (List Item)) (held held' : Bool) → IsLegal w old new → place ≤ length old → place ≤ length new - 1
     → held ≡ was_ever p (old ∷ earlier) → held' ≡ (list_any p (facts_of (drop place new)) || held) → held' ≡ was_ever p (new ∷ old ∷ earlier)
@@ -52,12 +52,16 @@ still_ever p place w old new earlier held held' legal le last before noted =
 
 pub seen_after : (rules : RuleLists) (old new : List Entry) (earlier : List (List Item)) (s s' : SeenSets) → IsLegal (context_in rules) (items_of old) (items_of new)
     → AreSeenIn rules.table (items_of old ∷ earlier) s → HasNotedNew rules (length old) new s s' → AreSeenIn rules.table (items_of new ∷ items_of old ∷ earlier) s'
-seen_after rules old new earlier s s' legal seen h =
+seen_after rules old new earlier s s' legal seen noted =
     let place = min (length old) (length new - 1) in
     let le : place ≤ length (items_of old) = omega (arith, length-map old item_of) in
     let last : place ≤ length (items_of new) - 1 = omega (arith, length-map new item_of) in
     record {
-      over = h.over;
-      put = λ c. still_ever (puts c) place (context_in rules) (items_of old) (items_of new) earlier (holds s.put c) (holds s'.put c) legal le last (seen.put c) (h.noted.put c);
-      at_root = λ c. still_ever (puts_at_root c) place (context_in rules) (items_of old) (items_of new) earlier (holds s.at_root c) (holds s'.at_root c) legal le last (seen.at_root c) (h.noted.at_root c);
+      at_root = λ a lt.
+          let below : a < s.at_root.limit = omega (arith, lt, noted.at_root.limit) in
+          still_ever (gives_class rules.table a) place (context_in rules) (items_of old) (items_of new) earlier (holds s.at_root a) (holds s'.at_root a) legal le last (seen.at_root a below) (noted.at_root.held a below);
+      complements = λ a lt.
+          let below : a < s.complements.limit = omega (arith, lt, noted.complements.limit) in
+          still_ever (gives_complement rules.table a) place (context_in rules) (items_of old) (items_of new) earlier (holds s.complements a) (holds s'.complements a) legal le last (seen.complements a below)
+          (noted.complements.held a below);
     }

@@ -7,7 +7,7 @@ use Rattle.tableau_specs.specs.Steps.{IsLegal, IsSaturated, HasClash}
 use Rattle.tableau_specs.specs.Items.{facts_of}
 use Rattle.completion_tree.specs.declared.tree.Entry.{Entry}
 use Rattle.completion_tree.specs.Trail.{items_of, facts_in}
-use Rattle.seen_concepts.specs.Seen.{SeenSets, AreOver, HasNoted}
+use Rattle.seen_concepts.specs.Seen.{SeenSets, HasNoted}
 use Rattle.search_trace.specs.Leaves.{leaves}
 use Rattle.search_trace.specs.Noted.{noted_start}
 use Rattle.search_trace.specs.Back.{step_of}
@@ -32,7 +32,7 @@ pub record IsProgressOf (s : SearchState) (p : ProgressLists) : Type 0 where
   pub steps : p.steps ≡ s.steps
 
 -- the ontology and the query are within the limits, the set is one of the ontology's axioms, the numbers are the query's, and
--- unless memory was refused the trail is reached by a run whose concepts were noted, its blocks are known, and it can go on
+-- unless memory was refused the trail is reached by a run whose classes were noted, its blocks are known, and it can go on
 -- until the search has ended
 pub record IsKept (s : SearchState) (p : ProgressLists) : Type 0 where
   pub in_limit : IsInLimit s.rules.ontology s.query
@@ -75,9 +75,8 @@ IsSettled rules old new RunSaturated = (new ≡ old) × IsSaturated (context_in 
 IsSettled rules old new (RunClosed r) = HasClosed rules r old new
 
 -- the facts are noted that a step has put, in a trail that had so many entries before
-pub record HasNotedNew (rules : RuleLists) (before : ℕ) (entries : List Entry) (old new : SeenSets) : Type 0 where
-  pub noted : HasNoted (facts_of (drop (min before (length entries - 1)) (items_of entries))) old new
-  pub over : AreOver rules.table new
+abbrev pub HasNotedNew : RuleLists → ℕ → List Entry → SeenSets → SeenSets → Type 0
+HasNotedNew rules before entries old new = HasNoted rules.table (facts_of (drop (min before (length entries - 1)) (items_of entries))) old new
 
 abbrev pub IsNotedAfter : RuleLists → ProgressLists → ProgressLists → SeenSets → SeenSets → Event → Type 0
 IsNotedAfter rules p q old new Moved = HasNotedNew rules (length p.entries) q.entries old new

@@ -1,5 +1,5 @@
 -- What is seen of a search.
-use Rattle.std.specs.Prelude.{◌≡◌, ℕ, Bool, false, List, ◌∷◌, length}
+use Rattle.std.specs.Prelude.{◌≡◌, ℕ, ◌==◌, Bool, false, List, ◌∷◌, length, if◌then◌else◌}
 use Rattle.shq_terms.specs.declared.axioms.Query.{Query}
 use Rattle.tableau_specs.specs.declared.Item.{Item}
 use Rattle.tableau_specs.specs.Steps.{SearchContext}
@@ -8,11 +8,11 @@ use Rattle.completion_tree.specs.declared.tree.Entry.{Entry}
 use Rattle.completion_tree.specs.Trail.{items_of}
 use Rattle.search_state.specs.Followed.{Printed}
 use Rattle.search_rules.specs.RuleLists.{RuleLists, context_in}
-use Rattle.reuse_laws.specs.Runs.{IsRun}
-use Rattle.seen_concepts.specs.Seen.{SeenSets, AreSeenIn}
+use Rattle.search_laws.specs.Runs.{IsRun}
+use Rattle.seen_concepts.specs.Seen.{SeenSets, AreOver, AreSeenIn}
 
 -- the rules and the query, the numbers of what the query asks, the entries of the trail, what is known of blocked nodes, the
--- concepts that were ever put, how many steps were made, whether the search has ended, and whether memory was refused: then
+-- classes with which its run had to do, how many steps were made, whether the search has ended, and whether memory was refused: then
 -- nothing more is known of it
 pub record SearchState : Type 0 where
   pub rules : RuleLists
@@ -37,11 +37,17 @@ trail_of s = items_of s.entries
 abbrev pub IsReachedBy : SearchState → Type 0
 IsReachedBy s = IsReached (context_of s).theory s.query.sub s.query.sup s.rules.table (context_of s).rows s.steps (trail_of s)
 
--- its run: all its trails, as many as steps were made and the first one, and the concepts that were ever put into one
+-- of how many classes is noted what a run has to do with them: of each where the search asks whether anything is in the query's
+-- subclass, since the complement of nothing is top, which is number 0
+abbrev pub room_for : ℕ → ℕ → ℕ
+room_for count not_sup = if not_sup == 0 then count else 0
+
+-- its run: all its trails, as many as steps were made and the first one, and the classes with which they had to do
 pub record HasRun (s : SearchState) : Type 0 where
   pub earlier : List (List Item)
   pub is_run : IsRun (context_of s) (start s.sub s.not_sup) (trail_of s ∷ earlier)
   pub counted : length earlier ≡ s.steps
+  pub are_over : AreOver (room_for (length s.rules.ontology.classes) s.not_sup) s.seen
   pub are_seen : AreSeenIn s.rules.table (trail_of s ∷ earlier) s.seen
 
 -- a search that begins

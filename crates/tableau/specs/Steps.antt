@@ -1,10 +1,11 @@
 -- What a search does.
-use Rattle.std.specs.Prelude.{◌≡◌, ℕ, ◌+◌, true, false, List, length}
+use Rattle.std.specs.Prelude.{◌≡◌, ◌↔◌, ℕ, ◌+◌, ◌<◌, true, false, List, length, Option, Some, None}
+use Rattle.std.specs.FinSet as set
 use Rattle.shq_terms.specs.Concept.{name}
 use Rattle.shq_terms.specs.declared.axioms.Query.{Query}
 use Rattle.shq_meaning.specs.Truth.{Entails}
 use Rattle.lane_sieve.specs.Sets.{IsPart}
-use Rattle.axiom_sets.specs.Sets.{member_list}
+use Rattle.axiom_sets.specs.Sets.{Limited, member_list}
 use Rattle.calculus_specs.specs.Valid.{IsRefutation}
 use Rattle.refutation_tree.specs.RefutationLists.{RefutationLists}
 use Rattle.refutation_tree.specs.ReadBack.{IsWritable}
@@ -12,7 +13,7 @@ use Rattle.refutation_truth.specs.Theory.{named_axioms, theory_of}
 use Rattle.tableau_specs.specs.declared.Item.{Item}
 use Rattle.tableau_specs.specs.Steps.{IsLegal, IsSaturated, HasClash}
 use Rattle.tableau_specs.specs.Reached.{Follows, Costs}
-use Rattle.seen_concepts.specs.Seen.{LacksClass}
+use Rattle.seen_concepts.specs.Seen.{has_seen}
 use Rattle.completion_tree.specs.Trail.{facts_in}
 use Rattle.search_state.specs.Followed.{IsCurrent}
 use Rattle.search_rules.specs.RuleLists.{RuleLists}
@@ -88,10 +89,10 @@ IsEnd fuel old new Spent = Runs old new × IsSpent fuel old new
 
 -- ---- other queries
 
--- the search begins with a node that is in the query's subclass and in top, and class a was left out of its run: see `LeavesOut`
+-- the search begins with a node that is in the query's subclass and in top, and its run had nothing to do with class a
 pub record LeavesClassOut (s : SearchState) (a : ℕ) : Type 0 where
   pub asks_for_any : s.not_sup ≡ 0
-  pub lacks_class : LacksClass s.rules.table s.seen a
+  pub is_unseen : has_seen s.seen a ≡ false
 
 -- the query whether the search's subclass is in class a
 abbrev pub query_for : SearchState → ℕ → Query
@@ -101,3 +102,14 @@ query_for s a = record { sub = s.query.sub; sup = name a }
 pub record IsShownApart (s : SearchState) (a : ℕ) : Type 0 where
   pub follows_not : ¬ Entails (named_axioms s.rules.ontology.axioms (member_list s.rules.set)) (query_for s a)
   pub cost : Costs (context_of s).theory s.query.sub (name a) (Entails (named_axioms s.rules.ontology.axioms (member_list s.rules.set)) (query_for s a)) s.steps
+
+-- a set of just those classes that were left out, each number greater by one; of each it is shown that the subclass is not in it
+pub record AreLeftOut (s : SearchState) (classes : Limited) : Type 0 where
+  pub limit_is : classes.limit ≡ length s.rules.ontology.classes
+  pub exact : (a : ℕ) → a < length s.rules.ontology.classes → (set.contains classes.members (a + 1) ≡ true ↔ LeavesClassOut s a)
+  pub apart : (a : ℕ) → a < length s.rules.ontology.classes → set.contains classes.members (a + 1) ≡ true → IsShownApart s a
+
+-- the classes that are left out, or none where the search asks for more than its subclass
+abbrev pub ShowsApart : SearchState → Option Limited → Type 0
+ShowsApart s None = ¬ (s.not_sup ≡ 0)
+ShowsApart s (Some classes) = AreLeftOut s classes

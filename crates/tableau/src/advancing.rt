@@ -1,12 +1,8 @@
 // One call on the progress of a search.
-ghost use Rattle.std.specs.Prelude.{◌≡◌, ◌+◌, ◌<◌, ◌^◌, true, IfOk, length};
+ghost use Rattle.std.specs.Prelude.{◌≡◌, ◌+◌, ◌<◌, ◌^◌, IfOk, length};
 ghost use Rattle.ontology_limits.specs.Limits.{IsInLimit};
 ghost use Rattle.search_rules.specs.RuleLists.{context_in};
 ghost use Rattle.search_state.specs.Progress.{IsSearching};
-ghost use Rattle.completion_tree.specs.Trail.{items_of};
-ghost use Rattle.tableau_specs.specs.Items.{facts_of};
-ghost use Rattle.calculus_specs.specs.Reading.{are_listed};
-ghost use Rattle.seen_concepts.specs.Seen.{AreOver};
 ghost use Rattle.tableau.specs.Inside.{IsAdvanced, IsNotedAfter, HasNotedNew, IsSettled};
 
 use crate::NoMemory;
@@ -15,21 +11,20 @@ use crate::search::{End, Event};
 use completion_tree::Tree;
 use search_rules::SearchRules;
 use search_state::{Progress, Rested, Stepped};
-use seen_concepts::SeenConcepts;
+use seen_concepts::SeenClasses;
 use std::alloc::{Allocator, Global};
 
 /// Makes the next step, if there is one, and notes what it put.
 pub(crate) fn advance<A: Allocator + Copy>(
     heap: Global,
     progress: &mut Progress<'_, A>,
-    seen: &mut SeenConcepts,
+    seen: &mut SeenClasses,
     rules: &SearchRules<'_>,
 ) -> Result<Event, NoMemory>
     requires in_limit { IsInLimit rules.now.ontology progress.old.query }
     requires set { rules.now.set.limit ≡ length rules.now.ontology.axioms }
     requires searching { IsSearching (context_in rules.now) progress.old }
     requires countable { progress.old.steps + 1 < 2 ^ 64 }
-    requires over { AreOver rules.now.table seen.old }
     ensures advanced { IfOk result (IsAdvanced rules.now progress.old progress.new) }
     ensures noted { IfOk result (IsNotedAfter rules.now progress.old progress.new seen.old seen.new) }
 {
@@ -48,12 +43,10 @@ pub(crate) fn advance<A: Allocator + Copy>(
 // and a fact where longer ones may have stood.
 fn note_new<A: Allocator + Copy>(
     tree: &Tree<A>,
-    seen: &mut SeenConcepts,
+    seen: &mut SeenClasses,
     rules: &SearchRules<'_>,
     before: u32,
 )
-    requires listed { are_listed (length rules.now.table) (facts_of (items_of tree.now)) ≡ true }
-    requires over { AreOver rules.now.table seen.old }
     ensures { HasNotedNew rules.now before tree.now seen.old seen.new }
 {
     let last = tree.len().saturating_sub(1);

@@ -2,23 +2,22 @@
 ghost use Rattle.std.specs.Prelude.{◌≡◌, ◌+◌, ◌<◌, ◌≤◌, ◌^◌, ◌↔◌, [], ◌∷◌, true, false, IfOk, OnOk, OnErr, length};
 ghost use Rattle.ontology_limits.specs.Limits.{IsInLimit};
 ghost use Rattle.search_rules.specs.RuleLists.{AreNumbersOf};
-ghost use Rattle.calculus_specs.specs.Reading.{are_listed};
 ghost use Rattle.completion_tree.specs.Trail.{facts_in, items_of};
-ghost use Rattle.tableau_specs.specs.Items.{facts_of};
 ghost use Rattle.search_state.specs.Followed.{IsCurrent};
-ghost use Rattle.seen_concepts.specs.Seen.{AreSeenIn};
-ghost use Rattle.tableau.specs.SearchState.{IsReachedBy, HasRun, HasBegun, IsSameSearch};
-ghost use Rattle.tableau.specs.Steps.{IsEvent, IsEnd, IsAtModel, LeavesClassOut, IsShownApart};
+ghost use Rattle.seen_concepts.specs.Seen.{AreOver, AreSeenIn};
+ghost use Rattle.tableau.specs.SearchState.{room_for, IsReachedBy, HasRun, HasBegun, IsSameSearch};
+ghost use Rattle.tableau.specs.Steps.{IsEvent, IsEnd, IsAtModel, ShowsApart};
 ghost use Rattle.tableau.specs.Bounds.{HasFewSteps, HasFewMarks};
 ghost use Rattle.tableau.specs.Inside.{goes_on as event_goes_on, is_spent, IsHalted, IsWalked};
 
 use crate::advancing::{advance, settle};
 use crate::{NoMemory, Refutation};
+use axiom_sets::AxiomSet;
 use completion_tree::Tree;
 use search_laws::{few_marks, few_steps_without_going_back};
 use search_rules::SearchRules;
 use search_state::{Blocks, Effort, Progress};
-use seen_concepts::SeenConcepts;
+use seen_concepts::SeenClasses;
 use shq_terms::Query;
 use std::alloc::{Allocator, Global};
 use std::marker::Model;
@@ -55,7 +54,7 @@ pub struct Search<'b, A: Allocator> {
     sub: u32,
     not_sup: u32,
     progress: Progress<'b, A>,
-    seen: SeenConcepts,
+    seen: SeenClasses,
     steps: u64,
     ended: bool,
     failed: bool,
@@ -125,7 +124,7 @@ impl<'b, A: Allocator + Copy> Search<'b, A> {
         rules.is_ready();
         let _ = rules.concepts();
         let progress = Progress::new_in(alloc, heap, rules, query, sub, not_sup)?;
-        let seen = first_seen(heap, rules, progress.tree())?;
+        let seen = first_seen(heap, rules, progress.tree(), not_sup)?;
         Ok(Search {
             heap,
             rules,
@@ -256,18 +255,24 @@ impl<'b, A: Allocator + Copy> Search<'b, A> {
         self.steps
     }
 
-    /// Whether the search, which has ended at a model, shows of a class of the ontology that the query's subclass is not part of
-    /// it: by the steps that were made, which a search for that could have made. So it is where the query asks whether anything
-    /// is in its subclass, and the run has left the class out.
-    pub fn shows_apart(&self, class: u32) -> bool
-        requires listed { class < length self.now.rules.ontology.classes }
+    /// The classes of the ontology, each number greater by one, of which the search, which has ended at a model, shows that the
+    /// query's subclass is not part of them: by the steps that were made, which a search for that could have made. These are
+    /// the classes that the run has left out, and there are none where the query asks for more than whether anything is in its
+    /// subclass.
+    ///
+    /// # Errors
+    ///
+    /// Out of memory.
+    pub fn classes_apart(&self) -> Result<Option<AxiomSet>, NoMemory>
         requires whole { self.now.failed ≡ false }
         requires ended { IsAtModel self.now }
-        ensures exact { (result ≡ true) ↔ LeavesClassOut self.now class }
-        ensures run { HasRun self.now }
-        ensures apart { result ≡ true → IsShownApart self.now class }
+        ensures { IfOk result (ShowsApart self.now) }
     {
-        self.not_sup == 0 && self.seen.lack_class(self.rules.concepts(), class)
+        if self.not_sup != 0 {
+            return Ok(None);
+        }
+        let classes = self.seen.others(self.heap)?;
+        Ok(Some(classes))
     }
 
     /// What was done beside the steps. No contract speaks of these counts.
@@ -310,13 +315,25 @@ fn first_seen<A: Allocator + Copy>(
     heap: Global,
     rules: &SearchRules<'_>,
     tree: &Tree<A>,
-) -> Result<SeenConcepts, NoMemory>
-    requires { are_listed (length rules.now.table) (facts_of (items_of tree.now)) ≡ true }
-    ensures { IfOk result (AreSeenIn rules.now.table (items_of tree.now ∷ [])) }
+    not_sup: u32,
+) -> Result<SeenClasses, NoMemory>
+    ensures over { IfOk result (AreOver (room_for (length rules.now.ontology.classes) not_sup)) }
+    ensures seen { IfOk result (AreSeenIn rules.now.table (items_of tree.now ∷ [])) }
 {
-    let mut seen = SeenConcepts::new(heap, rules.concepts().len())?;
+    let mut seen = SeenClasses::new(heap, room_for(rules, not_sup))?;
     seen.note(rules, tree, 0);
     Ok(seen)
+}
+
+// Of how many classes is noted what a run has to do with them.
+fn room_for(rules: &SearchRules<'_>, not_sup: u32) -> u32
+    ensures { result ≡ room_for (length rules.now.ontology.classes) not_sup }
+{
+    if not_sup == 0 {
+        rules.ontology().class_count()
+    } else {
+        0
+    }
 }
 
 // Whether the search goes on.

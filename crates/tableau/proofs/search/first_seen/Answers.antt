@@ -1,19 +1,23 @@
-use Rattle.std.proofs.Common.{◌≡◌, List, length, ap, ◌∙◌, sym, subst}
-use Rattle.calculus_specs.specs.Shape.{Shape}
+use Rattle.std.proofs.Common.{◌≡◌, length, ap, ◌∙◌, subst}
 use Rattle.completion_tree.specs.Trail.{items_of}
 use Rattle.tableau_specs.specs.Items.{facts_of}
-use Rattle.seen_concepts.specs.Seen.{SeenSets, nothing_seen, AreOver, HasNoted}
-use Rattle.tableau.proofs.Seen.{over_nothing, seen_at_start}
+use Rattle.seen_concepts.specs.Seen.{SeenSets, nothing_seen, HasNoted}
+use Rattle.tableau.specs.SearchState.{room_for}
+use Rattle.tableau.proofs.Seen.{over_at_start, seen_at_start}
 use Rattle.tableau.proofs.search.first_seen.Goals as goal
 
-pub note-requires-clause-over : goal.note-requires-clause-over
-note-requires-clause-over g c =
+pub returns-clause-over : goal.returns-clause-over
+returns-clause-over g c =
     let table = c.args.rules.now.table in
-    let is : c.in_ok-seen.seen ≡ nothing_seen (length table) = c.in_ok-seen.ensures ∙ ap nothing_seen (c.len.ensures.count ∙ ap (λ (t : List Shape). length t) c.concepts.ensures.concepts) in
-    subst (AreOver table) (sym is) (over_nothing table)
+    let room = room_for (length c.args.rules.now.ontology.classes) c.args.not_sup in
+    let fs = facts_of (items_of c.args.tree.now) in
+    let is : c.in_ok-seen.seen ≡ nothing_seen room = c.in_ok-seen.ensures ∙ ap nothing_seen c.room_for.ensures in
+    over_at_start table fs room c.note.new.self (subst (λ (s : SeenSets). HasNoted table fs s c.note.new.self) is c.note.ensures)
 
-pub returns : goal.returns
-returns g c =
+pub returns-clause-seen : goal.returns-clause-seen
+returns-clause-seen g c =
     let table = c.args.rules.now.table in
-    let is : c.in_ok-seen.seen ≡ nothing_seen (length table) = c.in_ok-seen.ensures ∙ ap nothing_seen (c.len.ensures.count ∙ ap (λ (t : List Shape). length t) c.concepts.ensures.concepts) in
-    seen_at_start table (items_of c.args.tree.now) c.note.new.self (subst (λ (s : SeenSets). HasNoted (facts_of (items_of c.args.tree.now)) s c.note.new.self) is c.note.ensures.noted) c.note.ensures.over
+    let room = room_for (length c.args.rules.now.ontology.classes) c.args.not_sup in
+    let items = items_of c.args.tree.now in
+    let is : c.in_ok-seen.seen ≡ nothing_seen room = c.in_ok-seen.ensures ∙ ap nothing_seen c.room_for.ensures in
+    seen_at_start table items room c.note.new.self (subst (λ (s : SeenSets). HasNoted table (facts_of items) s c.note.new.self) is c.note.ensures)

@@ -1,5 +1,0 @@
-use Rattle.reuse_laws.proofs.Answering.{one_run_answers_more}
-use Rattle.reuse_laws.proofs.one_run_answers_more.Goals as goal
-
-pub returns : goal.returns
-returns c = one_run_answers_more

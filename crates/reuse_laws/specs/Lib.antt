@@ -1,3 +1,0 @@
-pub mod Runs
-pub mod ReuseLaws
-pub mod ReuseExamples

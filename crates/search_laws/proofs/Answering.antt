@@ -1,0 +1,109 @@
+-- The law: the other search ends saturated too.
+use Rattle.std.proofs.Common.{◌≡◌, ℕ, zero, suc, ◌<◌, ◌⊎◌, eqb, Bool, true, false, List, [], ◌∷◌, ◌++◌, length, Some, refl, ap, ◌∙◌, sym, subst, arith, inl, inr, eq-eqb, length-append}
+use Rattle.std.proofs.lemmas.List.{append-nil, get_or_push}
+use Rattle.std.proofs.lemmas.List.Elements.{All-weaker}
+use Rattle.std.proofs.lemmas.Bool.{cases_Bool, cases_lt, eqb-true}
+use Rattle.calculus_specs.specs.Concept.{Concept, name}
+use Rattle.calculus_specs.specs.Normal.{normal_form}
+use Rattle.calculus_specs.specs.Shape.{Shape, shape_of, IsTable}
+use Rattle.calculus_specs.specs.Shape.Shape.{top, not_name}
+use Rattle.calculus_specs.specs.Tree.{tree_of, trees_of, tree_over}
+use Rattle.calculus_specs.specs.Rows.{Theory, Row, IsRowOf, IsChoice}
+use Rattle.calculus_specs.proofs.Tree.{tree_of-append}
+use Rattle.shq_nnf.proofs.Grown.{table_with_new}
+use Rattle.shq_nnf.proofs.Numbers.{shape_tree}
+use Rattle.tableau_specs.specs.declared.Item.{Item}
+use Rattle.tableau_specs.specs.Steps.{IsSaturated}
+use Rattle.tableau_specs.specs.Reached.{start}
+use Rattle.tableau_specs.proofs.Listed.{listed}
+use Rattle.search_laws.specs.Runs.{IsRun, LeavesOut}
+use Rattle.search_laws.specs.ReuseLaws.{EndsSaturated, OneRunAnswersMore}
+use Rattle.search_laws.proofs.ReuseSetting.{short}
+use Rattle.search_laws.proofs.Stepping.{saturated}
+use Rattle.search_laws.proofs.Running.{followed, setting}
+
+-- ---- the number of the complement
+
+-- whether the shape is that of the complement of class a
+abbrev is_complement_of : ℕ → Shape → Bool
+is_complement_of a (not_name b) = eqb b a
+is_complement_of a _ = false
+
+complement_is : (a : ℕ) (s : Shape) → is_complement_of a s ≡ true → s ≡ not_name a
+complement_is a (not_name b) h = ap not_name (eqb-true b a h)
+complement_is a _ h = cc
+
+is_complement : (a : ℕ) (s : Shape) → s ≡ not_name a → is_complement_of a s ≡ true
+is_complement a s e = ap (is_complement_of a) e ∙ eq-eqb a a refl
+
+-- some number below the bound has the shape, or none has
+complement_below : (table : List Shape) (a bound : ℕ) → ((n : ℕ) × (n < bound) × (shape_of table n ≡ not_name a)) ⊎ ((n : ℕ) → n < bound → ¬ (shape_of table n ≡ not_name a))
+complement_below table a zero = inr (λ n lt. absurd (omega (arith, lt)))
+complement_below table a (suc bound) = elim (cases_Bool (is_complement_of a (shape_of table bound))) [
+  | inl hit ↦ inl (bound, omega arith, complement_is a (shape_of table bound) hit)
+  | inr miss ↦ elim (complement_below table a bound) [
+    | inl found ↦ inl (found.0, omega (arith, found.1), found.2)
+    | inr none ↦ inr (λ n lt sh. elim (cases_lt n bound) [
+      | inl less ↦ none n less sh
+      | inr same ↦ (let e : n ≡ bound = omega arith in let k = is_complement a (shape_of table bound) (ap (shape_of table) (sym e) ∙ sh) in cc)
+    ])
+  ]
+]
+
+row_up : (theory : Theory) (table more : List Shape) (row : Row) → IsRowOf theory table row → IsRowOf theory (table ++ more) row
+row_up theory table more row h = record {
+  part = h.part;
+  is_there = h.is_there;
+  listed = omega (arith, h.listed, length-append table more);
+  is_right = h.is_right ∙ ap (λ (t : Concept). Some t) (sym (tree_of-append table more row.concept h.listed));
+}
+
+choice_up : (theory : Theory) (table more : List Shape) (rows : List Row) → IsChoice theory table rows → IsChoice theory (table ++ more) rows
+choice_up theory table more rows h = record {
+  rows_fit = All-weaker (IsRowOf theory table) (IsRowOf theory (table ++ more)) (row_up theory table more) rows h.rows_fit;
+  each_once = h.each_once;
+}
+
+-- ---- the law
+
+module _ (theory : Theory) (sub : Concept) (table : List Shape) (rows : List Row) (number a : ℕ) (trail : List Item) (earlier : List (List Item)) (good : IsTable table)
+    (fits : IsChoice theory table rows) (number_listed : number < length table) (number_reads : tree_of table number ≡ normal_form sub)
+    (run : IsRun (record { theory = theory; table = table; rows = rows }) (start number 0) (trail ∷ earlier))
+    (sat : IsSaturated (record { theory = theory; table = table; rows = rows }) trail) (out : LeavesOut table (trail ∷ earlier) a) where
+  -- over the table, or one that has grown
+  answers : (more : List Shape) (n : ℕ) → IsTable (table ++ more) → shape_of (table ++ more) n ≡ not_name a → EndsSaturated theory sub (name a) (length earlier)
+  answers more n longer shape_n =
+      let f = followed theory table more rows good fits n a shape_n number number_listed trail earlier run out in
+      let w = short theory table more rows in
+      let set = setting theory table more rows good fits n a shape_n number number_listed f.rest earlier (subst (λ (is : List Item). IsRun w (start number 0) (is ∷ earlier)) f.splits run)
+      (subst (λ (is : List Item). LeavesOut table (is ∷ earlier) a) f.splits out) in
+      let n_listed : n < length (table ++ more) = listed (table ++ more) n (λ k. (let l = sym shape_n ∙ k in cc)) in
+      record {
+        table = table ++ more;
+        rows = rows;
+        trail = start number n ++ f.rest;
+        reached = record {
+          is_table = longer;
+          is_choice = choice_up theory table more rows fits;
+          sub_number = number;
+          sub_listed = omega (arith, number_listed, length-append table more);
+          sub_reads = tree_of-append table more number number_listed ∙ number_reads;
+          not_sup_number = n;
+          not_sup_listed = n_listed;
+          not_sup_reads = shape_tree (table ++ more) longer n n_listed ∙ ap (tree_over (trees_of (table ++ more))) shape_n;
+          follows = f.follows;
+        };
+        is_saturated = saturated theory table more rows good n a shape_n number f.rest set longer (subst (IsSaturated w) f.splits sat);
+      }
+
+  answered : EndsSaturated theory sub (name a) (length earlier)
+  answered = elim (complement_below table a (length table)) [
+    | inl found ↦
+        answers [] found.0 (subst IsTable (sym (append-nil table)) good) (ap (λ (t : List Shape). shape_of t found.0) (append-nil table) ∙ found.2)
+    | inr none ↦
+        answers (not_name a ∷ []) (length table) (table_with_new table (not_name a) good refl refl none) (get_or_push table (not_name a) top (length table) refl)
+  ]
+
+pub one_run_answers_more : OneRunAnswersMore
+one_run_answers_more theory sub table rows number k a trail earlier good fits lt reads run steps sat out =
+    subst (EndsSaturated theory sub (name a)) steps (answered theory sub table rows number a trail earlier good fits lt reads run sat out)

@@ -1,0 +1,10 @@
+use Rattle.completion_tree.specs.Trail.{items_of}
+use Rattle.seen_concepts.specs.Seen.{gives_class, gives_complement}
+use Rattle.seen_concepts.proofs.Noting.{IsNoting}
+use Rattle.seen_concepts.proofs.seen.SeenClasses.note.Given as goal
+
+abbrev pub invariant-loop-place : goal.invariant-loop-place
+invariant-loop-place g l = record {
+  at_root : IsNoting (gives_class (g.R.Rules.context l.rules).table) (items_of l.tree) l.from l.place l.fn.self.at_root l.self.at_root;
+  complements : IsNoting (gives_complement (g.R.Rules.context l.rules).table) (items_of l.tree) l.from l.place l.fn.self.complements l.self.complements;
+}
