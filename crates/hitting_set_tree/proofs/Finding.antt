@@ -1,19 +1,19 @@
 -- What the lists are once the tree is done.
-use Rattle.std.proofs.Common.{◌≡◌, ℕ, ◌-◌, ◌++◌, List, length, true, false, cond, sym, ◌∙◌, subst, inl, inr}
+use Rattle.std.proofs.Common.{◌≡◌, ℕ, ◌-◌, ◌++◌, List, length, Bool, true, false, cond, sym, ◌∙◌, subst, inl, inr}
 use Rattle.std.specs.Prelude.{◌↔◌}
 use Rattle.std.specs.List.{Contains}
 use Rattle.std.proofs.lemmas.Bool.{true≢false}
 use Rattle.std.proofs.lemmas.List.Elements.{Contains-append_cases}
 use Rattle.lane_sieve.specs.Sets.{NumberSet}
 use Rattle.axiom_sets.specs.Sets.{Limited}
-use Rattle.pinpointing_specs.specs.Smallest.{Grows, IsExplored}
+use Rattle.pinpointing_specs.specs.Smallest.{Grows, HasPart, IsExplored}
 use Rattle.pinpointing_specs.specs.Order.{IsAscending}
 use Rattle.pinpointing_specs.specs.Nodes.{AreNodes, AreSettled}
 use Rattle.pinpointing_specs.proofs.Explored.{laws_of_lists}
 use Rattle.set_questions.specs.Meaning.{Meaning}
 use Rattle.set_questions.specs.InOrder.{HaveOneLimit}
 use Rattle.hitting_set_tree.specs.declared.tree.Found.{Found}
-use Rattle.hitting_set_tree.specs.Tree.{Lists, LacksSome, HoldsLists, IsGrown}
+use Rattle.hitting_set_tree.specs.Tree.{Lists, LacksSome, AreSettledOrOpen, HasFoundIn, ListsShown, HoldsLists, IsGrown}
 use Rattle.hitting_set_tree.specs.Open.{Closes, HasOpen, IsEnded}
 use Rattle.hitting_set_tree.specs.Found.{IsFound}
 use Rattle.hitting_set_tree.proofs.Opening.{settled_still}
@@ -42,6 +42,19 @@ module _ (justifications justifications' : List Limited) (same : (s : Limited) �
         ends = explored.ends;
         covered = λ t meets. explored.covered t (λ j at. meets j ((same j).1 at));
       }
+
+  open_same : (m : Meaning) (leaves : List Limited) → AreSettledOrOpen m justifications leaves → AreSettledOrOpen m justifications' leaves
+  open_same m leaves each k d lt = elim (each k d lt) [ inl is ↦ inl (settled_still justifications justifications' leaves leaves _ (λ x at. (same x).1 at) (λ x at. at) is) | inr left ↦ inr left ]
+
+  part_same : (s : NumberSet) → HasPart justifications s → HasPart justifications' s
+  part_same s part = (part.0, (same part.0).1 part.1, part.2)
+
+  found_same : (m : Meaning) (s : NumberSet) (finished : Bool) → HasFoundIn m justifications s finished → HasFoundIn m justifications' s finished
+  found_same m s true found = part_same s found
+  found_same m s false found = elim found [ inl part ↦ inl (part_same s part) | inr left ↦ inr left ]
+
+  pub shown_same : (m m' : Meaning) (finished : Bool) → ListsShown m m' justifications finished → ListsShown m m' justifications' finished
+  shown_same m m' finished each s shown = elim (each s shown) [ inl before ↦ inl before | inr found ↦ inr (found_same m' s finished found) ]
 
   lacks_same : (leaves : List Limited) → LacksSome justifications leaves → LacksSome justifications' leaves
   lacks_same leaves lacks = (lacks.0, λ j at. lacks.1 j ((same j).0 at), lacks.2)
@@ -78,6 +91,7 @@ found_lists m ls f grows order same leaves closes grown =
       explored = explored;
       spent = grown.spent;
       lacks = λ e. subst (λ (xs : List Limited). LacksSome js xs) (sym leaves) (lacks_same ls.justifications js same ls.leaves (grown.lacks e));
+      left_open = λ e. subst (λ (xs : List Limited). AreSettledOrOpen m js xs) (sym leaves) (open_same ls.justifications js same m ls.leaves (grown.left_open e));
     }
 
 -- the budget was spent
@@ -88,5 +102,5 @@ closes_ended taken ls end = (end.nodes, end.leaf_taken, end.settled)
 pub closes_open : (taken : List Limited) (ls : Lists) (rooted : ℕ) → HasOpen taken ls rooted → Closes taken ls true
 closes_open taken ls rooted state = ((state.0, state.1.tree), state.1.leaf_taken, state.1.settled)
 
-pub grown_spent : (m : Meaning) (ls : Lists) → HoldsLists m ls → m.left ≡ 0 → LacksSome ls.justifications ls.leaves → IsGrown m ls false
-grown_spent m ls listed spent lacks = record { listed = listed; explored = λ e. absurd (true≢false (sym e)); spent = λ _. spent; lacks = λ _. lacks }
+pub grown_spent : (m : Meaning) (ls : Lists) → HoldsLists m ls → m.left ≡ 0 → LacksSome ls.justifications ls.leaves → AreSettledOrOpen m ls.justifications ls.leaves → IsGrown m ls false
+grown_spent m ls listed spent lacks left = record { listed = listed; explored = λ e. absurd (true≢false (sym e)); spent = λ _. spent; lacks = λ _. lacks; left_open = λ _. left }

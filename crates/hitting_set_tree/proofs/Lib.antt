@@ -2,6 +2,8 @@ pub mod Stepping
 pub mod Opening
 pub mod Path
 pub mod Settling
+pub mod Begun
+pub mod Showing
 pub mod Finding
 pub mod Counts
 pub mod Children

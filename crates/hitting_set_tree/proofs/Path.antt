@@ -2,6 +2,7 @@
 use Rattle.std.proofs.Common.{◌≡◌, ℕ, ◌+◌, ◌<◌, ◌≤◌, ◌∷◌, [], List, length, get_or, Bool, true, false, sym, ap, ◌∙◌, subst, arith, length-append}
 use Rattle.std.specs.List.{Contains}
 use Rattle.axiom_sets.specs.Sets.{Limited}
+use Rattle.pinpointing_specs.specs.Nodes.{AreSettled}
 use Rattle.set_questions.specs.Meaning.{Meaning, Keeps}
 use Rattle.set_questions.specs.Asked.{Takes}
 use Rattle.hitting_set_tree.specs.declared.frames.Frame.{Frame}
@@ -12,8 +13,13 @@ use Rattle.hitting_set_tree.specs.Open.{HasOpen, HasPending, IsBeside, IsEnded, 
 use Rattle.hitting_set_tree.proofs.Opening.{has_taken_frame, beside_still, taken_node, ended}
 
 -- a node that was not taken, since nothing is left
-pub nothing_left : (m m' : Meaning) (ls : Lists) (r : ℕ) (hit : Limited) → Keeps m m' → HasOpen m.taken ls r → Takes m m' hit false → IsEnded m'.taken ls × (m'.left ≡ 0)
-nothing_left m m' ls r hit keeps state takes = (subst (λ (t : List Limited). IsEnded t ls) (sym takes.1) (ended m.taken ls r state.0 state.1), omega (arith, keeps.left_falls, takes.0))
+pub nothing_left : (m m' : Meaning) (ls : Lists) (r : ℕ) (hit : Limited) → Keeps m m' → HasOpen m.taken ls r → Takes m m' hit false
+    → IsEnded m'.taken ls × (m'.left ≡ 0) × AreSettled ls.justifications ls.leaves m'.taken (length m'.taken)
+nothing_left m m' ls r hit keeps state takes = (
+  subst (λ (t : List Limited). IsEnded t ls) (sym takes.1) (ended m.taken ls r state.0 state.1),
+  omega (arith, keeps.left_falls, takes.0),
+  subst (λ (t : List Limited). AreSettled ls.justifications ls.leaves t (length t)) (sym takes.1) state.1.settled,
+)
 
 -- the next frame's node was taken
 module _ (m m' : Meaning) (n : ℕ) (ls : Lists) (r : ℕ) (d : Frame) (state : HasOpen m.taken ls r) (frames : (f : Frame) → Contains ls.frames f → IsFrame n f) (lt : r < length ls.frames) (takes : Takes m m' (get_or ls.frames r d).hit true) where

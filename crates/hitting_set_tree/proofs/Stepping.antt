@@ -16,7 +16,7 @@ use Rattle.hitting_set_tree.specs.declared.frames.Node.{Node}
 use Rattle.hitting_set_tree.specs.declared.frames.Look.TheVariants.{Done}
 use Rattle.hitting_set_tree.specs.Territory.{InNode, InFrame, IsFrame, IsNextChild, Frames, Looks}
 use Rattle.hitting_set_tree.specs.Weight.{weight, frame_weight, node_weight, free_count}
-use Rattle.hitting_set_tree.specs.Tree.{Lists, with_frame, HoldsLists, IsCovered, IsOutstanding, IsStep}
+use Rattle.hitting_set_tree.specs.Tree.{Lists, with_frame, HoldsLists, AreSettledOrOpen, IsCovered, IsOutstanding, IsStep}
 use Rattle.hitting_set_tree.proofs.Counts.{pow_pos}
 
 pub keeps_minimal : (m m' : Meaning) → Keeps m m' → (s : Limited) → IsMinimalYes m.holds s → IsMinimalYes m'.holds s
@@ -51,13 +51,15 @@ abbrev pub with_leaf : Lists → Limited → Lists
 with_leaf ls l = record { justifications = ls.justifications; leaves = ls.leaves ++ l ∷ []; frames = ls.frames }
 
 module _ (m : Meaning) (ls : Lists) (node : Node) (listed : HoldsLists m ls) where
-  pub step_spent : m.left ≡ 0 → IsOutstanding ls node → IsStep m ls ls (InNode node) (node_weight node) false
-  step_spent none out = record {
+  pub step_spent : m.left ≡ 0 → AreSettledOrOpen m ls.justifications ls.leaves → IsOutstanding ls node → IsStep m ls ls (InNode node) (node_weight node) false
+  step_spent none left out = record {
     listed = listed;
     covered = λ e. absurd (true≢false (sym e));
     lighter = λ e. absurd (true≢false (sym e));
     spent = λ _. none;
     lacks = λ _. (node.hit.members, out.0, out.1);
+    left_open = λ _. left;
+    grows = λ j at. at;
   }
 
   -- nothing is to be done, since each set beside the lists has a leaf as part
@@ -72,6 +74,8 @@ module _ (m : Meaning) (ls : Lists) (node : Node) (listed : HoldsLists m ls) whe
         lighter = λ _. omega (arith, pow_pos (free_count node.hit node.barred));
         spent = λ e. absurd (true≢false e);
         lacks = λ e. absurd (true≢false e);
+        left_open = λ e. absurd (true≢false e);
+        grows = λ j at. at;
       }
 
   pub step_leaf : node.hit.limit ≡ m.size → IsWithin node.hit.limit node.hit.members → ¬ m.holds (rest node.hit) → m.shown_no (rest node.hit) → IsStep m ls (with_leaf ls node.hit) (InNode node) (node_weight node) true
@@ -93,6 +97,8 @@ module _ (m : Meaning) (ls : Lists) (node : Node) (listed : HoldsLists m ls) whe
         lighter = λ _. omega (arith, pow_pos (free_count node.hit node.barred));
         spent = λ e. absurd (true≢false e);
         lacks = λ e. absurd (true≢false e);
+        left_open = λ e. absurd (true≢false e);
+        grows = λ j at. at;
       }
 
   -- a frame takes over from its node, whose label each set meets
@@ -124,6 +130,8 @@ module _ (m : Meaning) (ls : Lists) (node : Node) (listed : HoldsLists m ls) whe
         lighter = λ _. omega (arith, weight_push ls.frames f, stands.lighter);
         spent = λ e. absurd (true≢false e);
         lacks = λ e. absurd (true≢false e);
+        left_open = λ e. absurd (true≢false e);
+        grows = λ x at. Contains-append_left ls.justifications (j ∷ []) x at;
       }
 
   pub step_frame : (j : Limited) (f : Frame) → node.hit.limit ≡ m.size → Contains ls.justifications j → Frames node j f → IsStep m ls (with_frame ls f) (InNode node) (node_weight node) true
@@ -142,6 +150,8 @@ module _ (m : Meaning) (ls : Lists) (node : Node) (listed : HoldsLists m ls) whe
         lighter = λ _. omega (arith, weight_push ls.frames f, stands.lighter);
         spent = λ e. absurd (true≢false e);
         lacks = λ e. absurd (true≢false e);
+        left_open = λ e. absurd (true≢false e);
+        grows = λ x at. at;
       }
 
 -- a part of the rest is apart
@@ -164,6 +174,8 @@ step_child m ls new frame left node went_on looks step =
       lighter = λ e. omega (arith, step.lighter e, weight_push ls.frames left, looks.lighter);
       spent = step.spent;
       lacks = step.lacks;
+      left_open = step.left_open;
+      grows = step.grows;
     }
 
 -- a frame that has no child left
@@ -178,6 +190,8 @@ step_done m ls frame left listed looks =
       lighter = λ _. omega arith;
       spent = λ e. absurd (true≢false e);
       lacks = λ e. absurd (true≢false e);
+      left_open = λ e. absurd (true≢false e);
+      grows = λ j at. at;
     }
 
 -- the frame that was taken off the lists

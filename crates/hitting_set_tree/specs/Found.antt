@@ -1,5 +1,5 @@
 -- What a list of smallest yes-sets and leaves says of the object that was asked.
-use Rattle.std.specs.Prelude.{◌≡◌, ◌-◌, ◌++◌, true, false, length, cond}
+use Rattle.std.specs.Prelude.{◌≡◌, ◌-◌, ◌++◌, true, false, List, length, cond}
 use Rattle.std.specs.List.{Contains}
 use Rattle.axiom_sets.specs.Sets.{Limited, IsWithin}
 use Rattle.pinpointing_specs.specs.Smallest.{rest, IsMinimalYes, IsExplored}
@@ -8,7 +8,7 @@ use Rattle.pinpointing_specs.specs.Nodes.{AreNodes, AreSettled}
 use Rattle.set_questions.specs.Meaning.{Meaning}
 use Rattle.set_questions.specs.InOrder.{HaveOneLimit}
 use Rattle.hitting_set_tree.specs.declared.tree.Found.{Found}
-use Rattle.hitting_set_tree.specs.Tree.{LacksSome}
+use Rattle.hitting_set_tree.specs.Tree.{LacksSome, AreSettledOrOpen, ListsShown}
 
 pub record IsFound (m : Meaning) (f : Found) : Type 0 where
   -- smallest yes-sets, in order, each of which was shown to be a yes-set
@@ -30,3 +30,18 @@ pub record IsFound (m : Meaning) (f : Found) : Type 0 where
   pub explored : f.finished ≡ true → IsExplored m.holds m.size f.justifications.items f.leaves.items
   pub spent : f.finished ≡ false → m.left ≡ 0
   pub lacks : f.finished ≡ false → LacksSome f.justifications.items f.leaves.items
+  pub left_open : f.finished ≡ false → AreSettledOrOpen m f.justifications.items f.leaves.items
+
+-- each yes-set that was shown to be one meanwhile has a listed set as part; or, where the budget was spent, a yes-set
+-- of which no answer says whether it is a smallest one
+abbrev pub ListsAllShown : Meaning → Meaning → Found → Type 0
+ListsAllShown m m' f = ListsShown m m' f.justifications.items f.finished
+
+-- where memory was refused: the taken nodes are those of a hitting-set tree, whose labels are smallest yes-sets that
+-- were shown to be yes-sets
+pub record HasTree (m : Meaning) : Type 0 where
+  pub labels : List Limited
+  pub limits : (j : Limited) → Contains labels j → j.limit ≡ m.size
+  pub smallest : (j : Limited) → Contains labels j → IsMinimalYes m.holds j
+  pub shown_yes : (j : Limited) → Contains labels j → m.shown_yes j.members
+  pub nodes : AreNodes labels m.taken

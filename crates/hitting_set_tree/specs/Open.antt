@@ -74,10 +74,10 @@ abbrev pub StaysOpen : List Limited → Lists → ℕ → Bool → Type 0
 StaysOpen taken ls rooted true = HasOpen taken ls rooted
 StaysOpen taken ls rooted false = IsEnded taken ls
 
--- the frames' nodes and the node were taken, or nothing is left
+-- the frames' nodes and the node were taken; or nothing is left, and all taken nodes are settled
 abbrev pub TakesPath : Meaning → Lists → Node → Bool → Type 0
 TakesPath m ls node true = HasPending m.taken ls node
-TakesPath m ls node false = IsEnded m.taken ls × (m.left ≡ 0)
+TakesPath m ls node false = IsEnded m.taken ls × (m.left ≡ 0) × AreSettled ls.justifications ls.leaves m.taken (length m.taken)
 
 -- in the end all taken nodes are settled where the budget sufficed
 abbrev pub Closes : List Limited → Lists → Bool → Type 0

@@ -1,10 +1,14 @@
 -- What the tree knows, and what is still to be looked at.
-use Rattle.std.specs.Prelude.{◌≡◌, ◌⊎◌, ◌++◌, ◌∷◌, [], ℕ, ◌+◌, ◌≤◌, true, false, Bool, List, length}
+use Rattle.std.specs.Prelude.{◌≡◌, ◌⊎◌, ◌++◌, ◌∷◌, [], ℕ, ◌+◌, ◌<◌, ◌≤◌, true, false, Bool, List, length, slice_index_or}
 use Rattle.std.specs.List.{Contains}
-use Rattle.lane_sieve.specs.Sets.{NumberSet}
+use Rattle.lane_sieve.specs.Sets.{NumberSet, IsPart}
 use Rattle.axiom_sets.specs.Sets.{Limited, IsWithin}
 use Rattle.pinpointing_specs.specs.Smallest.{rest, IsMinimalYes, HasPart, MeetsEach, IsExplored}
+use Rattle.pinpointing_specs.specs.Nodes.{IsSettled}
 use Rattle.set_questions.specs.Meaning.{Meaning}
+use Rattle.set_questions.specs.declared.entail.Reply.{Reply}
+use Rattle.set_questions.specs.declared.entail.Reply.TheVariants.{Yes, No, Spent}
+use Rattle.justification_shrink.specs.Shrunk.{IsUndecided}
 use Rattle.hitting_set_tree.specs.declared.frames.Frame.{Frame}
 use Rattle.hitting_set_tree.specs.declared.frames.Node.{Node}
 use Rattle.hitting_set_tree.specs.declared.tree.Tree.{Tree}
@@ -67,6 +71,31 @@ IsCovered ls beside = (t : NumberSet) → MeetsEach ls.justifications t → HasP
 abbrev pub LacksSome : List Limited → List Limited → Type 0
 LacksSome justifications leaves = (t : NumberSet) × MeetsEach justifications t × (¬ HasPart leaves t)
 
+-- no listed set is dropped
+abbrev pub KeepsAll : List Limited → List Limited → Type 0
+KeepsAll old new = (j : Limited) → Contains old j → Contains new j
+
+-- each taken node is settled, or its rest is a yes-set, or no answer about its rest is remembered: none is passed over
+-- of which it was shown that it is a leaf
+abbrev pub AreSettledOrOpen : Meaning → List Limited → List Limited → Type 0
+AreSettledOrOpen m justifications leaves = (k : ℕ) (d : Limited) → k < length m.taken
+    → IsSettled justifications leaves (slice_index_or m.taken k d) ⊎ (m.holds (rest (slice_index_or m.taken k d)) ⊎ m.unknown (rest (slice_index_or m.taken k d)))
+
+-- the set has a listed set as part; or, where the budget was spent, a yes-set of which no answer says whether it is a
+-- smallest one
+abbrev pub HasFoundIn : Meaning → List Limited → NumberSet → Bool → Type 0
+HasFoundIn m justifications s true = HasPart justifications s
+HasFoundIn m justifications s false = HasPart justifications s ⊎ ((kept : Limited) × IsPart kept.members s × IsUndecided m kept)
+
+abbrev pub HasFoundNamed : Meaning → List Limited → Reply → Bool → Type 0
+HasFoundNamed m justifications (Yes part) went_on = HasFoundIn m justifications part.members went_on
+HasFoundNamed m justifications No went_on = Unit {0}
+HasFoundNamed m justifications Spent went_on = Unit {0}
+
+-- nothing is lost of what was shown from m to m'
+abbrev pub ListsShown : Meaning → Meaning → List Limited → Bool → Type 0
+ListsShown m m' justifications went_on = (s : NumberSet) → m'.shown_yes s → m.shown_yes s ⊎ HasFoundIn m' justifications s went_on
+
 -- so it is by this node
 abbrev pub IsOutstanding : Lists → Node → Type 0
 IsOutstanding ls node = MeetsEach ls.justifications node.hit.members × (¬ HasPart ls.leaves node.hit.members)
@@ -79,6 +108,8 @@ pub record IsStep (m : Meaning) (old new : Lists) (beside : NumberSet → Type 0
   pub lighter : went_on ≡ true → weight new.frames + 1 ≤ weight old.frames + heavy
   pub spent : went_on ≡ false → m.left ≡ 0
   pub lacks : went_on ≡ false → LacksSome new.justifications new.leaves
+  pub left_open : went_on ≡ false → AreSettledOrOpen m new.justifications new.leaves
+  pub grows : KeepsAll old.justifications new.justifications
 
 -- what the lists are in the end: explored, or not whole, and nothing is left of the budget
 pub record IsGrown (m : Meaning) (ls : Lists) (finished : Bool) : Type 0 where
@@ -86,3 +117,4 @@ pub record IsGrown (m : Meaning) (ls : Lists) (finished : Bool) : Type 0 where
   pub explored : finished ≡ true → IsExplored m.holds m.size ls.justifications ls.leaves
   pub spent : finished ≡ false → m.left ≡ 0
   pub lacks : finished ≡ false → LacksSome ls.justifications ls.leaves
+  pub left_open : finished ≡ false → AreSettledOrOpen m ls.justifications ls.leaves

@@ -1,18 +1,20 @@
 // The tree, depth first: the child from which most numbers are barred comes first, so each set is looked at after its
 // parts.
 
-ghost use Rattle.std.specs.Prelude.{◌≡◌, ◌+◌, ◌<◌, ◌≤◌, [], true, IfOk, OnOk, length, slice_index_or};
+ghost use Rattle.std.specs.Prelude.{◌≡◌, ◌+◌, ◌<◌, ◌≤◌, [], true, IfOk, OnOk, OnErr, length, slice_index_or};
 ghost use Rattle.std.specs.List.{All, Contains};
 ghost use Rattle.lane_sieve.specs.Sets.{DoMeet};
 ghost use Rattle.axiom_sets.specs.Sets.{Limited, IsWithin};
 ghost use Rattle.pinpointing_specs.specs.Smallest.{AreApart};
-ghost use Rattle.set_questions.specs.Meaning.{Keeps};
-ghost use Rattle.set_questions.specs.Asked.{Answers};
+ghost use Rattle.pinpointing_specs.specs.Nodes.{AreNodes};
+ghost use Rattle.set_questions.specs.Meaning.{Keeps, ShowsTheSame};
+ghost use Rattle.set_questions.specs.Asked.{Answers, IsUnknownIf};
 ghost use Rattle.hitting_set_tree.specs.Territory.{IsNode, IsFrame, InNode, InFrame, Frames};
 ghost use Rattle.hitting_set_tree.specs.Weight.{node_weight, frame_weight};
 ghost use Rattle.hitting_set_tree.specs.Tree.{lists, with_frame, others, HoldsLists, AreFrames, IsCovered, IsOutstanding, IsStep, IsGrown, AddsLabel, AddsLeaf};
+ghost use Rattle.hitting_set_tree.specs.Tree.{HasFoundIn, HasFoundNamed, ListsShown, KeepsAll};
 ghost use Rattle.hitting_set_tree.specs.Open.{HasOpen, HasPending, IsBeside, StaysOpen, TakesPath, Closes, AsksFew};
-ghost use Rattle.hitting_set_tree.specs.Found.{IsFound};
+ghost use Rattle.hitting_set_tree.specs.Found.{IsFound, ListsAllShown, HasTree};
 
 use crate::{Frame, Look, Node, frame_of, next_child};
 use axiom_sets::AxiomSet;
@@ -48,12 +50,22 @@ pub struct Found {
 /// Lists the smallest yes-sets in their order, and leaves whose rests are no yes-sets: all of them where the budget
 /// suffices. It is told as too small only where something is lacking: where some set meets each listed yes-set, and has no
 /// leaf as part.
+///
+/// Nothing that was found is left out: each set that was shown to be a yes-set has a listed set as part, or, where the
+/// budget was spent, a yes-set of which no answer says whether it is a smallest one. Each taken node is a leaf or apart
+/// from a listed set, or no answer about its rest is remembered, or its rest is a yes-set that was not shrunk to the end.
+///
+/// # Errors
+/// Where memory is refused. The sets that were taken until then are nodes of such a tree all the same, and no more was
+/// asked than goes with them.
 pub fn enumerate<E: Entail>(alloc: Global, entail: &mut E) -> Result<Found, NoMemory>
     requires { (E.meaning entail.old).taken ≡ [] }
     ensures keeps { Keeps (E.meaning entail.old) (E.meaning entail.new) }
     ensures same { E.origin entail.new ≡ E.origin entail.old }
     ensures found { IfOk result (IsFound (E.meaning entail.new)) }
-    ensures asked { OnOk result (AsksFew (E.meaning entail.new).size (E.meaning entail.old) (E.meaning entail.new)) }
+    ensures shown { IfOk result (ListsAllShown (E.meaning entail.old) (E.meaning entail.new)) }
+    ensures begun { OnErr result (HasTree (E.meaning entail.new)) }
+    ensures asked { AsksFew (E.meaning entail.new).size (E.meaning entail.old) (E.meaning entail.new) }
 {
     let count = entail.count();
     let mut tree = Tree {
@@ -97,7 +109,9 @@ fn grow<E: Entail>(
     ensures same { E.origin entail.new ≡ E.origin entail.old }
     ensures closed { IfOk result (Closes (E.meaning entail.new).taken (lists tree.new)) }
     ensures grown { IfOk result (IsGrown (E.meaning entail.new) (lists tree.new)) }
-    ensures asked { OnOk result (AsksFew (E.meaning entail.old).size (E.meaning entail.old) (E.meaning entail.new)) }
+    ensures shown { IfOk result (ListsShown (E.meaning entail.old) (E.meaning entail.new) (lists tree.new).justifications) }
+    ensures begun { OnErr result (HasTree (E.meaning entail.new)) }
+    ensures asked { AsksFew (E.meaning entail.old).size (E.meaning entail.old) (E.meaning entail.new) }
 {
     let went_on = visit(alloc, entail, tree, root)?;
     if !went_on {
@@ -115,7 +129,10 @@ fn run<E: Entail>(alloc: Global, entail: &mut E, tree: &mut Tree) -> Result<bool
     ensures same { E.origin entail.new ≡ E.origin entail.old }
     ensures closed { IfOk result (Closes (E.meaning entail.new).taken (lists tree.new)) }
     ensures grown { IfOk result (IsGrown (E.meaning entail.new) (lists tree.new)) }
-    ensures asked { OnOk result (AsksFew (E.meaning entail.old).size (E.meaning entail.old) (E.meaning entail.new)) }
+    ensures grows { OnOk result (KeepsAll (lists tree.old).justifications (lists tree.new).justifications) }
+    ensures shown { IfOk result (ListsShown (E.meaning entail.old) (E.meaning entail.new) (lists tree.new).justifications) }
+    ensures begun { OnErr result (HasTree (E.meaning entail.new)) }
+    ensures asked { AsksFew (E.meaning entail.old).size (E.meaning entail.old) (E.meaning entail.new) }
 {
     while let Some(frame) = tree.frames.pop() {
         let went_on = look_on(alloc, entail, tree, frame)?;
@@ -141,7 +158,9 @@ fn look_on<E: Entail>(
     ensures open { IfOk result (StaysOpen (E.meaning entail.new).taken (lists tree.new) tree.new.rooted) }
     ensures step { IfOk result
         (IsStep (E.meaning entail.new) (lists tree.old) (lists tree.new) (InFrame frame) (frame_weight frame)) }
-    ensures asked { OnOk result (AsksFew (E.meaning entail.old).size (E.meaning entail.old) (E.meaning entail.new)) }
+    ensures shown { IfOk result (ListsShown (E.meaning entail.old) (E.meaning entail.new) (lists tree.new).justifications) }
+    ensures begun { OnErr result (HasTree (E.meaning entail.new)) }
+    ensures asked { AsksFew (E.meaning entail.old).size (E.meaning entail.old) (E.meaning entail.new) }
 {
     match next_child(&mut frame)? {
         Look::Done => {
@@ -173,7 +192,9 @@ fn visit<E: Entail>(
     ensures open { IfOk result (StaysOpen (E.meaning entail.new).taken (lists tree.new) tree.new.rooted) }
     ensures step { IfOk result
         (IsStep (E.meaning entail.new) (lists tree.old) (lists tree.new) (InNode node) (node_weight node)) }
-    ensures asked { OnOk result (AsksFew (E.meaning entail.old).size (E.meaning entail.old) (E.meaning entail.new)) }
+    ensures shown { IfOk result (ListsShown (E.meaning entail.old) (E.meaning entail.new) (lists tree.new).justifications) }
+    ensures begun { OnErr result (HasTree (E.meaning entail.new)) }
+    ensures asked { AsksFew (E.meaning entail.old).size (E.meaning entail.old) (E.meaning entail.new) }
 {
     if let Some(place) = place_apart(&tree.justifications, &node.hit) {
         let frame = frame_by(node, &tree.justifications, place)?;
@@ -215,7 +236,9 @@ fn take_and_ask<E: Entail>(
     ensures open { IfOk result (StaysOpen (E.meaning entail.new).taken (lists tree.new) tree.new.rooted) }
     ensures step { IfOk result
         (IsStep (E.meaning entail.new) (lists tree.old) (lists tree.new) (InNode node) (node_weight node)) }
-    ensures asked { OnOk result (AsksFew (E.meaning entail.old).size (E.meaning entail.old) (E.meaning entail.new)) }
+    ensures shown { IfOk result (ListsShown (E.meaning entail.old) (E.meaning entail.new) (lists tree.new).justifications) }
+    ensures begun { OnErr result (HasTree (E.meaning entail.new)) }
+    ensures asked { AsksFew (E.meaning entail.old).size (E.meaning entail.old) (E.meaning entail.new) }
 {
     let taken = take_path(entail, tree, &node)?;
     if !taken {
@@ -233,10 +256,12 @@ fn take_path<E: Entail>(entail: &mut E, tree: &Tree, node: &Node) -> Result<bool
     ensures keeps { Keeps (E.meaning entail.old) (E.meaning entail.new) }
     ensures same { E.origin entail.new ≡ E.origin entail.old }
     ensures taken { IfOk result (TakesPath (E.meaning entail.new) (lists tree.now) node.now) }
+    ensures shown { ShowsTheSame (E.meaning entail.old) (E.meaning entail.new) }
     ensures asks { (E.meaning entail.new).asks ≡ (E.meaning entail.old).asks }
     ensures more { IfOk result (λ b. b ≡ true →
         length (E.meaning entail.old).taken < length (E.meaning entail.new).taken) }
-    ensures grown { OnOk result (length (E.meaning entail.old).taken ≤ length (E.meaning entail.new).taken) }
+    ensures begun { OnErr result (AreNodes (lists tree.now).justifications (E.meaning entail.new).taken) }
+    ensures grown { length (E.meaning entail.old).taken ≤ length (E.meaning entail.new).taken }
 {
     for place in tree.rooted..tree.frames.len() {
         let taken = entail.take_node(&tree.frames[place].hit)?;
@@ -265,8 +290,9 @@ fn ask_node<E: Entail>(
     ensures open { IfOk result (StaysOpen (E.meaning entail.new).taken (lists tree.new) tree.new.rooted) }
     ensures step { IfOk result
         (IsStep (E.meaning entail.new) (lists tree.old) (lists tree.new) (InNode node) (node_weight node)) }
-    ensures asked { OnOk result
-        ((E.meaning entail.new).asks ≤ (E.meaning entail.old).asks + ((E.meaning entail.old).size + 1)) }
+    ensures shown { IfOk result (ListsShown (E.meaning entail.old) (E.meaning entail.new) (lists tree.new).justifications) }
+    ensures begun { OnErr result (HasTree (E.meaning entail.new)) }
+    ensures asked { (E.meaning entail.new).asks ≤ (E.meaning entail.old).asks + ((E.meaning entail.old).size + 1) }
 {
     let rest = rest_of(alloc, &node.hit)?;
     let answer = entail.ask(&rest)?;
@@ -287,14 +313,17 @@ fn settle<E: Entail>(
     requires pending { HasPending (E.meaning entail.old).taken (lists tree.old) node }
     requires outstanding { IsOutstanding (lists tree.old) node }
     requires answer { Answers (E.meaning entail.old) (others node) answer }
+    requires unknown { IsUnknownIf (E.meaning entail.old) (others node) answer }
     ensures keeps { Keeps (E.meaning entail.old) (E.meaning entail.new) }
     ensures same { E.origin entail.new ≡ E.origin entail.old }
     ensures taken { (E.meaning entail.new).taken ≡ (E.meaning entail.old).taken }
     ensures open { IfOk result (StaysOpen (E.meaning entail.new).taken (lists tree.new) tree.new.rooted) }
     ensures step { IfOk result
         (IsStep (E.meaning entail.new) (lists tree.old) (lists tree.new) (InNode node) (node_weight node)) }
-    ensures asked { OnOk result
-        ((E.meaning entail.new).asks ≤ (E.meaning entail.old).asks + (E.meaning entail.old).size) }
+    ensures named { IfOk result (HasFoundNamed (E.meaning entail.new) (lists tree.new).justifications answer) }
+    ensures shown { IfOk result (ListsShown (E.meaning entail.old) (E.meaning entail.new) (lists tree.new).justifications) }
+    ensures begun { OnErr result (HasTree (E.meaning entail.new)) }
+    ensures asked { (E.meaning entail.new).asks ≤ (E.meaning entail.old).asks + (E.meaning entail.old).size }
 {
     match answer {
         Reply::Yes(part) => label_node(entail, tree, node, &part),
@@ -324,8 +353,10 @@ fn label_node<E: Entail>(
     ensures open { IfOk result (StaysOpen (E.meaning entail.new).taken (lists tree.new) tree.new.rooted) }
     ensures step { IfOk result
         (IsStep (E.meaning entail.new) (lists tree.old) (lists tree.new) (InNode node) (node_weight node)) }
-    ensures asked { OnOk result
-        ((E.meaning entail.new).asks ≤ (E.meaning entail.old).asks + (E.meaning entail.old).size) }
+    ensures named { IfOk result (HasFoundIn (E.meaning entail.new) (lists tree.new).justifications part.now.members) }
+    ensures shown { IfOk result (ListsShown (E.meaning entail.old) (E.meaning entail.new) (lists tree.new).justifications) }
+    ensures begun { OnErr result (HasTree (E.meaning entail.new)) }
+    ensures asked { (E.meaning entail.new).asks ≤ (E.meaning entail.old).asks + (E.meaning entail.old).size }
 {
     match shrink(entail, part)? {
         Shrunk::Just(just) => {

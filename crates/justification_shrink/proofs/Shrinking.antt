@@ -11,8 +11,8 @@ use Rattle.pinpointing_specs.specs.Smallest.{Grows, without}
 use Rattle.axiom_sets.proofs.Same.{set_of_parts}
 use Rattle.pinpointing_specs.proofs.Choices.{in_without, to_without}
 use Rattle.set_questions.specs.Meaning.{Meaning, Keeps}
-use Rattle.justification_shrink.specs.declared.Shrunk.TheVariants.{Just}
-use Rattle.justification_shrink.specs.Shrunk.{Tries}
+use Rattle.justification_shrink.specs.declared.Shrunk.TheVariants.{Just, Spent}
+use Rattle.justification_shrink.specs.Shrunk.{Tries, TriesAbove, ShowsAbove, LosesNothing}
 
 -- what is left of `start` once the numbers below n were tried
 pub record IsShrunk (m : Meaning) (start kept : Limited) (n : ℕ) : Type 0 where
@@ -88,6 +88,24 @@ module _ (m m' : Meaning) (keeps : Keeps m m') (grows : Grows m.holds) (start ke
         | inl need ↦ stays next tried.0 need.0 need.1
         | inr found ↦ falls next tried.0 found.0 found.1 found.2
       ]
+
+-- what was shown until the number was tried, and meanwhile, has what is left as part
+pub above_next : (m m' m'' : Meaning) (kept next : Limited) (n : ℕ) → ShowsAbove m m' kept → Tries m'' kept n (Just next) → ShowsAbove m' m'' next → ShowsAbove m m'' next
+above_next m m' m'' kept next n above tried shown s at =
+    let inside : IsPart next.members kept.members = elim tried.1 [
+      | inl same ↦ λ k h. subst (λ (t : NumberSet). set.contains t k ≡ true) same.0 h
+      | inr found ↦ λ k h. (in_without kept.members n k (found.0 k h)).1
+    ] in
+    elim (shown s at) [ inl before ↦ elim (above s before) [ inl old ↦ inl old | inr part ↦ inr (λ k h. part k (inside k h)) ] | inr part ↦ inr part ]
+
+-- the number was not tried to its end
+pub cut_short : (m m' m'' : Meaning) (start kept : Limited) (n : ℕ) → Keeps m' m'' → IsPart kept.members start.members → m'.holds kept.members → ShowsAbove m m' kept → TriesAbove m' m'' kept n Spent → LosesNothing m m'' start Spent
+cut_short m m' m'' start kept n keeps inside still above tried = (
+  kept,
+  inside,
+  record { still = (keeps.same_question kept.members).0 still; number = n; member = tried.0; unknown = tried.1 },
+  λ s at. above s (tried.2 s at),
+)
 
 -- one member more at most
 one_longer : (s : NumberSet) (n : ℕ) → length (members_below s (n + 1)) ≡ length (members_below s n) + cond (set.contains s n) 1 0

@@ -13,7 +13,7 @@ ghost use Rattle.std.specs.Prelude.{◌≡◌, ◌+◌, ◌<◌, ◌≤◌, IfOk
 ghost use Rattle.std.specs.FinSet as set;
 ghost use Rattle.axiom_sets.specs.Sets.{member_list};
 ghost use Rattle.set_questions.specs.Meaning.{Keeps};
-ghost use Rattle.justification_shrink.specs.Shrunk.{ShrinksTo, Tries};
+ghost use Rattle.justification_shrink.specs.Shrunk.{ShrinksTo, LosesNothing, Tries, TriesAbove};
 
 use axiom_sets::AxiomSet;
 use lane_sieve::NoMemory;
@@ -29,7 +29,8 @@ pub enum Shrunk {
 }
 
 /// Shrinks a yes-set to a smallest one, with at most one ask for each of its members. The result is the start itself or
-/// was shown to be a yes-set.
+/// was shown to be a yes-set. Each set that was shown to be a yes-set meanwhile has the result as part; where the
+/// budget was spent, it has a yes-set as part of which no answer says whether it is a smallest one.
 ///
 /// # Errors
 /// Where memory is refused. The object has then answered some asks, and means what it did.
@@ -37,6 +38,7 @@ pub fn shrink<E: Entail>(entail: &mut E, start: &AxiomSet) -> Result<Shrunk, NoM
     requires limit { start.now.limit ≡ (E.meaning entail.old).size }
     requires yes_set { (E.meaning entail.old).holds start.now.members }
     ensures shrunk { IfOk result (ShrinksTo (E.meaning entail.new) start.now) }
+    ensures shown { IfOk result (LosesNothing (E.meaning entail.old) (E.meaning entail.new) start.now) }
     ensures asked { (E.meaning entail.new).asks ≤ (E.meaning entail.old).asks + length (member_list start.now) }
     ensures keeps { Keeps (E.meaning entail.old) (E.meaning entail.new) }
     ensures same { E.origin entail.new ≡ E.origin entail.old }
@@ -63,6 +65,7 @@ fn try_without<E: Entail>(
     requires low { 1 ≤ number }
     requires high { number ≤ kept.limit }
     ensures tried { IfOk result (Tries (E.meaning entail.new) kept number) }
+    ensures shown { IfOk result (TriesAbove (E.meaning entail.old) (E.meaning entail.new) kept number) }
     ensures asked { (E.meaning entail.new).asks ≤ (E.meaning entail.old).asks
         + cond (set.contains kept.members number) 1 0 }
     ensures keeps { Keeps (E.meaning entail.old) (E.meaning entail.new) }

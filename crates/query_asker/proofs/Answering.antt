@@ -1,5 +1,5 @@
 -- What an answer says, and what it leaves as it is.
-use Rattle.std.proofs.Common.{◌≡◌, ℕ, ◌+◌, true, List, ◌++◌, length, refl, ap, sym, ◌∙◌, subst, arith}
+use Rattle.std.proofs.Common.{◌≡◌, ℕ, ◌+◌, true, List, ◌++◌, length, refl, ap, sym, ◌∙◌, subst, arith, inl}
 use Rattle.std.specs.Prelude.{Option, None, Some}
 use Rattle.std.specs.Cmp.{nat_cmp_total}
 use Rattle.std.specs.FinSet as set
@@ -13,7 +13,7 @@ use Rattle.axiom_sets.proofs.Same.{same_limited}
 use Rattle.shq_terms.specs.Listed.{Listed}
 use Rattle.shq_terms.specs.declared.axioms.Query.{Query}
 use Rattle.set_questions.specs.Meaning.{Keeps}
-use Rattle.set_questions.specs.Asked.{Answers}
+use Rattle.set_questions.specs.Asked.{Answers, IsUnknownIf, ShowsNoOther}
 use Rattle.set_questions.specs.declared.entail.Reply.{Reply}
 use Rattle.set_questions.specs.declared.entail.Reply.TheVariants.{Yes, No, Spent}
 use Rattle.pinpointing_specs.proofs.Kept.{grows, intersection_part}
@@ -153,6 +153,26 @@ pub unknown_whole : (a : AskerLists) (s p : Limited) → IsLocalPart a s p → (
 unknown_whole a s p h (Yes u) unknown = tt
 unknown_whole a s p h No unknown = tt
 unknown_whole a s p h Spent unknown = subst (λ (t : Limited). ¬ IsAnswered a.gained t a.query) (part_is a s p h) unknown
+
+-- the same of the set's numbers
+pub left_out : (a : AskerLists) (s : Limited) → s.limit ≡ length a.ontology.axioms → (reply : Reply) → IsUnknown a (part_in a s) reply → IsUnknownIf (asker_meaning a) s reply
+left_out a s limit (Yes u) unknown = tt
+left_out a s limit No unknown = tt
+left_out a s limit Spent unknown = subst (λ (n : ℕ). ¬ IsAnswered a.gained (record { limit = n; members = set.intersection s.members a.local_part }) a.query) limit unknown
+
+-- an answer from the log shows nothing
+pub shows_counted : (a b : AskerLists) (asks : ℕ) (answer : Reply) → b ≡ record { ontology = a.ontology; query = a.query; budget = a.budget; local_part = a.local_part; before = a.before; gained = a.gained; asks = asks }
+    → ShowsNoOther (asker_meaning a) (asker_meaning b) answer
+shows_counted a b asks answer e =
+    by_answer answer
+  where
+    before : (s : NumberSet) → (asker_meaning b).shown_yes s → (asker_meaning a).shown_yes s
+    before s h = subst (λ (d : AskerLists). (asker_meaning d).shown_yes s) e h
+
+    by_answer : (x : Reply) → ShowsNoOther (asker_meaning a) (asker_meaning b) x
+    by_answer (Yes u) = λ s h. inl (before s h)
+    by_answer No = before
+    by_answer Spent = before
 
 -- ---- limits
 

@@ -1,5 +1,5 @@
 -- What a test or a node that is put into the log makes of an asker.
-use Rattle.std.proofs.Common.{◌≡◌, ℕ, ◌+◌, ◌-◌, ◌<◌, ◌≤◌, true, false, List, [], ◌∷◌, ◌++◌, length, take, drop, refl, ap, sym, ◌∙◌, subst, arith, inl, inr, length-append, append_assoc}
+use Rattle.std.proofs.Common.{◌≡◌, ◌⊎◌, ℕ, ◌+◌, ◌-◌, ◌<◌, ◌≤◌, true, false, List, [], ◌∷◌, ◌++◌, length, take, drop, refl, ap, sym, ◌∙◌, subst, arith, inl, inr, length-append, append_assoc}
 use Rattle.std.specs.Prelude.{Option, Result, Ok, Err, IfOk, OnErr, Bool}
 use Rattle.std.specs.List.{Contains, list_any}
 use Rattle.std.proofs.lemmas.List.{append-nil, take-append-drop, take-append-le, drop-append-le}
@@ -10,7 +10,7 @@ use Rattle.axiom_sets.specs.Sets.{Limited}
 use Rattle.shq_terms.specs.NoMemory.{NoMemory}
 use Rattle.shq_terms.specs.declared.axioms.Query.{Query}
 use Rattle.set_questions.specs.Meaning.{ShowsTheSame, one_more}
-use Rattle.set_questions.specs.Asked.{Answers, Takes}
+use Rattle.set_questions.specs.Asked.{Answers, ShowsNoOther, Takes}
 use Rattle.set_questions.specs.declared.entail.Reply.{Reply}
 use Rattle.set_questions.specs.declared.entail.Reply.TheVariants.{Yes}
 use Rattle.run_log.specs.declared.entry.Entry.{Entry}
@@ -27,7 +27,7 @@ use Rattle.shq_oracle.specs.declared.answer.Outcome.TheVariants as Found
 use Rattle.query_asker.specs.declared.memo.Memo.{Memo}
 use Rattle.query_asker.specs.AskerLists.{AskerLists, origin_of}
 use Rattle.query_asker.specs.Told.{IsTestOfOther, AreTestsOfOthers, IsShownNoIn, asker_meaning, IsAskerLog, IsUnknown, LogsNode}
-use Rattle.query_asker.specs.Memory.{yes_of, no_of, IsMemo}
+use Rattle.query_asker.specs.Memory.{yes_by, yes_of, no_of, IsMemo}
 use Rattle.query_asker.specs.Asking.{lists_of, CanAsk, IsAsker, IsLater, reply_of}
 use Rattle.query_asker.proofs.Remembered.{kept_still}
 use Rattle.query_asker.proofs.Logged.{goes_on, with_entry, MayBeLast, log_with, log_counted}
@@ -188,6 +188,29 @@ module _ (o : OracleLists) (q : Query) (among : Option Limited) (first asks : �
       | inr is ↦ no_answer appends.ended m (subst (λ (e : Entry). AnswersQuery e s q) (sym is) found.2)
     ]
 
+    -- the test shows no yes-set but the one that its outcome names
+    shown_by_end : (w : Outcome) (d : TestEnd) → EndsAs w d → (enough : Limited) (j : NumberSet) → yes_by d ≡ enough ∷ [] → enough.members ≡ j → (P : Type 0) → ((x : Limited) → w ≡ Found.Yes x → j ≡ x.members → P) → P
+    shown_by_end (Found.Yes x) (E.Yes u) m enough j e is P gives = let same : u ≡ enough = cc e in gives x refl (sym is ∙ ap (λ (l : Limited). l.members) (sym same ∙ m))
+    shown_by_end (Found.Yes x) E.No m enough j e is P gives = absurd m
+    shown_by_end (Found.Yes x) (E.Spent t) m enough j e is P gives = absurd m
+    shown_by_end Found.No (E.Yes u) m enough j e is P gives = absurd m
+    shown_by_end Found.No E.No m enough j e is P gives = absurd (cc e)
+    shown_by_end Found.No (E.Spent t) m enough j e is P gives = absurd m
+    shown_by_end Found.Undecided (E.Yes u) m enough j e is P gives = absurd m
+    shown_by_end Found.Undecided E.No m enough j e is P gives = absurd m
+    shown_by_end Found.Undecided (E.Spent t) m enough j e is P gives = absurd (cc e)
+
+    shown_before : (w : Outcome) → EndsAs w appends.ended → (j : NumberSet) → IsShownYes after.gained q j → IsShownYes a.gained q j ⊎ ((x : Limited) × (w ≡ Found.Yes x) × (j ≡ x.members))
+    shown_before w m j h = elim (Contains-push_cases a.gained entry (Test h.tested q h.steps (E.Yes h.enough)) h.is_yes) [
+      | inl old ↦ inl (record { tested = h.tested; steps = h.steps; enough = h.enough; is_yes = old; is_set = h.is_set })
+      | inr is ↦ inr (shown_by_end w appends.ended m h.enough j (ap yes_of is) h.is_set ((x : Limited) × (w ≡ Found.Yes x) × (j ≡ x.members)) (λ x e f. (x, e, f)))
+    ]
+
+    shows_named : (w : Outcome) → EndsAs w appends.ended → ShowsNoOther (asker_meaning a) (asker_meaning after) (reply_of w)
+    shows_named (Found.Yes x) m = λ j h. elim (shown_before (Found.Yes x) m j h) [ inl old ↦ inl old | inr new' ↦ let same : new'.0 ≡ x = cc (sym new'.1) in inr (new'.2 ∙ ap (λ (l : Limited). l.members) same) ]
+    shows_named Found.No m = λ j h. elim (shown_before Found.No m j h) [ inl old ↦ old | inr new' ↦ absurd (cc new'.1) ]
+    shows_named Found.Undecided m = λ j h. elim (shown_before Found.Undecided m j h) [ inl old ↦ old | inr new' ↦ absurd (cc new'.1) ]
+
     is_after : first ≤ length o.log → lists_of o' q among first (one_more asks) ≡ after
     is_after le = ap (λ (l : OracleLists). lists_of l q among first (one_more asks)) (is_logged o o' entry ontology budget appends.is_log) ∙ lists_logged o q among first asks (one_more asks) entry le
 
@@ -202,6 +225,11 @@ module _ (o : OracleLists) (q : Query) (among : Option Limited) (first asks : �
     unknown le t e =
         subst (λ (r : Reply). IsUnknown (lists_of o' q among first (one_more asks)) s r) (sym e)
         (subst (λ (l : AskerLists). IsUnknown l s (reply_of v)) (sym (is_after le)) (still_unknown v appends.matches))
+
+    pub shows : first ≤ length o.log → (t : Reply) → t ≡ reply_of v → ShowsNoOther (asker_meaning a) (asker_meaning (lists_of o' q among first (one_more asks))) t
+    shows le t e =
+        subst (λ (r : Reply). ShowsNoOther (asker_meaning a) (asker_meaning (lists_of o' q among first (one_more asks))) r) (sym e)
+        (subst (λ (l : AskerLists). ShowsNoOther (asker_meaning a) (asker_meaning l) (reply_of v)) (sym (is_after le)) (shows_named v appends.matches))
 
     pub later : first ≤ length o.log → IsLater a (lists_of o' q among first (one_more asks))
     later le = record { more = entry ∷ []; is_more = is_after le }

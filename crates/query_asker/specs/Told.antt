@@ -42,6 +42,10 @@ pub record IsShownNoIn (log : List Entry) (q : Query) (m s : NumberSet) : Type 0
   pub is_no : Contains log (Test tested q steps No)
   pub has_part : (k : ℕ) → set.contains s k ≡ true → set.contains m k ≡ true → set.contains tested.members k ≡ true
 
+-- no entry of the log answers about those axioms of s among which it asks
+abbrev pub IsLeftOut : AskerLists → NumberSet → Type 0
+IsLeftOut a s = ¬ IsAnswered a.gained (record { limit = length a.ontology.axioms; members = set.intersection s a.local_part }) a.query
+
 -- the yes-sets are those from which the query follows
 abbrev pub asker_meaning : AskerLists → Meaning
 asker_meaning a = record {
@@ -52,6 +56,7 @@ asker_meaning a = record {
   taken = nodes_of a.gained;
   shown_yes = IsShownYes a.gained a.query;
   shown_no = IsShownNoIn a.gained a.query a.local_part;
+  unknown = IsLeftOut a;
 }
 
 pub asker_grows : (a : AskerLists) → Grows (asker_meaning a).holds

@@ -5,12 +5,12 @@ ghost use Rattle.std.specs.FinSet as set;
 ghost use Rattle.lane_sieve.specs.Sets.{IsPart};
 ghost use Rattle.pinpointing_specs.specs.Smallest.{numbers_to};
 ghost use Rattle.ontology_limits.specs.Limits.{IsInLimit};
-ghost use Rattle.set_questions.specs.Asked.{Answers, Takes};
+ghost use Rattle.set_questions.specs.Asked.{Answers, IsUnknownIf, ShowsNoOther, Takes};
 ghost use Rattle.set_questions.specs.Meaning.{Keeps, ShowsTheSame, one_more};
 ghost use Rattle.run_log.specs.Entries.{is_spent, nodes_of, IsAnswered};
 ghost use Rattle.query_asker.specs.AskerLists.{origin_of};
 ghost use Rattle.query_asker.specs.Told.{KeepsAnswers, AreTestsOfOthers, asker_meaning, IsAskerLog};
-ghost use Rattle.query_asker.specs.Told.{part_in, IsUnknown, LogsNode};
+ghost use Rattle.query_asker.specs.Told.{IsUnknown, LogsNode};
 ghost use Rattle.query_asker.specs.Asking.{part_of, IsPartIn, IsLocalPart, IsRecalled, IsLater, reply_of};
 
 use crate::NoMemory;
@@ -183,6 +183,7 @@ impl<'a> Asker<'a> {
         requires is_new { ¬ IsAnswered self.old.gained part.now self.old.query }
         ensures answer { IfOk result (Answers (asker_meaning self.new) part.now) }
         ensures unknown { IfOk result (IsUnknown self.new part.now) }
+        ensures shown { IfOk result (ShowsNoOther (asker_meaning self.old) (asker_meaning self.new)) }
         ensures later { IsLater self.old self.new }
         ensures nodes { nodes_of self.new.gained ≡ nodes_of self.old.gained }
         ensures counted { OnOk result (self.new.asks ≡ one_more self.old.asks) }
@@ -258,7 +259,8 @@ impl<'a> Entail for Asker<'a> {
     fn ask(&mut self, set: &AxiomSet) -> Result<Reply, NoMemory>
         requires { set.now.limit ≡ (asker_meaning self.old).size }
         ensures answer { IfOk result (Answers (asker_meaning self.new) set.now) }
-        ensures unknown { IfOk result (IsUnknown self.new (part_in self.new set.now)) }
+        ensures unknown { IfOk result (IsUnknownIf (asker_meaning self.new) set.now) }
+        ensures shown { IfOk result (ShowsNoOther (asker_meaning self.old) (asker_meaning self.new)) }
         ensures keeps { Keeps (asker_meaning self.old) (asker_meaning self.new) }
         ensures counted { OnOk result ((asker_meaning self.new).asks ≡ one_more (asker_meaning self.old).asks) }
         ensures uncounted { OnErr result ((asker_meaning self.new).asks ≡ (asker_meaning self.old).asks) }

@@ -1,7 +1,7 @@
 -- What an answer about a set says.
-use Rattle.std.specs.Prelude.{◌≡◌, ◌-◌, ◌++◌, ◌∷◌, [], Bool, true, false}
+use Rattle.std.specs.Prelude.{◌≡◌, ◌⊎◌, ◌-◌, ◌++◌, ◌∷◌, [], Bool, true, false}
 use Rattle.axiom_sets.specs.Sets.{Limited}
-use Rattle.lane_sieve.specs.Sets.{IsPart}
+use Rattle.lane_sieve.specs.Sets.{NumberSet, IsPart}
 use Rattle.set_questions.specs.Meaning.{Meaning}
 use Rattle.set_questions.specs.declared.entail.Reply.{Reply}
 use Rattle.set_questions.specs.declared.entail.Reply.TheVariants.{Yes, No, Spent}
@@ -11,6 +11,18 @@ abbrev pub Answers : Meaning → Limited → Reply → Type 0
 Answers m asked (Yes part) = (part.limit ≡ asked.limit) × IsPart part.members asked.members × m.holds part.members × m.shown_yes part.members
 Answers m asked No = (¬ m.holds asked.members) × m.shown_no asked.members
 Answers m asked Spent = m.left ≡ 0
+
+-- that the budget is spent is answered only where no other answer is remembered
+abbrev pub IsUnknownIf : Meaning → Limited → Reply → Type 0
+IsUnknownIf m asked (Yes part) = Unit {0}
+IsUnknownIf m asked No = Unit {0}
+IsUnknownIf m asked Spent = m.unknown asked.members
+
+-- of no set but the one that the answer names it was shown just now that it is a yes-set
+abbrev pub ShowsNoOther : Meaning → Meaning → Reply → Type 0
+ShowsNoOther m m' (Yes part) = (s : NumberSet) → m'.shown_yes s → m.shown_yes s ⊎ (s ≡ part.members)
+ShowsNoOther m m' No = (s : NumberSet) → m'.shown_yes s → m.shown_yes s
+ShowsNoOther m m' Spent = (s : NumberSet) → m'.shown_yes s → m.shown_yes s
 
 -- a node was taken, or nothing was left
 abbrev pub Takes : Meaning → Meaning → Limited → Bool → Type 0

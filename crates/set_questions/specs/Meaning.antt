@@ -17,6 +17,8 @@ pub record Meaning : Type 1 where
   -- the sets that were shown to be yes-sets, and those that were shown to be none
   pub shown_yes : NumberSet → Type 0
   pub shown_no : NumberSet → Type 0
+  -- the sets about which no answer is remembered
+  pub unknown : NumberSet → Type 0
 
 -- what every call keeps: the yes-sets and the greatest number stay, the budget never rises, what was shown stays shown
 pub record Keeps (m m' : Meaning) : Type 0 where

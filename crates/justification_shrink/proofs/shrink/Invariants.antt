@@ -1,6 +1,7 @@
 use Rattle.std.proofs.Common.{◌≡◌, ◌+◌, ◌≤◌, length}
 use Rattle.lane_sieve.specs.Sets.{members_below}
 use Rattle.set_questions.specs.Meaning.{Keeps}
+use Rattle.justification_shrink.specs.Shrunk.{ShowsAbove}
 use Rattle.justification_shrink.proofs.Shrinking.{IsShrunk}
 use Rattle.justification_shrink.proofs.shrink.Given as goal
 
@@ -11,6 +12,7 @@ invariant-loop-place g l =
     record {
       size : m.size ≡ l.start.limit;
       shrunk : IsShrunk m l.start l.kept (l.place + 1);
+      above : ShowsAbove before m l.kept;
       asked : m.asks ≤ before.asks + length (members_below l.start.members (l.place + 1));
       keeps : Keeps before m;
       taken : m.taken ≡ before.taken;

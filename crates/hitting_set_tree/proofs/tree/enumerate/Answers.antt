@@ -4,7 +4,8 @@ use Rattle.std.specs.List.{Contains}
 use Rattle.axiom_sets.specs.Sets.{Limited}
 use Rattle.hitting_set_tree.specs.declared.tree.Found.{Found}
 use Rattle.hitting_set_tree.specs.Tree.{lists}
-use Rattle.hitting_set_tree.proofs.Finding.{found_lists}
+use Rattle.hitting_set_tree.proofs.Begun.{in_err, no_tree}
+use Rattle.hitting_set_tree.proofs.Finding.{found_lists, shown_same}
 use Rattle.hitting_set_tree.proofs.Stepping.{root_covered, none_in}
 use Rattle.hitting_set_tree.proofs.tree.enumerate.Goals as goal
 
@@ -32,3 +33,13 @@ returns-clause-found g c =
     let f : Found = record { justifications = c.in_ok-justifications.justifications; leaves = c.grow.new.tree.leaves; finished = c.in_ok-finished.finished } in
     found_lists m (lists c.grow.new.tree) f (g.met.E.Entail.grows c.grow.new.entail) c.in_ok-justifications.ensures.order
     (λ s. subst (λ (xs : List Limited). Contains f.justifications.items s ↔ Contains xs s) c.deref.ensures.value (c.in_ok-justifications.ensures.members s)) refl c.in_ok-finished.ensures.closed c.in_ok-finished.ensures.grown
+
+pub returns-in_err-empty-clause-begun : goal.returns-in_err-empty-clause-begun
+returns-in_err-empty-clause-begun g c = in_err c.from_residual.result (no_tree (g.E.Entail.meaning c.args.entail.now) c.requires)
+
+pub returns-clause-shown : goal.returns-clause-shown
+returns-clause-shown g c =
+    let js = c.in_ok-justifications.justifications.items in
+    shown_same (lists c.grow.new.tree).justifications js
+    (λ s. subst (λ (xs : List Limited). Contains js s ↔ Contains xs s) c.deref.ensures.value (c.in_ok-justifications.ensures.members s))
+    (g.E.Entail.meaning c.args.entail.now) (g.E.Entail.meaning c.grow.new.entail) c.in_ok-finished.finished c.in_ok-finished.ensures.shown

@@ -1,10 +1,10 @@
 use Rattle.std.proofs.Common.{true, false}
-use Rattle.std.proofs.lemmas.Result.{on_ok_weaker}
 use Rattle.justification_shrink.proofs.Shrinking.{keeps_on}
-use Rattle.hitting_set_tree.specs.Tree.{lists}
+use Rattle.hitting_set_tree.specs.Tree.{lists, ListsShown}
 use Rattle.hitting_set_tree.specs.Open.{StaysOpen}
 use Rattle.hitting_set_tree.proofs.Opening.{few_on}
 use Rattle.hitting_set_tree.proofs.Finding.{closes_ended, grown_spent}
+use Rattle.hitting_set_tree.proofs.Showing.{all_shown_on}
 use Rattle.hitting_set_tree.proofs.tree.grow.Goals as goal
 
 pub returns-then-not-went_on-clause-closed : goal.returns-then-not-went_on-clause-closed
@@ -17,7 +17,7 @@ returns-then-not-went_on-clause-closed g c =
 pub returns-then-not-went_on-clause-grown : goal.returns-then-not-went_on-clause-grown
 returns-then-not-went_on-clause-grown g c =
     let step = c.in_ok-went_on.ensures.step in
-    grown_spent (g.E.Entail.meaning c.visit.new.entail) (lists c.visit.new.tree) step.listed (step.spent c.if-not-went_on.true) (step.lacks c.if-not-went_on.true)
+    grown_spent (g.E.Entail.meaning c.visit.new.entail) (lists c.visit.new.tree) step.listed (step.spent c.if-not-went_on.true) (step.lacks c.if-not-went_on.true) (step.left_open c.if-not-went_on.true)
 
 pub run-requires-clause-open : goal.run-requires-clause-open
 run-requires-clause-open g c =
@@ -37,4 +37,18 @@ returns-clause-asked g c =
     let m0 = g.E.Entail.meaning c.args.entail.now in
     let m = g.E.Entail.meaning c.visit.new.entail in
     let m' = g.E.Entail.meaning c.run.new.entail in
-    on_ok_weaker c.run.result (λ asked. few_on m0 m m' m0.size m.size c.visit.ensures.keeps.same_size c.in_ok-went_on.ensures.asked asked) c.run.ensures.asked
+    few_on m0 m m' m0.size m.size c.visit.ensures.keeps.same_size c.visit.ensures.asked c.run.ensures.asked
+
+pub returns-then-not-went_on-clause-shown : goal.returns-then-not-went_on-clause-shown
+returns-then-not-went_on-clause-shown g c =
+    let m = g.E.Entail.meaning c.args.entail.now in
+    let m' = g.E.Entail.meaning c.visit.new.entail in
+    let first : ListsShown m m' (lists c.visit.new.tree).justifications false = rw c.if-not-went_on.true at c.in_ok-went_on.ensures.shown in
+    first
+
+pub returns-clause-shown : goal.returns-clause-shown
+returns-clause-shown g c =
+    let m = g.E.Entail.meaning c.args.entail.now in
+    let m' = g.E.Entail.meaning c.visit.new.entail in
+    let first : ListsShown m m' (lists c.visit.new.tree).justifications true = rw c.if-not-went_on.false at c.in_ok-went_on.ensures.shown in
+    all_shown_on m m' (g.E.Entail.meaning c.run.new.entail) (lists c.visit.new.tree).justifications (lists c.run.new.tree).justifications first c.run.result c.run.ensures.grows c.run.ensures.shown

@@ -7,6 +7,7 @@ use Rattle.hitting_set_tree.specs.Tree.{Lists, lists, HoldsLists, IsStep}
 use Rattle.hitting_set_tree.specs.Open.{HasOpen, IsBeside}
 use Rattle.hitting_set_tree.proofs.Opening.{done_open, child_open, child_beside}
 use Rattle.hitting_set_tree.proofs.Stepping.{listed_with, step_done, step_child}
+use Rattle.hitting_set_tree.proofs.Begun.{in_err, tree_of}
 use Rattle.hitting_set_tree.proofs.tree.look_on.Goals as goal
 
 pub visit-requires-clause-listed : goal.visit-requires-clause-listed
@@ -65,3 +66,11 @@ returns-in-Done-clause-open g c =
     let state = c.requires.open in
     let fewer : c.min-tree.result ≡ min tree.rooted (length tree.frames.items) = c.min-tree.ensures ∙ ap (λ (n : ℕ). min tree.rooted n) (c.len.ensures ∙ tree.frames.ok.0) in
     subst (λ (r : ℕ). HasOpen m.taken (lists tree) r) (sym fewer) (state.0, done_open m.taken (lists tree) tree.rooted state.0 c.args.frame state.1)
+
+pub returns-in_err-next_child-clause-begun : goal.returns-in_err-next_child-clause-begun
+returns-in_err-next_child-clause-begun g c =
+    in_err c.from_residual.result (tree_of (g.E.Entail.meaning c.args.entail.now) (lists c.args.tree.now) c.requires.listed (c.requires.open.0, c.requires.open.1.tree))
+
+pub returns-in_err-push-in-Child-clause-begun : goal.returns-in_err-push-in-Child-clause-begun
+returns-in_err-push-in-Child-clause-begun g c =
+    in_err c.from_residual-in_err-push-in-Child.result (tree_of (g.E.Entail.meaning c.args.entail.now) (lists c.args.tree.now) c.requires.listed (c.requires.open.0, c.requires.open.1.tree))

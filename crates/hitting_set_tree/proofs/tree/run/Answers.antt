@@ -7,6 +7,7 @@ use Rattle.hitting_set_tree.specs.Open.{HasOpen, StaysOpen}
 use Rattle.hitting_set_tree.proofs.Opening.{few_on}
 use Rattle.hitting_set_tree.proofs.Stepping.{unlisted, last_frame, uncovered, weight_push}
 use Rattle.hitting_set_tree.proofs.Finding.{closes_ended, grown_spent}
+use Rattle.hitting_set_tree.proofs.Showing.{shown_on}
 use Rattle.hitting_set_tree.proofs.tree.run.Goals as goal
 
 pub look_on-requires-clause-frame : goal.look_on-requires-clause-frame
@@ -59,7 +60,9 @@ loop-frame-preserved g c =
       listed = step.listed;
       open' = open';
       covered = step.covered c.if-not-went_on.false (uncovered ls c.in-Some.frame covered);
-      asked = few_on m0 m m' m0.size m.size c.loop-frame.invariant.keeps.same_size c.loop-frame.invariant.asked c.in_ok-went_on.ensures.asked;
+      shown = shown_on m0 m m' tree.justifications.items (lists tree').justifications true step.grows c.loop-frame.invariant.shown (rw c.if-not-went_on.false at c.in_ok-went_on.ensures.shown);
+      grows = λ j at. step.grows j (c.loop-frame.invariant.grows j at);
+      asked = few_on m0 m m' m0.size m.size c.loop-frame.invariant.keeps.same_size c.loop-frame.invariant.asked c.look_on.ensures.asked;
       same = c.look_on.ensures.same ∙ c.loop-frame.invariant.same;
     }
 
@@ -81,11 +84,29 @@ returns-then-not-went_on-clause-closed g c =
 pub returns-then-not-went_on-clause-grown : goal.returns-then-not-went_on-clause-grown
 returns-then-not-went_on-clause-grown g c =
     let step = c.in_ok-went_on.ensures.step in
-    grown_spent (g.E.Entail.meaning c.look_on.new.entail) (lists c.look_on.new.tree) step.listed (step.spent c.if-not-went_on.true) (step.lacks c.if-not-went_on.true)
+    grown_spent (g.E.Entail.meaning c.look_on.new.entail) (lists c.look_on.new.tree) step.listed (step.spent c.if-not-went_on.true) (step.lacks c.if-not-went_on.true) (step.left_open c.if-not-went_on.true)
 
 pub returns-then-not-went_on-clause-asked : goal.returns-then-not-went_on-clause-asked
 returns-then-not-went_on-clause-asked g c =
     let m0 = g.E.Entail.meaning c.args.entail.now in
     let m = g.E.Entail.meaning c.loop-frame.entail in
     let m' = g.E.Entail.meaning c.look_on.new.entail in
-    few_on m0 m m' m0.size m.size c.loop-frame.invariant.keeps.same_size c.loop-frame.invariant.asked c.in_ok-went_on.ensures.asked
+    few_on m0 m m' m0.size m.size c.loop-frame.invariant.keeps.same_size c.loop-frame.invariant.asked c.look_on.ensures.asked
+
+pub returns-in_err-went_on-clause-asked : goal.returns-in_err-went_on-clause-asked
+returns-in_err-went_on-clause-asked g c =
+    let m0 = g.E.Entail.meaning c.args.entail.now in
+    let m = g.E.Entail.meaning c.loop-frame.entail in
+    let m' = g.E.Entail.meaning c.look_on.new.entail in
+    few_on m0 m m' m0.size m.size c.loop-frame.invariant.keeps.same_size c.loop-frame.invariant.asked c.look_on.ensures.asked
+
+pub returns-then-not-went_on-clause-shown : goal.returns-then-not-went_on-clause-shown
+returns-then-not-went_on-clause-shown g c =
+    let m0 = g.E.Entail.meaning c.args.entail.now in
+    let m = g.E.Entail.meaning c.loop-frame.entail in
+    let m' = g.E.Entail.meaning c.look_on.new.entail in
+    let step = c.in_ok-went_on.ensures.step in
+    shown_on m0 m m' c.loop-frame.tree.justifications.items (lists c.look_on.new.tree).justifications false step.grows c.loop-frame.invariant.shown (rw c.if-not-went_on.true at c.in_ok-went_on.ensures.shown)
+
+pub returns-then-not-went_on-clause-grows : goal.returns-then-not-went_on-clause-grows
+returns-then-not-went_on-clause-grows g c = λ j at. c.in_ok-went_on.ensures.step.grows j (c.loop-frame.invariant.grows j at)

@@ -1,7 +1,7 @@
-use Rattle.std.proofs.Common.{◌≡◌}
+use Rattle.std.proofs.Common.{◌≡◌, true}
 use Rattle.set_questions.specs.Meaning.{Keeps}
 use Rattle.hitting_set_tree.specs.Weight.{weight}
-use Rattle.hitting_set_tree.specs.Tree.{lists, HoldsLists, IsCovered}
+use Rattle.hitting_set_tree.specs.Tree.{lists, HoldsLists, IsCovered, ListsShown, KeepsAll}
 use Rattle.hitting_set_tree.specs.Open.{HasOpen, AsksFew}
 use Rattle.hitting_set_tree.proofs.tree.run.Given as goal
 
@@ -14,6 +14,8 @@ invariant-loop-frame g l =
       listed : HoldsLists m (lists l.tree);
       open' : HasOpen m.taken (lists l.tree) l.tree.rooted;
       covered : IsCovered (lists l.tree) (λ _. ⊥);
+      shown : ListsShown before m (lists l.tree).justifications true;
+      grows : KeepsAll (lists l.fn.tree).justifications (lists l.tree).justifications;
       asked : AsksFew before.size before m;
       same : g.E.Entail.origin l.entail ≡ g.E.Entail.origin l.fn.entail;
     }

@@ -6,6 +6,8 @@ use Rattle.hitting_set_tree.specs.declared.frames.Frame.{Frame}
 use Rattle.hitting_set_tree.specs.Tree.{lists}
 use Rattle.hitting_set_tree.proofs.Opening.{free, node_free}
 use Rattle.hitting_set_tree.proofs.Path.{nothing_left, path_open, path_beside, path_last, one_longer}
+use Rattle.hitting_set_tree.proofs.Begun.{in_err, nodes_still}
+use Rattle.hitting_set_tree.proofs.Showing.{same_on}
 use Rattle.hitting_set_tree.proofs.tree.take_path.Goals as goal
 
 pub take_node-requires-clause-limit : goal.take_node-requires-clause-limit
@@ -50,6 +52,7 @@ loop-place-preserved g c =
       open' = path_open m m' m0.size (lists tree) place frame old.open' c.requires.frames lt takes';
       beside = path_beside m m' m0.size (lists tree) place frame old.open' c.requires.frames lt takes' c.args.node.now old.beside;
       asks = c.take_node.ensures.asks ∙ old.asks;
+      shown = same_on m0 m m' old.shown c.take_node.ensures.shown;
       grown = omega (arith, old.grown, one_longer m m' frame.hit takes);
       same = c.take_node.ensures.same ∙ old.same;
     }
@@ -72,3 +75,15 @@ returns-clause-taken g c =
     let state = c.loop-place.invariant.open' in
     let all : c.loop-place.place ≡ length tree.frames.items = omega (arith, c.loop-place-test.false, state.1.rooted_within, c.len-place-end.ensures, tree.frames.ok.0) in
     path_last m m' m0.size (lists tree) c.loop-place.place c.args.node.now c.in_ok-taken-2.taken c.take_node-2.ensures.keeps state all c.loop-place.invariant.beside c.requires.node c.in_ok-taken-2.ensures.answer
+
+pub returns-in_err-taken-clause-begun : goal.returns-in_err-taken-clause-begun
+returns-in_err-taken-clause-begun g c =
+    let m = g.E.Entail.meaning c.loop-place.entail in
+    let m' = g.E.Entail.meaning c.take_node.new.self in
+    in_err c.from_residual.result (nodes_still m m' (lists c.args.tree.now) c.loop-place.place c.in_err-taken.ensures.refused c.loop-place.invariant.open')
+
+pub returns-in_err-taken-2-clause-begun : goal.returns-in_err-taken-2-clause-begun
+returns-in_err-taken-2-clause-begun g c =
+    let m = g.E.Entail.meaning c.loop-place.entail in
+    let m' = g.E.Entail.meaning c.take_node-2.new.self in
+    in_err c.from_residual-in_err-taken-2.result (nodes_still m m' (lists c.args.tree.now) c.loop-place.place c.in_err-taken-2.ensures.refused c.loop-place.invariant.open')

@@ -10,6 +10,8 @@ use Rattle.hitting_set_tree.specs.Tree.{Lists, IsStep}
 use Rattle.hitting_set_tree.specs.Open.{HasOpen}
 use Rattle.hitting_set_tree.proofs.Opening.{frame_open}
 use Rattle.hitting_set_tree.proofs.Stepping.{step_pruned, step_frame, all_limits, some_of, outstanding, if_nothing, if_not_some}
+use Rattle.hitting_set_tree.specs.Tree.{lists}
+use Rattle.hitting_set_tree.proofs.Begun.{in_err, open_tree}
 use Rattle.hitting_set_tree.proofs.tree.visit.Goals as goal
 
 pub place_of_part-requires : goal.place_of_part-requires
@@ -64,3 +66,9 @@ take_and_ask-requires-clause-outstanding g c =
     outstanding ls c.args.node c.deref.result.now c.deref-2.result.now c.deref.ensures.value c.deref-2.ensures.value
     (if_nothing c.place_apart.result (All (λ s. DoMeet s.members hit.members) c.deref.result.now) c.in_default.not-Some c.place_apart.ensures.none)
     (if_not_some c.place_of_part.result (All (λ s. ¬ IsPart s.members hit.members) c.deref-2.result.now) (sym c.is_some.ensures ∙ c.if-is_some.false) c.place_of_part.ensures.none)
+
+pub returns-in_err-frame-clause-begun : goal.returns-in_err-frame-clause-begun
+returns-in_err-frame-clause-begun g c = in_err c.from_residual.result (open_tree (g.E.Entail.meaning c.args.entail.now) (lists c.args.tree.now) c.args.tree.now.rooted c.requires.listed c.requires.open)
+
+pub returns-in_err-push-clause-begun : goal.returns-in_err-push-clause-begun
+returns-in_err-push-clause-begun g c = in_err c.from_residual-in_err-push.result (open_tree (g.E.Entail.meaning c.args.entail.now) (lists c.args.tree.now) c.args.tree.now.rooted c.requires.listed c.requires.open)

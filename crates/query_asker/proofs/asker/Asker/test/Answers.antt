@@ -1,12 +1,13 @@
 use Rattle.std.proofs.Common.{◌≡◌, ◌∙◌, ℕ, length, ap, sym, subst, arith}
 use Rattle.lane_sieve.specs.Sets.{IsPart}
 use Rattle.set_questions.specs.Meaning.{one_more}
-use Rattle.set_questions.specs.Asked.{Answers}
+use Rattle.set_questions.specs.Asked.{Answers, ShowsNoOther}
 use Rattle.run_log.specs.Entries.{spent_of, nodes_of, IsAnswered}
+use Rattle.run_log.specs.Shown.{IsShownYes}
 use Rattle.query_asker.specs.AskerLists.{AskerLists}
 use Rattle.query_asker.specs.Told.{asker_meaning, IsUnknown}
 use Rattle.query_asker.specs.Asking.{IsAsker, IsLater, lists_of}
-use Rattle.query_asker.proofs.Tested.{is_new, after_test, answered, unknown, later, same_nodes}
+use Rattle.query_asker.proofs.Tested.{is_new, after_test, answered, unknown, shows, later, same_nodes}
 use Rattle.query_asker.proofs.asker.Asker.test.Goals as goal
 
 pub test-requires-clause-is_new : goal.test-requires-clause-is_new
@@ -61,6 +62,24 @@ returns-clause-unknown c =
     let some : ¬ (spent_of o.log ≡ o.budget) = λ e. absurd (omega (arith, e, c.left.ensures.left, c.if-left-eq0.false)) in
     subst (λ (n : ℕ). IsUnknown (lists_of c.test.new.self i.query.now i.among i.first n) s c.reply_to.result) (sym c.saturating_add-counted.ensures)
     (unknown o i.query.now i.among i.first i.asks c.test.new.self s c.in_ok-outcome.outcome c.self.invariant.is_log some d.same_ontology d.same_budget ok.entry ok.spent d.within part new c.self.invariant.first_within c.reply_to.result c.reply_to.ensures)
+
+pub returns-then-left-eq0-clause-shown : goal.returns-then-left-eq0-clause-shown
+returns-then-left-eq0-clause-shown c = λ s h. subst (λ (a : AskerLists). IsShownYes a.gained a.query s) c.self.view_is h
+
+pub returns-clause-shown : goal.returns-clause-shown
+returns-clause-shown c =
+    let i = c.self.inside in
+    let o = i.oracle in
+    let s = c.args.part.now in
+    let a = lists_of o i.query.now i.among i.first i.asks in
+    let d = c.test.ensures in
+    let ok = c.in_ok-outcome.ensures in
+    let new : ¬ IsAnswered a.gained s i.query.now = subst (λ (b : AskerLists). ¬ IsAnswered b.gained s b.query) (sym c.self.view_is) c.requires.is_new in
+    let part : IsPart s.members a.local_part = subst (λ (b : AskerLists). IsPart s.members b.local_part) (sym c.self.view_is) c.requires.local_part in
+    let some : ¬ (spent_of o.log ≡ o.budget) = λ e. absurd (omega (arith, e, c.left.ensures.left, c.if-left-eq0.false)) in
+    subst (λ (n : ℕ). ShowsNoOther (asker_meaning c.args.self.now) (asker_meaning (lists_of c.test.new.self i.query.now i.among i.first n)) c.reply_to.result) (sym c.saturating_add-counted.ensures)
+    (subst (λ (b : AskerLists). ShowsNoOther (asker_meaning b) (asker_meaning (lists_of c.test.new.self i.query.now i.among i.first (one_more i.asks))) c.reply_to.result) c.self.view_is
+    (shows o i.query.now i.among i.first i.asks c.test.new.self s c.in_ok-outcome.outcome c.self.invariant.is_log some d.same_ontology d.same_budget ok.entry ok.spent d.within part new c.self.invariant.first_within c.reply_to.result c.reply_to.ensures))
 
 pub returns-clause-later : goal.returns-clause-later
 returns-clause-later c =

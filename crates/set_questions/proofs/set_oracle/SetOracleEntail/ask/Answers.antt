@@ -1,6 +1,7 @@
-use Rattle.std.proofs.Common.{◌≡◌, ◌-◌, ℕ, List, [], arith, refl, subst}
+use Rattle.std.proofs.Common.{◌≡◌, ◌-◌, ℕ, List, [], arith, refl, subst, inl}
+use Rattle.lane_sieve.specs.Sets.{NumberSet}
 use Rattle.axiom_sets.specs.Sets.{Limited}
-use Rattle.set_questions.specs.Asked.{Answers, Spends}
+use Rattle.set_questions.specs.Asked.{Answers, IsUnknownIf, ShowsNoOther, Spends}
 use Rattle.set_questions.specs.Meaning.{Meaning}
 use Rattle.set_questions.specs.declared.entail.Reply.{Reply}
 use Rattle.set_questions.specs.declared.entail.Reply.TheVariants.{Yes, No, Spent}
@@ -14,6 +15,16 @@ takes_one m m' sets asked (Yes part) some less h = (some, less)
 takes_one m m' sets asked No some less h = (some, less)
 takes_one m m' sets asked Spent some less h = absurd (some (h 0 m.left 0 []))
 
+nothing_remembered : (m : Meaning) (asked : Limited) (a : Reply) → ((s : NumberSet) → m.unknown s) → IsUnknownIf m asked a
+nothing_remembered m asked (Yes part) all = tt
+nothing_remembered m asked No all = tt
+nothing_remembered m asked Spent all = all asked.members
+
+nothing_shown : (m m' : Meaning) (a : Reply) → ((s : NumberSet) → m'.shown_yes s → m.shown_yes s) → ShowsNoOther m m' a
+nothing_shown m m' (Yes part) before = λ s shown. inl (before s shown)
+nothing_shown m m' No before = before
+nothing_shown m m' Spent before = before
+
 pub returns-clause-answer : goal.returns-clause-answer
 returns-clause-answer c =
     let o = c.args.self.now in
@@ -25,3 +36,13 @@ returns-clause-spends c =
     let o = c.args.self.now in
     takes_one (oracle_meaning o.count o.yes_sets.items o.left o.asks o.taken.items) (oracle_meaning o.count o.yes_sets.items (o.left - 1) c.saturating_add-self-2.result o.taken.items) c.deref.result.now c.args.set.now c.in_ok-found.found (omega (arith, c.if-self-eq0.false)) refl
     c.in_ok-found.ensures
+
+pub returns-clause-unknown : goal.returns-clause-unknown
+returns-clause-unknown c =
+    let o = c.args.self.now in
+    nothing_remembered (oracle_meaning o.count o.yes_sets.items (o.left - 1) c.saturating_add-self-2.result o.taken.items) c.args.set.now c.in_ok-found.found (λ s. tt)
+
+pub returns-clause-shown : goal.returns-clause-shown
+returns-clause-shown c =
+    let o = c.args.self.now in
+    nothing_shown (oracle_meaning o.count o.yes_sets.items o.left o.asks o.taken.items) (oracle_meaning o.count o.yes_sets.items (o.left - 1) c.saturating_add-self-2.result o.taken.items) c.in_ok-found.found (λ s shown. shown)
