@@ -1,7 +1,7 @@
 -- What a node of the search finds.
 use Rattle.std.proofs.Common.{◌≡◌, ℕ, zero, suc, ◌+◌, ◌-◌, ◌<◌, ◌≤◌, Option, Some, None, refl, ◌∷◌, [], true, false, List, length, get_or, ◌⊎◌, sym, ap, ◌∙◌, subst, arith, inl, inr}
 use Rattle.std.specs.Prelude.{◌↔◌, IfNone}
-use Rattle.std.specs.Option.{is_none}
+use Rattle.std.specs.Option.{is_some}
 use Rattle.std.specs.List.{Contains, All}
 use Rattle.std.specs.FinSet as set
 use Rattle.std.proofs.lemmas.Bool.{cases_Bool, true≢false, cases_eq, ne_eqb}
@@ -256,8 +256,8 @@ pub unmet_at : (sets : List Limited) (hit : Limited) (p : ℕ) (read : Limited) 
 unmet_at sets hit p read lt is apart = (lt, subst (λ (s : Limited). ¬ DoMeet s.members hit.members) (is ∙ get_or_default sets p read hit lt) apart)
 
 -- where there is a place, nothing is asked of those before
-pub some_kept : (n : Option ℕ) (P : Type 0) → is_none n ≡ false → IfNone n P
-some_kept None P h = absurd (true≢false h)
+pub some_kept : (n : Option ℕ) (P : Type 0) → is_some n ≡ true → IfNone n P
+some_kept None P h = absurd (true≢false (sym h))
 some_kept (Some n) P h = tt
 
 -- ---- how deep the search can go

@@ -64,7 +64,8 @@ pub(crate) fn put_transversals(
     ensures stopped { IfOk result (λ within. within ≡ false → most < length found.new.items) }
 {
     let candidates = candidates_at(alloc, sets, hit, barred)?;
-    let Some(next) = narrowest(sets, hit, &candidates)? else {
+    let place = narrowest(sets, hit, &candidates)?;
+    let Some(next) = place else {
         return put_found(sets, hit, barred, most, found);
     };
     let fitting = choices(sets, &sets[next], hit, barred, &candidates)?;
