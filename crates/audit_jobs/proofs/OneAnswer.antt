@@ -54,12 +54,12 @@ module _ (query bytes : List ℕ) where
       (p.both_are ∙ (λ i. with_names (same.0 i) (asked.0 i)) ∙ sym q.both_are, asked.1, p.rest_is ∙ ap (λ n. drop n bytes) same.2 ∙ sym q.rest_is)
 
   no_query : (b : Listed) (x : Asked) (r : List ℕ) (e : Refusal) → IsAskedOn query bytes b x r → IsNoQueryOn query bytes e → ⊥
-  no_query b x r e p no =
-      let there = moved p.document no.document p.kept no.kept p.end no.end p.is_document no.is_document (λ o k. IsAsked o k query p.counts x) p.is_query in
-      queries_not_refused no.kept.prefixes no.document.axioms (query_start no.document no.kept.nodes) query p.counts x e there no.not_asked
+  no_query b x r e p refused =
+      let there = moved p.document refused.document p.kept refused.kept p.end refused.end p.is_document refused.is_document (λ o k. IsAsked o k query p.counts x) p.is_query in
+      queries_not_refused refused.kept.prefixes refused.document.axioms (query_start refused.document refused.kept.nodes) query p.counts x e there refused.not_asked
 
   no_document : (b : Listed) (x : Asked) (r : List ℕ) (e : Refusal) → IsAskedOn query bytes b x r → IsNoDocument bytes e → ⊥
-  no_document b x r e p no = documents_not_refused bytes p.document p.kept p.end e p.is_document no
+  no_document b x r e p refused = documents_not_refused bytes p.document p.kept p.end e p.is_document refused
 
   one_refusal : (e f : Refusal) → IsNoQueryOn query bytes e → IsNoQueryOn query bytes f → e ≡ f
   one_refusal e f p q =
