@@ -1,7 +1,6 @@
 -- The document and the query of a run.
-use Rattle.std.proofs.Common.{◌≡◌, ◌≢◌, ◌⊎◌, ℕ, ◌≤◌, Bool, true, false, List, [], refl, ap, sym, ◌∙◌, inl, inr}
+use Rattle.std.proofs.Common.{◌≡◌, ◌⊎◌, ℕ, ◌≤◌, Bool, true, false, List, [], refl, ap, sym, ◌∙◌, inl, inr}
 use Rattle.shq_terms.specs.Listed.{Listed}
-use Rattle.shq_terms.specs.declared.axioms.Query.{Query as Asked}
 use Rattle.ofn_reader.specs.DocumentContext.{DocumentContext}
 use Rattle.job_inputs.specs.declared.unread.Unread.{Unread}
 use Rattle.job_inputs.specs.declared.unread.Unread.TheVariants as U
@@ -25,7 +24,8 @@ use Rattle.pinpointing_jobs.specs.Asked.{IsInput, IsNoInput}
 use Rattle.pinpointing_jobs.specs.declared.wanted.Wanted.{Wanted}
 use Rattle.pinpointing_jobs.specs.Memory.{UnlessNoMemory}
 use Rattle.pinpointing_jobs.specs.Answers.{IsPinpointed, AnswersPinpointing, workload_query}
-use Rattle.pinpointing_jobs.specs.Begun.{IsFront, HasSearched}
+use Rattle.run_log.specs.HonestLog.{IsPinpointingLog}
+use Rattle.pinpointing_jobs.specs.Begun.{HasSearched}
 use Rattle.pinpointing_jobs.specs.Laws.{WorkloadsAreQuestions}
 
 pub is_input : (inclusion bytes : List ℕ) (o : Listed) (kept : DocumentContext) (input : Input) → IsDocumentAlone bytes o kept → IsReadQuestion o kept (follows inclusion) input.ontology input.query → IsInput inclusion bytes input
@@ -48,11 +48,11 @@ no_query inclusion bytes o kept U.NoMemory d why = tt
 
 -- ---- what was asked of an input
 
-pub begun : (inclusion bytes : List ℕ) (budget : ℕ) (input : Input) (log : List Entry) → IsInput inclusion bytes input → HasSearched input.ontology input.query budget log → HasBegun (follows inclusion) bytes log (λ o q. IsFront o q budget log)
+pub begun : (inclusion bytes : List ℕ) (budget : ℕ) (input : Input) (log : List Entry) → IsInput inclusion bytes input → HasSearched input.ontology input.query budget log → HasBegun (follows inclusion) bytes log (λ o q. IsPinpointingLog o q budget log)
 begun inclusion bytes budget input log read (inl none) = nothing none
 begun inclusion bytes budget input log read (inr front) = asked input.ontology input.query read.is_question front
 
-pub no_input : (inclusion bytes : List ℕ) (budget : ℕ) (log : List Entry) (u : Unread) → log ≡ [] → IsNoInput inclusion bytes u → IsUnanswered (follows inclusion) bytes log (λ o q. IsFront o q budget log) u
+pub no_input : (inclusion bytes : List ℕ) (budget : ℕ) (log : List Entry) (u : Unread) → log ≡ [] → IsNoInput inclusion bytes u → IsUnanswered (follows inclusion) bytes log (λ o q. IsPinpointingLog o q budget log) u
 no_input inclusion bytes budget log (U.Document e) none why = (why, none)
 no_input inclusion bytes budget log (U.Query e) none why = (why, none)
 no_input inclusion bytes budget log (U.Line n) none why = absurd why
@@ -97,16 +97,16 @@ out_of_memory out s log_is fact gives so = by s gives
     by Undecided gives = absurd (other Undecided refl gives)
 
 -- the reply to a question that is not answered
-pub unread_answers : (w : Wanted) (inclusion : List ℕ) (budget : ℕ) (bytes out : List ℕ) (s : Status) (log : List Entry) (u : Unread) → IsUnanswered (follows inclusion) bytes log (λ o q. IsFront o q budget log) u → Gives (unread_answer u) out s
+pub unread_answers : (w : Wanted) (inclusion : List ℕ) (budget : ℕ) (bytes out : List ℕ) (s : Status) (log : List Entry) (u : Unread) → IsUnanswered (follows inclusion) bytes log (λ o q. IsPinpointingLog o q budget log) u → Gives (unread_answer u) out s
     → AnswersPinpointing w inclusion budget bytes out s log
 unread_answers w inclusion budget bytes out s log (U.Document e) why gives =
-    unless_refused (unread_answer (U.Document e)) out s (HasBegun (follows inclusion) bytes log (λ o q. IsFront o q budget log)) (IsRefused (follows inclusion) bytes out s log ⊎ IsPinpointed w inclusion budget bytes out s log) gives (nothing why.1)
+    unless_refused (unread_answer (U.Document e)) out s (HasBegun (follows inclusion) bytes log (λ o q. IsPinpointingLog o q budget log)) (IsRefused (follows inclusion) bytes out s log ⊎ IsPinpointed w inclusion budget bytes out s log) gives (nothing why.1)
     (λ is. inl (record { reply = refused_document e; refused = why.0; answer = is; unlogged = why.1 }))
 unread_answers w inclusion budget bytes out s log (U.Query e) why gives =
-    unless_refused (unread_answer (U.Query e)) out s (HasBegun (follows inclusion) bytes log (λ o q. IsFront o q budget log)) (IsRefused (follows inclusion) bytes out s log ⊎ IsPinpointed w inclusion budget bytes out s log) gives (nothing why.1)
+    unless_refused (unread_answer (U.Query e)) out s (HasBegun (follows inclusion) bytes log (λ o q. IsPinpointingLog o q budget log)) (IsRefused (follows inclusion) bytes out s log ⊎ IsPinpointed w inclusion budget bytes out s log) gives (nothing why.1)
     (λ is. inl (record { reply = refused_query e; refused = why.0; answer = is; unlogged = why.1 }))
 unread_answers w inclusion budget bytes out s log (U.Line n) why gives = absurd why
-unread_answers w inclusion budget bytes out s log U.NoMemory why gives = out_of_memory out s (HasBegun (follows inclusion) bytes log (λ o q. IsFront o q budget log)) (IsRefused (follows inclusion) bytes out s log ⊎ IsPinpointed w inclusion budget bytes out s log) gives why
+unread_answers w inclusion budget bytes out s log U.NoMemory why gives = out_of_memory out s (HasBegun (follows inclusion) bytes log (λ o q. IsPinpointingLog o q budget log)) (IsRefused (follows inclusion) bytes out s log ⊎ IsPinpointed w inclusion budget bytes out s log) gives why
 
 -- ---- the document of a workload
 

@@ -1,8 +1,10 @@
 pub mod Searched
 pub mod Asked
 pub mod WorkloadSets
+pub mod EightAndThree
 pub mod Lengths
 pub mod Unique
+pub mod Whole
 pub mod Repairs
 pub mod Listed
 mod Union

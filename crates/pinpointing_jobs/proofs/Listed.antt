@@ -22,9 +22,9 @@ use Rattle.pinpointing_jobs.specs.Wanted.{IsRepairSet, HasAll, ShowsAll, HasSome
 use Rattle.pinpointing_jobs.specs.Listings.{listing_text, end_status, IsListing, IsListAnswer}
 use Rattle.pinpointing_jobs.specs.Counts.{IsCount, IsCounted}
 use Rattle.pinpointing_jobs.specs.Begun.{HasSearched}
+use Rattle.pinpointing_jobs.specs.Known.{AreKnown}
 use Rattle.pinpointing_jobs.specs.Searched.{IsSearched}
 use Rattle.pinpointing_jobs.specs.Written.{AreOfAxioms, AreFoundRepairs, AreFound, IsWritten, IsCountOf, IsToldCount}
-use Rattle.pinpointing_jobs.proofs.Searched.{front_of}
 use Rattle.pinpointing_jobs.proofs.Repairs.{from_justification, from_repair, alone_is_repair, has_repairs, holds}
 
 pub found_limits : (o : Listed) (f : Found) (sets : List Limited) → AreOfAxioms o f → AreFoundRepairs f sets → All (λ (s : Limited). s.limit ≡ length o.axioms) sets
@@ -90,8 +90,11 @@ module _ (o : Listed) (q : Asked) (budget : ℕ) (log : List Entry) (f : Found) 
 
   -- ---- one that spent the budget
 
-  some_justifications : HasSome Justifications o q log f.justifications.items
-  some_justifications = record { order = s.order; some = s.justifications; known = s.nodes }
+  are_known : f.finished ≡ false → AreKnown o q log f.justifications.items
+  are_known unfinished = record { tree = s.nodes; shown = s.all_shown; left_open = s.left_open unfinished }
+
+  some_justifications : f.finished ≡ false → HasSome Justifications o q log f.justifications.items
+  some_justifications unfinished = record { order = s.order; some = s.justifications; known = are_known unfinished }
 
   some_repairs : f.finished ≡ false → (sets : List Limited) → AreFoundRepairs f sets → HasSome Repairs o q log sets
   some_repairs unfinished sets found =
@@ -103,7 +106,7 @@ module _ (o : Listed) (q : Asked) (budget : ℕ) (log : List Entry) (f : Found) 
         known = record {
           labels = f.justifications.items;
           justifications = s.justifications;
-          tree = s.nodes;
+          known = are_known unfinished;
           repairs = has_repairs o q f.justifications.items s.justifications f.leaves.items nodes sets settled found.repairs;
         };
       }
@@ -112,7 +115,7 @@ module _ (o : Listed) (q : Asked) (budget : ℕ) (log : List Entry) (f : Found) 
 
   listing : (w : Wanted) (sets : List Limited) → AreFound w f sets → (b : Bool) → f.finished ≡ b → IsListing w o q budget log sets b
   listing Justifications sets e true finished = (subst (HasAll Justifications o q) (sym e) (all_justifications finished), shows_all finished)
-  listing Justifications sets e false unfinished = (subst (HasSome Justifications o q log) (sym e) some_justifications, s.spent unfinished)
+  listing Justifications sets e false unfinished = (subst (HasSome Justifications o q log) (sym e) (some_justifications unfinished), s.spent unfinished)
   listing Repairs sets found true finished = (all_repairs finished sets found, shows_all finished)
   listing Repairs sets found false unfinished = (some_repairs unfinished sets found, s.spent unfinished)
 
@@ -135,7 +138,7 @@ module _ (o : Listed) (q : Asked) (budget : ℕ) (log : List Entry) (f : Found) 
     all_repairs = all_repairs finished x.repairs x.are_found;
     shows = shows_all finished;
   }
-  count_is number out false unfinished x = record { text = x; spent = s.spent unfinished }
+  count_is number out false unfinished x = record { text = x; spent = s.spent unfinished; justifications = f.justifications.items; are_some = s.justifications; known = are_known unfinished }
 
   pub is_counted : (number : ℕ) (st : Status) (out : List ℕ) → IsToldCount number o f st out → IsCounted number o q budget log st out
   is_counted number st out x = record { finished = f.finished; status = x.status; honest = s.honest; count = count_is number out f.finished refl x.count }
@@ -152,4 +155,4 @@ module _ (o : Listed) (q : Asked) (budget : ℕ) (log : List Entry) (f : Found) 
 
   pub all_fronts : {T : Type 0} (r : Result T NoMemory) → OnErr r (HasSearched o q budget log)
   all_fronts (Ok a) = tt
-  all_fronts (Err e) = inr (front_of o q budget log s.honest)
+  all_fronts (Err e) = inr s.honest

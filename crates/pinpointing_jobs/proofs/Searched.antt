@@ -1,18 +1,24 @@
 -- From what an asker answered to what a search found.
-use Rattle.std.proofs.Common.{◌≡◌, ℕ, ◌+◌, ◌-◌, ◌*◌, ◌^◌, ◌<◌, ◌≤◌, true, List, [], ◌∷◌, ◌++◌, length, get_or, Result, Ok, Err, refl, ap, sym, ◌∙◌, subst, arith, inl, inr}
-use Rattle.std.specs.Prelude.{IfOk, OnOk, OnErr}
+use Rattle.std.proofs.Common.{◌≡◌, ◌⊎◌, ℕ, zero, suc, ◌+◌, ◌-◌, ◌*◌, ◌^◌, ◌<◌, ◌≤◌, Bool, true, false, List, [], ◌∷◌, ◌++◌, length, get_or, Result, Ok, Err, refl, ap, sym, ◌∙◌, subst, arith, inl, inr}
+use Rattle.std.specs.Prelude.{IfOk, OnErr}
 use Rattle.std.specs.List.{Contains}
 use Rattle.std.proofs.Math.Nat.{mul-le-mul_right}
 use Rattle.std.proofs.lemmas.List.Sums.{sum_by-cons}
-use Rattle.std.proofs.lemmas.List.Elements.{Contains-get_or}
+use Rattle.std.proofs.lemmas.Bool.{and_parts, cases_Bool, true≢false}
+use Rattle.std.proofs.lemmas.List.Elements.{All-contains, Contains-get_or}
+use Rattle.std.specs.Cmp.{nat_cmp_total}
 use Rattle.std.specs.FinSet as set
-use Rattle.lane_sieve.specs.Sets.{NumberSet}
+use Rattle.lane_sieve.specs.Sets.{NumberSet, IsPart}
 use Rattle.axiom_sets.specs.Sets.{Limited}
-use Rattle.pinpointing_specs.proofs.Choices.{to_rest}
+use Rattle.axiom_sets.proofs.Same.{set_of_parts, same_limited}
+use Rattle.pinpointing_specs.specs.Smallest.{rest, IsMinimalYes}
+use Rattle.pinpointing_specs.specs.Nodes.{AreNodes, IsSettled}
+use Rattle.pinpointing_specs.proofs.Choices.{to_rest, in_rest, to_without}
 use Rattle.pinpointing_specs.proofs.Explored.{removal_is_leaf}
 use Rattle.shq_terms.specs.NoMemory.{NoMemory}
 use Rattle.hitting_set_tree.specs.declared.tree.Found.{Found}
-use Rattle.repair_list.specs.Found.{IsFound}
+use Rattle.hitting_set_tree.specs.Tree.{HasFoundIn}
+use Rattle.repair_list.specs.Found.{IsFound, ListsAllShown, HasTree}
 use Rattle.repair_list.specs.Open.{AsksFew}
 use Rattle.shq_terms.specs.Listed.{Listed}
 use Rattle.shq_terms.specs.declared.axioms.Query.{Query as Asked}
@@ -20,13 +26,16 @@ use Rattle.pinpointing_specs.specs.LocalModule.{IsLocalModule, FollowsFrom, of_a
 use Rattle.pinpointing_specs.proofs.Kept.{keeps, grows, intersection_part}
 use Rattle.run_log.specs.declared.entry.Entry.{Entry}
 use Rattle.run_log.specs.declared.entry.Entry.TheVariants.{Test, Node}
-use Rattle.run_log.specs.Entries.{cost_of, spent_of, nodes_of}
-use Rattle.run_log.specs.HonestLog.{IsJustificationSet, EndsWhenSpent, AsksFewPerNode, IsHonestWithin, IsPinpointingLog}
+use Rattle.run_log.specs.declared.entry.TestEnd.TheVariants as E
+use Rattle.run_log.specs.Entries.{cost_of, spent_of, nodes_of, IsAnswered}
+use Rattle.run_log.specs.HonestLog.{IsAxiomSet, IsHonestEntry, EachIsHonest, IsJustificationSet, EndsWhenSpent, AsksFewPerNode, IsHonestWithin, IsPinpointingLog}
 use Rattle.run_log.specs.Shown.{IsShownYes, IsShownNo}
 use Rattle.query_asker.specs.OracleLists.{OracleLists}
 use Rattle.query_asker.specs.AskerLists.{AskerLists, AskerOrigin, origin_of}
-use Rattle.query_asker.specs.Told.{KeepsAnswers, asker_meaning, IsAskerLog}
-use Rattle.pinpointing_jobs.specs.Begun.{IsFront, HasSearched}
+use Rattle.query_asker.specs.Told.{KeepsAnswers, IsShownNoIn, IsLeftOut, asker_meaning, IsAskerLog}
+use Rattle.query_asker.proofs.Answering.{yes_by_log, no_by_log}
+use Rattle.pinpointing_jobs.specs.Begun.{HasSearched}
+use Rattle.pinpointing_jobs.specs.Known.{IsShownJustification, HasAllShown, LeavesSomeOpen}
 use Rattle.pinpointing_jobs.specs.Searched.{IsLeaf, IsSearched}
 use Rattle.pinpointing_jobs.proofs.Repairs.{to_justification}
 
@@ -57,16 +66,131 @@ module _ (a : AskerLists) (is_log : IsAskerLog a) (none : a.before ≡ []) where
   budget_kept : IsHonestWithin a.ontology a.budget a.gained
   budget_kept = record { within = within; honest = is_log.honest; ends = subst (EndsWhenSpent a.budget) whole is_log.ends }
 
-  front : IsLocalModule a.ontology.axioms a.query a.local_part → IsFront a.ontology a.query a.budget a.gained
-  front is_module = record { budget_kept = budget_kept; tests = is_log.tests; new = is_log.new; in_module = record { local_part = a.local_part; is_module = is_module; within = is_log.in_module } }
+-- ---- what the log shows
 
--- an honest log is a front of one
-pub front_of : (o : Listed) (q : Asked) (budget : ℕ) (log : List Entry) → IsPinpointingLog o q budget log → IsFront o q budget log
-front_of o q budget log h = record { budget_kept = h.budget_kept; tests = h.tests; new = h.new; in_module = h.in_module }
+-- each node is an entry
+node_entry : (log : List Entry) (k : ℕ) (d : Limited) → k < length (nodes_of log) → Contains log (Node (get_or (nodes_of log) k d))
+node_entry [] k d lt = absurd (omega (arith, lt))
+node_entry (Test s q steps e ∷ log) k d lt = let at = node_entry log k d lt in (suc at.0, omega (arith, at.1), at.2)
+node_entry (Node s ∷ log) zero d lt = (0, omega arith, refl)
+node_entry (Node s ∷ log) (suc k) d lt = let at = node_entry log k d (omega (arith, lt)) in (suc at.0, omega (arith, at.1), at.2)
+
+node_set : (o : Listed) (log : List Entry) (node : Limited) → EachIsHonest o log → Contains (nodes_of log) node → IsAxiomSet o node
+node_set o log node honest at =
+    let entry : Contains log (Node node) = subst (λ (n : Limited). Contains log (Node n)) at.2 (node_entry log at.0 node at.1) in
+    All-contains (IsHonestEntry o) log (Node node) honest entry
+
+in_both : (s m : NumberSet) (k : ℕ) → set.contains (set.intersection s m) k ≡ true → (set.contains s k ≡ true) × (set.contains m k ≡ true)
+in_both s m k h = and_parts (set.contains s k) (set.contains m k) (sym (set.contains-intersection nat_cmp_total s m k) ∙ h)
+
+-- a part of a smallest set of which a claim holds is that set, if it holds of the part
+pub whole_part : (holds : NumberSet → Type 0) (s : Limited) (l : NumberSet) → ((t u : NumberSet) → IsPart t u → holds t → holds u) → IsMinimalYes holds s → holds l → IsPart l s.members → l ≡ s.members
+whole_part holds s l grow smallest claim part =
+    set_of_parts l s.members part
+    (λ k in_s. elim (cases_Bool (set.contains l k)) [
+      | inl there ↦ there
+      | inr out ↦ absurd (smallest.needed k in_s (grow l (set.remove s.members k) (λ i in_l. to_without s.members k i (λ e. true≢false (sym in_l ∙ ap (set.contains l) e ∙ out)) (part i in_l)) claim))
+    ])
+
+module _ (a : AskerLists) (is_log : IsAskerLog a) (is_module : IsLocalModule a.ontology.axioms a.query a.local_part) where
+  abbrev follows : NumberSet → Type 0
+  follows = FollowsFrom a.ontology.axioms a.query
+
+  module _ (m : NumberSet) (is : IsLocalModule a.ontology.axioms a.query m) (s : NumberSet) (x : IsShownNoIn a.gained a.query m s) where
+    has_common : IsPart (set.intersection s a.local_part) x.tested.members
+    has_common k h = let both = in_both s a.local_part k h in x.has_part k both.0 (is_module.least m is.closed k both.1)
+
+    answered : IsAnswered a.gained (record { limit = length a.ontology.axioms; members = set.intersection s a.local_part }) a.query
+    answered = (Test x.tested a.query x.steps E.No, x.is_no, (refl, has_common))
+
+    follows_not : ¬ follows s
+    follows_not f =
+        let common : Limited = record { limit = length a.ontology.axioms; members = set.intersection s a.local_part } in
+        (no_by_log a is_log common x.tested a.query x.steps x.is_no has_common).0 (keeps a.ontology.axioms a.query a.local_part is_module s f)
+
+  of_rest : (m : NumberSet) (node : Limited) → IsShownNo a.gained a.query m node.members → IsShownNoIn a.gained a.query m (rest node)
+  of_rest m node x = record { tested = x.tested; steps = x.steps; is_no = x.is_no; has_part = λ k outside in_m. x.has_rest k in_m (in_rest node k outside) }
+
+  module _ (f : Found) (found : IsFound (asker_meaning a) f) where
+    abbrev listed_sets : List Limited
+    listed_sets = f.justifications.items
+
+    -- ---- a search that is not finished
+
+    -- what a node is
+    abbrev IsTold : Limited → Type 0
+    IsTold node = IsSettled listed_sets f.leaves.items node ⊎ (follows (rest node) ⊎ IsLeftOut a (rest node))
+
+    beside : (node j : Limited) → node.limit ≡ length a.ontology.axioms → Contains listed_sets j → ((k : ℕ) → set.contains j.members k ≡ true → set.contains node.members k ≡ false) → follows (rest node)
+    beside node j limit at apart =
+        let smallest = found.smallest j at in
+        grows a.ontology.axioms a.query j.members (rest node)
+        (λ k in_j. let inside = smallest.within k in_j in to_rest node k inside.0 (omega (arith, inside.1, limit, found.just_limits j at)) (apart k in_j)) smallest.yes_set
+
+    not_shown : (t : NumberSet) → ((l : Limited) → Contains f.leaves.items l → ¬ IsPart l.members t) → (m : NumberSet) (node : Limited) → IsLocalModule a.ontology.axioms a.query m → node.limit ≡ length a.ontology.axioms → IsPart node.members t
+        → IsTold node → ¬ IsShownNo a.gained a.query m node.members
+    not_shown t outside m node is limit part told x =
+        let shown = of_rest m node x in
+        let never = follows_not m is (rest node) shown in
+        elim told [
+          | inl settled ↦ elim settled [ inl leaf ↦ outside node leaf part | inr apart ↦ never (beside node apart.0 limit apart.1 apart.2) ]
+          | inr left ↦ elim left [ inl claim ↦ never claim | inr unknown ↦ unknown (answered m is (rest node) shown) ]
+        ]
+
+    pub leaves_open : f.finished ≡ false → LeavesSomeOpen a.ontology a.query a.gained listed_sets
+    leaves_open unfinished =
+        let lacks = found.lacks unfinished in
+        record {
+          left = lacks.0;
+          meets = lacks.1;
+          no_leaf = λ m node is at part.
+              let told = found.left_open unfinished at.0 node at.1 in
+              not_shown lacks.0 (λ l leaf inside. lacks.2 (l, leaf, inside)) m node is (node_set a.ontology a.gained node is_log.honest at).limit_is part (subst IsTold at.2 told);
+        }
+
+    -- ---- what was found
+
+    module _ (m j : NumberSet) (is : IsLocalModule a.ontology.axioms a.query m) (x : IsShownJustification a.gained a.query m j) where
+      abbrev whole_j : Limited
+      whole_j = of_axioms a.ontology.axioms j
+
+      named : IsAxiomSet a.ontology x.follows.enough
+      named = (All-contains (IsHonestEntry a.ontology) a.gained (Test x.follows.tested a.query x.follows.steps (E.Yes x.follows.enough)) is_log.honest x.follows.is_yes).1.of_axioms
+
+      j_follows : follows j
+      j_follows = subst follows x.follows.is_set (yes_by_log a is_log x.follows.enough x.follows.tested a.query x.follows.steps x.follows.enough x.follows.is_yes named.limit_is (λ k h. h)).2
+
+      j_smallest : IsMinimalYes follows whole_j
+      j_smallest = record {
+        within = λ k in_j. let inside = named.within k (subst (λ (s : NumberSet). set.contains s k ≡ true) (sym x.follows.is_set) in_j) in (inside.0, omega (arith, inside.1, named.limit_is));
+        yes_set = j_follows;
+        needed = λ k in_j. follows_not m is (set.remove j k) (x.needed k in_j);
+      }
+
+      by_part : (l : Limited) → Contains listed_sets l → IsPart l.members j → Contains listed_sets whole_j
+      by_part l at part =
+          let members = whole_part follows whole_j l.members (grows a.ontology.axioms a.query) j_smallest (found.smallest l at).yes_set part in
+          subst (Contains listed_sets) (same_limited l whole_j (found.just_limits l at) members) at
+
+      not_cut : (kept : Limited) (n : ℕ) → IsPart kept.members j → follows kept.members → set.contains kept.members n ≡ true → IsLeftOut a (set.remove kept.members n) → ⊥
+      not_cut kept n part claim member unknown =
+          let members = whole_part follows whole_j kept.members (grows a.ontology.axioms a.query) j_smallest claim part in
+          subst (λ (s : NumberSet). IsLeftOut a (set.remove s n)) members unknown (answered m is (set.remove j n) (x.needed n (part n member)))
+
+      by_found : (b : Bool) → HasFoundIn (asker_meaning a) listed_sets j b → Contains listed_sets whole_j
+      by_found true part = by_part part.0 part.1 part.2
+      by_found false either = elim either [ inl part ↦ by_part part.0 part.1 part.2 | inr cut ↦ absurd (not_cut cut.0 cut.2.number cut.1 cut.2.still cut.2.member cut.2.unknown) ]
+
+    pub all_shown : (b : AskerLists) → b.gained ≡ [] → ListsAllShown (asker_meaning b) (asker_meaning a) f → HasAllShown a.ontology a.query a.gained listed_sets
+    all_shown b none lists m j is x =
+        elim (lists j x.follows) [
+          | inl before ↦ let at = subst (λ (l : List Entry). Contains l (Test before.tested b.query before.steps (E.Yes before.enough))) none before.is_yes in absurd (omega (arith, at.1))
+          | inr found' ↦ by_found m j is x f.finished found'
+        ]
 
 -- ---- the log and the lists
 
-module _ (a : AskerLists) (f : Found) (is_log : IsAskerLog a) (found : IsFound (asker_meaning a) f) (none : a.before ≡ []) (is_module : IsLocalModule a.ontology.axioms a.query a.local_part)
+module _ (a : AskerLists) (is_log : IsAskerLog a) (none : a.before ≡ []) (is_module : IsLocalModule a.ontology.axioms a.query a.local_part)
     (asked : a.asks ≤ (length a.ontology.axioms + 1) * length (nodes_of a.gained)) (small : length a.ontology.axioms ≤ 20000) (budget_small : a.budget < 2 ^ 32) where
   few : AsksFewPerNode a.ontology a.gained
   few =
@@ -76,18 +200,29 @@ module _ (a : AskerLists) (f : Found) (is_log : IsAskerLog a) (found : IsFound (
         | inr full ↦ absurd (omega (arith, full, few_asks (length a.ontology.axioms) (length (nodes_of a.gained)) a.asks small nodes_few asked))
       ]
 
+  pub honest_by : (labels : List Limited) → ((j : Limited) → Contains labels j → j.limit ≡ length a.ontology.axioms) → ((j : Limited) → Contains labels j → IsMinimalYes (FollowsFrom a.ontology.axioms a.query) j)
+      → AreNodes labels (nodes_of a.gained) → IsPinpointingLog a.ontology a.query a.budget a.gained
+  honest_by labels limits smallest nodes = record {
+    budget_kept = budget_kept a is_log none;
+    tests = is_log.tests;
+    new = is_log.new;
+    nodes = record {
+      labels = labels;
+      justifications = λ k d lt. let at = Contains-get_or labels k d lt in to_justification a.ontology a.query (get_or labels k d) (limits (get_or labels k d) at) (smallest (get_or labels k d) at);
+      nodes = nodes;
+    };
+    few = few;
+    in_module = record { local_part = a.local_part; is_module = is_module; within = is_log.in_module };
+  }
+
+module _ (a : AskerLists) (f : Found) (is_log : IsAskerLog a) (found : IsFound (asker_meaning a) f) (none : a.before ≡ []) (is_module : IsLocalModule a.ontology.axioms a.query a.local_part)
+    (asked : a.asks ≤ (length a.ontology.axioms + 1) * length (nodes_of a.gained)) (small : length a.ontology.axioms ≤ 20000) (budget_small : a.budget < 2 ^ 32)
+    (begun : AskerLists) (fresh_log : begun.gained ≡ []) (lists : ListsAllShown (asker_meaning begun) (asker_meaning a) f) where
   just : (j : Limited) → Contains f.justifications.items j → IsJustificationSet a.ontology a.query j
   just j listed = to_justification a.ontology a.query j (found.just_limits j listed) (found.smallest j listed)
 
   honest : IsPinpointingLog a.ontology a.query a.budget a.gained
-  honest = record {
-    budget_kept = budget_kept a is_log none;
-    tests = is_log.tests;
-    new = is_log.new;
-    nodes = record { labels = f.justifications.items; justifications = λ k d lt. just (get_or f.justifications.items k d) (Contains-get_or f.justifications.items k d lt); nodes = found.nodes };
-    few = few;
-    in_module = record { local_part = a.local_part; is_module = is_module; within = is_log.in_module };
-  }
+  honest = honest_by a is_log none is_module asked small budget_small f.justifications.items found.just_limits found.smallest found.nodes
 
   leaf : (l : Limited) → Contains f.leaves.items l → IsLeaf a.ontology a.query l
   leaf l listed = record { limit_is = found.leaf_limits l listed; within = (found.ends l listed).0; ends = (found.ends l listed).1 }
@@ -121,6 +256,8 @@ module _ (a : AskerLists) (f : Found) (is_log : IsAskerLog a) (found : IsFound (
     nodes = found.nodes;
     leaf_taken = found.leaf_taken;
     settled = found.settled;
+    all_shown = all_shown a is_log is_module f found begun fresh_log lists;
+    left_open = leaves_open a is_log is_module f found;
     explored = found.explored;
     shown = λ finished. record { justifications = yes_shown finished; repairs = no_shown finished };
     spent = λ unfinished. omega (arith, found.spent unfinished, is_log.within, ap spent_of (whole a is_log none));
@@ -176,10 +313,6 @@ along P o p q r b c log more same_o same_q same_b same_log h =
     (subst (λ (n : ℕ). P o q n more) same_b
     (subst (λ (l : List Entry). P o q b l) same_log h)))
 
-on_err : {T : Type 0} (P : Type 0) (r : Result T NoMemory) → P → OnErr r P
-on_err P (Ok a) holds = tt
-on_err P (Err e) holds = holds
-
 module _ (o : Listed) (q : Asked) (budget : ℕ) (m : NumberSet) (begun ended : AskerLists) (log : List Entry) (made : begun ≡ fresh o q budget m) (same : origin_of ended ≡ origin_of begun) (is_log : IsAskerLog ended)
     (log_is : log ≡ ended.before ++ ended.gained) (is_module : IsLocalModule o.axioms q m) where
   of : IsMadeOf o q budget m ended
@@ -193,13 +326,19 @@ module _ (o : Listed) (q : Asked) (budget : ℕ) (m : NumberSet) (begun ended : 
   logged : ended.gained ≡ log
   logged = sym (ap (λ (l : List Entry). l ++ ended.gained) of.none) ∙ sym log_is
 
-  pub all_begun : (r : Result Found NoMemory) → OnErr r (HasSearched o q budget log)
-  all_begun r = on_err (HasSearched o q budget log) r (inr (along IsFront ended.ontology o ended.query q ended.budget budget ended.gained log of.ontology of.query of.budget_is logged (front ended is_log of.none moved)))
+  pub all_begun : length o.axioms ≤ 20000 → budget < 2 ^ 32 → (r : Result Found NoMemory) → OnErr r (HasTree (asker_meaning ended)) → AsksFew (length ended.ontology.axioms) (asker_meaning begun) (asker_meaning ended)
+      → OnErr r (HasSearched o q budget log)
+  all_begun small budget_small (Ok f) tree asked = tt
+  all_begun small budget_small (Err e) tree asked =
+      let count : length ended.ontology.axioms ≡ length o.axioms = ap (λ (l : Listed). length l.axioms) of.ontology in
+      inr (along IsPinpointingLog ended.ontology o ended.query q ended.budget budget ended.gained log of.ontology of.query of.budget_is logged
+      (honest_by ended is_log of.none moved (asks_few o q budget m begun ended made asked) (omega (arith, small, count)) (omega (arith, budget_small, of.budget_is)) tree.labels tree.limits tree.smallest tree.nodes))
 
-  pub all_searched : length o.axioms ≤ 20000 → budget < 2 ^ 32 → (r : Result Found NoMemory) → IfOk r (IsFound (asker_meaning ended)) → OnOk r (AsksFew (length ended.ontology.axioms) (asker_meaning begun) (asker_meaning ended))
-      → IfOk r (IsSearched o q budget log)
-  all_searched small budget_small (Err e) found few = tt
-  all_searched small budget_small (Ok f) found few =
+  pub all_searched : length o.axioms ≤ 20000 → budget < 2 ^ 32 → (r : Result Found NoMemory) → IfOk r (IsFound (asker_meaning ended)) → IfOk r (ListsAllShown (asker_meaning begun) (asker_meaning ended))
+      → AsksFew (length ended.ontology.axioms) (asker_meaning begun) (asker_meaning ended) → IfOk r (IsSearched o q budget log)
+  all_searched small budget_small (Err e) found lists asked = tt
+  all_searched small budget_small (Ok f) found lists asked =
       let count : length ended.ontology.axioms ≡ length o.axioms = ap (λ (l : Listed). length l.axioms) of.ontology in
       along (λ l k n es. IsSearched l k n es f) ended.ontology o ended.query q ended.budget budget ended.gained log of.ontology of.query of.budget_is logged
-      (searched ended f is_log found of.none moved (asks_few o q budget m begun ended made few) (omega (arith, small, count)) (omega (arith, budget_small, of.budget_is)))
+      (searched ended f is_log found of.none moved (asks_few o q budget m begun ended made asked) (omega (arith, small, count)) (omega (arith, budget_small, of.budget_is))
+      begun (ap (λ (x : AskerLists). x.gained) made) lists)

@@ -1,26 +1,26 @@
 -- From which axioms of a workload its query follows.
-use Rattle.std.proofs.Common.{◌≡◌, ◌⊎◌, inl, inr, ℕ, zero, suc, ◌+◌, ◌*◌, ◌<◌, ◌≤◌, Bool, true, false, cond, List, [], ◌∷◌, ◌++◌, length, get_or, map, refl, ap, sym, ◌∙◌, subst, arith, append_assoc}
-use Rattle.std.specs.Prelude.{◌↔◌, not, ◌&&◌, ◌||◌, nat_lt, if◌then◌else◌}
+use Rattle.std.proofs.Common.{◌≡◌, ◌⊎◌, inl, inr, ℕ, zero, suc, ◌+◌, ◌<◌, ◌≤◌, Bool, true, false, List, [], ◌∷◌, ◌++◌, length, map, refl, ap, sym, ◌∙◌, subst, arith, append_assoc}
+use Rattle.std.specs.Prelude.{not, ◌&&◌, nat_lt, if◌then◌else◌}
 use Rattle.std.specs.List.{list_all}
 use Rattle.std.specs.FinSet as set
 use Rattle.std.proofs.lemmas.Bool.{and_parts, and_from, cases_Bool}
 use Rattle.std.proofs.lemmas.Bool.Decides.{nat_tests}
 use Rattle.lane_sieve.specs.Sets.{NumberSet}
-use Rattle.shq_terms.specs.Concept.{Concept, name, intersection, part, no_parts}
+use Rattle.shq_terms.specs.Concept.{name, intersection, part, no_parts}
 use Rattle.shq_terms.specs.Listed.{Listed}
 use Rattle.shq_terms.specs.declared.axioms.Axiom.{Axiom}
 use Rattle.shq_terms.specs.declared.axioms.Axiom.TheVariants.{SubClassOf, SubRole}
 use Rattle.shq_terms.specs.declared.axioms.Numbered.{Numbered}
 use Rattle.shq_terms.specs.declared.axioms.Query.{Query as Asked}
 use Rattle.shq_meaning.specs.Below.{all_below}
-use Rattle.shq_meaning.specs.Truth.{Interpretation, implies, holds, meets, meets_all, refutes_at, Entails}
+use Rattle.shq_meaning.specs.Truth.{Interpretation, implies, meets, refutes_at, Entails}
 use Rattle.shq_meaning.proofs.Below.{all_below-false}
-use Rattle.pinpointing_specs.specs.LocalModule.{axioms_from, FollowsFrom}
+use Rattle.pinpointing_specs.specs.LocalModule.{axioms_from}
 use Rattle.workload.specs.Laws.{IsWorkload, asked as wanted}
 use Rattle.workload.specs.WorkloadText.{workload_text}
-use Rattle.workload.specs.WorkloadAxioms.{kernel_axioms, group_axioms, workload_axioms, class_a, class_b, class_c, class_d}
+use Rattle.workload.specs.WorkloadAxioms.{kernel_axioms, group_axioms, workload_axioms, class_a, class_b, class_c}
 use Rattle.workload.proofs.Whole.{workloads_are_documents}
-use Rattle.job_inputs.specs.Questions.{follows, IsQuestion}
+use Rattle.job_inputs.specs.Questions.{follows}
 use Rattle.job_inputs.proofs.OneReading.{questions}
 use Rattle.pinpointing_jobs.specs.Answers.{workload_query}
 use Rattle.pinpointing_jobs.specs.WorkloadSets.{HasOneOf, HasOneOfEach, OfWorkloads, FollowsByPairs}

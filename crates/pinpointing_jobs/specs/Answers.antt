@@ -4,6 +4,7 @@ use Rattle.shq_terms.specs.Listed.{Listed}
 use Rattle.shq_terms.specs.declared.axioms.Query.{Query as Asked}
 use Rattle.workload.specs.WorkloadText.{workload_text}
 use Rattle.run_log.specs.declared.entry.Entry.{Entry}
+use Rattle.run_log.specs.HonestLog.{IsPinpointingLog}
 use Rattle.job_inputs.specs.declared.status.Status.{Status}
 use Rattle.job_inputs.specs.Questions.{follows, IsQuestion}
 use Rattle.job_inputs.specs.Refusals.{IsRefused, HasBegun}
@@ -11,7 +12,6 @@ use Rattle.pinpointing_jobs.specs.declared.wanted.Wanted.{Wanted}
 use Rattle.pinpointing_jobs.specs.Listings.{IsListAnswer}
 use Rattle.pinpointing_jobs.specs.Counts.{IsCounted}
 use Rattle.pinpointing_jobs.specs.Memory.{UnlessNoMemory}
-use Rattle.pinpointing_jobs.specs.Begun.{IsFront}
 
 -- ---- lists of sets
 
@@ -25,7 +25,7 @@ pub record IsPinpointed (w : Wanted) (inclusion : List ℕ) (budget : ℕ) (byte
 -- the document or the inclusion is refused, or its sets were listed
 abbrev pub AnswersPinpointing : Wanted → List ℕ → ℕ → List ℕ → List ℕ → Status → List Entry → Type 0
 AnswersPinpointing w inclusion budget bytes out s log =
-    UnlessNoMemory s out (HasBegun (follows inclusion) bytes log (λ o q. IsFront o q budget log))
+    UnlessNoMemory s out (HasBegun (follows inclusion) bytes log (λ o q. IsPinpointingLog o q budget log))
     (IsRefused (follows inclusion) bytes out s log ⊎ IsPinpointed w inclusion budget bytes out s log)
 
 -- ---- workloads
@@ -43,4 +43,4 @@ pub record IsMeasured (number budget : ℕ) (out : List ℕ) (s : Status) (log :
 
 abbrev pub AnswersWorkload : ℕ → ℕ → List ℕ → Status → List Entry → Type 0
 AnswersWorkload number budget out s log =
-    UnlessNoMemory s out (HasBegun (follows workload_query) (workload_text number) log (λ o q. IsFront o q budget log)) (IsMeasured number budget out s log)
+    UnlessNoMemory s out (HasBegun (follows workload_query) (workload_text number) log (λ o q. IsPinpointingLog o q budget log)) (IsMeasured number budget out s log)

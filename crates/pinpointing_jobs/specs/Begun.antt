@@ -3,16 +3,9 @@ use Rattle.std.specs.Prelude.{◌≡◌, ◌⊎◌, ℕ, [], List}
 use Rattle.shq_terms.specs.Listed.{Listed}
 use Rattle.shq_terms.specs.declared.axioms.Query.{Query as Asked}
 use Rattle.run_log.specs.declared.entry.Entry.{Entry}
-use Rattle.run_log.specs.HonestLog.{IsHonestWithin, AreTestsOf, AsksNoAnswer, StaysInModule}
+use Rattle.run_log.specs.HonestLog.{IsPinpointingLog}
 
--- What each front of an honest log obeys too: each entry is true, no more than the budget is spent, each test is one of the
--- query and of a set within its module, and none is made for which an earlier entry answers.
-pub record IsFront (o : Listed) (q : Asked) (budget : ℕ) (log : List Entry) : Type 0 where
-  pub budget_kept : IsHonestWithin o budget log
-  pub tests : AreTestsOf q log
-  pub new : AsksNoAnswer log
-  pub in_module : StaysInModule o q log
-
--- nothing was asked, or the log is such a front
+-- nothing was asked, or the log is honest: its tests are so, within the budget and the module, nothing was asked twice,
+-- its nodes are those of a hitting-set tree, and no more was asked than goes with them
 abbrev pub HasSearched : Listed → Asked → ℕ → List Entry → Type 0
-HasSearched o q budget log = (log ≡ []) ⊎ IsFront o q budget log
+HasSearched o q budget log = (log ≡ []) ⊎ IsPinpointingLog o q budget log

@@ -1,15 +1,17 @@
 -- What is printed of the numbers of sets.
 use Rattle.std.specs.Prelude.{◌≡◌, ℕ, Bool, true, false, List, ◌++◌, length, codes}
+use Rattle.std.specs.List.{Contains}
 use Rattle.axiom_sets.specs.Sets.{Limited}
 use Rattle.shq_terms.specs.Listed.{Listed}
 use Rattle.shq_terms.specs.declared.axioms.Query.{Query as Asked}
 use Rattle.pinpointing_jobs.specs.SetLists.{heading_line}
 use Rattle.run_log.specs.declared.entry.Entry.{Entry}
 use Rattle.run_log.specs.Entries.{spent_of}
-use Rattle.run_log.specs.HonestLog.{IsPinpointingLog}
+use Rattle.run_log.specs.HonestLog.{IsJustificationSet, IsPinpointingLog}
 use Rattle.job_inputs.specs.Answer.{line}
 use Rattle.job_inputs.specs.declared.status.Status.{Status}
 use Rattle.pinpointing_jobs.specs.declared.wanted.Wanted.TheVariants.{Justifications, Repairs}
+use Rattle.pinpointing_jobs.specs.Known.{AreKnown}
 use Rattle.pinpointing_jobs.specs.Wanted.{HasAll, ShowsAll}
 use Rattle.pinpointing_jobs.specs.Listings.{end_status}
 
@@ -28,14 +30,17 @@ pub record AreCounted (number : ℕ) (o : Listed) (q : Asked) (log : List Entry)
   pub all_repairs : HasAll Repairs o q repairs
   pub shows : ShowsAll o q log
 
--- one that did not finish has spent the budget
-pub record AreUncounted (budget : ℕ) (log : List Entry) (out : List ℕ) : Type 0 where
+-- one that did not finish has spent the budget, and lacks some
+pub record AreUncounted (o : Listed) (q : Asked) (budget : ℕ) (log : List Entry) (out : List ℕ) : Type 0 where
   pub text : out ≡ line (codes "undecided")
   pub spent : spent_of log ≡ budget
+  pub justifications : List Limited
+  pub are_some : (j : Limited) → Contains justifications j → IsJustificationSet o q j
+  pub known : AreKnown o q log justifications
 
 abbrev pub IsCount : ℕ → Listed → Asked → ℕ → List Entry → List ℕ → Bool → Type 0
 IsCount number o q budget log out true = AreCounted number o q log out
-IsCount number o q budget log out false = AreUncounted budget log out
+IsCount number o q budget log out false = AreUncounted o q budget log out
 
 -- a query was searched: so many sets were found, and this text says so
 pub record IsCounted (number : ℕ) (o : Listed) (q : Asked) (budget : ℕ) (log : List Entry) (s : Status) (out : List ℕ) : Type 0 where

@@ -4,6 +4,7 @@ pub mod Asked
 pub mod Answers
 pub mod Laws
 pub mod WorkloadSets
+pub mod Known
 pub mod Wanted
 pub mod Listings
 pub mod Counts

@@ -14,6 +14,7 @@ use Rattle.run_log.specs.declared.entry.Entry.{Entry}
 use Rattle.run_log.specs.Entries.{spent_of, nodes_of}
 use Rattle.run_log.specs.HonestLog.{IsJustificationSet, IsPinpointingLog}
 use Rattle.run_log.specs.Shown.{ShowsPinpointing}
+use Rattle.pinpointing_jobs.specs.Known.{HasAllShown, LeavesSomeOpen}
 
 -- a leaf: a set of axioms of the ontology without which the query does not follow
 pub record IsLeaf (o : Listed) (q : Asked) (l : Limited) : Type 0 where
@@ -32,6 +33,9 @@ pub record IsSearched (o : Listed) (q : Asked) (budget : ℕ) (log : List Entry)
   pub nodes : AreNodes f.justifications.items (nodes_of log)
   pub leaf_taken : (l : Limited) → Contains f.leaves.items l → Contains (nodes_of log) l
   pub settled : AreSettled f.justifications.items f.leaves.items (nodes_of log) (cond f.finished (length (nodes_of log)) (length (nodes_of log) - 1))
+  -- nothing that was found is left out, and a search that is not finished lacks some
+  pub all_shown : HasAllShown o q log f.justifications.items
+  pub left_open : f.finished ≡ false → LeavesSomeOpen o q log f.justifications.items
   -- a finished search found all, and its log shows it
   pub explored : f.finished ≡ true → IsExplored (FollowsFrom o.axioms q) (length o.axioms) f.justifications.items f.leaves.items
   pub shown : f.finished ≡ true → ShowsPinpointing o q log

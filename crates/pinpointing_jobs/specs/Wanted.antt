@@ -5,7 +5,6 @@ use Rattle.lane_sieve.specs.Sets.{NumberSet}
 use Rattle.axiom_sets.specs.Sets.{Limited}
 use Rattle.pinpointing_specs.specs.Smallest.{IsHitAlone}
 use Rattle.pinpointing_specs.specs.Order.{IsAscending}
-use Rattle.pinpointing_specs.specs.Nodes.{AreNodes}
 use Rattle.shq_terms.specs.Listed.{Listed}
 use Rattle.shq_terms.specs.declared.axioms.Query.{Query as Asked}
 use Rattle.pinpointing_specs.specs.LocalModule.{of_axioms, IsRepair}
@@ -13,6 +12,7 @@ use Rattle.run_log.specs.declared.entry.Entry.{Entry}
 use Rattle.run_log.specs.Entries.{nodes_of}
 use Rattle.run_log.specs.HonestLog.{IsJustificationSet}
 use Rattle.run_log.specs.Shown.{ShowsPinpointing}
+use Rattle.pinpointing_jobs.specs.Known.{AreKnown}
 use Rattle.pinpointing_jobs.specs.declared.wanted.Wanted.{Wanted}
 use Rattle.pinpointing_jobs.specs.declared.wanted.Wanted.TheVariants.{Justifications, Repairs}
 
@@ -47,19 +47,20 @@ HasRepairsOf o q labels nodes sets = (place : ℕ) (d : Limited) → place + 1 <
     → IsHitAlone labels (slice_index_or nodes place d) → Contains sets (slice_index_or nodes place d)
 
 -- for some justifications by which the nodes are those of a hitting-set tree, it has the repairs among these nodes
-pub record HasKnownRepairs (o : Listed) (q : Asked) (nodes sets : List Limited) : Type 0 where
+pub record HasKnownRepairs (o : Listed) (q : Asked) (log : List Entry) (sets : List Limited) : Type 0 where
   pub labels : List Limited
   pub justifications : (j : Limited) → Contains labels j → IsJustificationSet o q j
-  pub tree : AreNodes labels nodes
-  pub repairs : HasRepairsOf o q labels nodes sets
+  pub known : AreKnown o q log labels
+  pub repairs : HasRepairsOf o q labels (nodes_of log) sets
 
--- what the nodes make known is in the list: justifications by which they are those of a hitting-set tree, or the repairs among them
-abbrev pub HasKnown : Wanted → Listed → Asked → List Limited → List Limited → Type 0
-HasKnown Justifications o q nodes sets = AreNodes sets nodes
-HasKnown Repairs o q nodes sets = HasKnownRepairs o q nodes sets
+-- what the log makes known is in the list: the justifications that it shows, by which its nodes are those of a
+-- hitting-set tree, or the repairs among the nodes
+abbrev pub HasKnown : Wanted → Listed → Asked → List Entry → List Limited → Type 0
+HasKnown Justifications o q log sets = AreKnown o q log sets
+HasKnown Repairs o q log sets = HasKnownRepairs o q log sets
 
 -- the list has wanted sets alone, each once, in the order of sets, and all that the log makes known
 pub record HasSome (w : Wanted) (o : Listed) (q : Asked) (log : List Entry) (sets : List Limited) : Type 0 where
   pub order : IsAscending sets
   pub some : (s : Limited) → Contains sets s → IsWanted w o q s
-  pub known : HasKnown w o q (nodes_of log) sets
+  pub known : HasKnown w o q log sets

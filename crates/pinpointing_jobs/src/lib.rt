@@ -26,11 +26,11 @@ mod workloads;
 
 pub use counting::count_answer;
 pub use laws::{lists_are_unique, workloads_are_questions};
-pub use list_laws::{counts_are_right, lists_are_right};
+pub use list_laws::{counts_are_right, lists_are_right, whole_lists_are_done};
 pub use listing::list_answer;
 pub use pinpointing::pinpoint;
 pub use shq_terms::NoMemory;
 pub use wanted::Wanted;
 pub use whole_text::sets_text;
-pub use workload_laws::workload_queries_follow_by_pairs;
+pub use workload_laws::{workload_queries_follow_by_pairs, workloads_have_eight_and_three};
 pub use workloads::run_workload;

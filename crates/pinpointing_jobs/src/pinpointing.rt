@@ -4,7 +4,8 @@ ghost use Rattle.ontology_limits.specs.Limits.{IsInLimit};
 ghost use Rattle.job_inputs.specs.Answer.{text_bytes, is_fault};
 ghost use Rattle.job_inputs.specs.Questions.{follows};
 ghost use Rattle.job_inputs.specs.Refusals.{IsUnanswered};
-ghost use Rattle.pinpointing_jobs.specs.Begun.{IsFront, HasSearched};
+ghost use Rattle.run_log.specs.HonestLog.{IsPinpointingLog};
+ghost use Rattle.pinpointing_jobs.specs.Begun.{HasSearched};
 ghost use Rattle.pinpointing_jobs.specs.Listings.{IsListAnswer};
 ghost use Rattle.pinpointing_jobs.specs.Answers.{IsPinpointed, AnswersPinpointing};
 
@@ -52,7 +53,7 @@ fn pinpointed(
     requires small { length bytes.now ≤ 4294967293 }
     requires unlogged { log.old ≡ [] }
     ensures answer { IfOk result (λ a. IsPinpointed wanted inclusion.now budget bytes.now (text_bytes a.1) a.0 log.new) }
-    ensures unread { IfErr result (IsUnanswered (follows inclusion.now) bytes.now log.new (λ o q. IsFront o q budget log.new)) }
+    ensures unread { IfErr result (IsUnanswered (follows inclusion.now) bytes.now log.new (λ o q. IsPinpointingLog o q budget log.new)) }
 {
     let input = read_input(alloc, inclusion, bytes)?;
     let answer = listed(alloc, wanted, budget, input, log)?;

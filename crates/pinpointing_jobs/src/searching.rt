@@ -17,7 +17,7 @@ use std::mem;
 ///
 /// # Errors
 ///
-/// Out of memory. The log is empty then, or a front of an honest one.
+/// Out of memory. The log is empty then, or honest all the same.
 pub(crate) fn search(
     alloc: Global,
     ontology: &Ontology,

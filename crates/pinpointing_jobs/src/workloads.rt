@@ -7,7 +7,8 @@ ghost use Rattle.job_inputs.specs.Questions.{follows};
 ghost use Rattle.job_inputs.specs.Refusals.{HasBegun};
 ghost use Rattle.pinpointing_jobs.specs.Counts.{IsCounted};
 ghost use Rattle.pinpointing_jobs.specs.Asked.{IsInput, IsNoInput};
-ghost use Rattle.pinpointing_jobs.specs.Begun.{IsFront, HasSearched};
+ghost use Rattle.run_log.specs.HonestLog.{IsPinpointingLog};
+ghost use Rattle.pinpointing_jobs.specs.Begun.{HasSearched};
 ghost use Rattle.pinpointing_jobs.specs.Answers.{workload_query, IsMeasured, AnswersWorkload};
 
 use crate::asking::{Input, read_input};
@@ -47,7 +48,7 @@ fn measured(
     requires most { number ≤ 4000 }
     requires unlogged { log.old ≡ [] }
     ensures measured { IfOk result (λ a. IsMeasured number budget (text_bytes a.1) a.0 log.new) }
-    ensures begun { OnErr result (HasBegun (follows workload_query) (workload_text number) log.new (λ o q. IsFront o q budget log.new)) }
+    ensures begun { OnErr result (HasBegun (follows workload_query) (workload_text number) log.new (λ o q. IsPinpointingLog o q budget log.new)) }
 {
     let input = generated(alloc, number)?;
     let answer = counted(alloc, number, budget, input, log)?;

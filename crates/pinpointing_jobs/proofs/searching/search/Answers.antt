@@ -16,13 +16,15 @@ returns-clause-found c =
     all_searched o q c.args.budget m c.within-asker.result c.enumerate-outcome.new.entail c.into_log.result
     (made_fresh o q c.args.budget m c.new-oracle.result c.replace-begun.result c.within-asker.result c.within-asker.ensures c.new-oracle.ensures (c.replace-begun.ensures.value ∙ c.requires.unlogged))
     c.enumerate-outcome.ensures.same c.into_oracle.ensures.is_log (c.into_log.ensures ∙ c.into_oracle.ensures.log) c.in_ok-module.ensures.module c.requires.in_limit.ontology.few_axioms small
-    c.enumerate-outcome.result c.enumerate-outcome.ensures.found c.enumerate-outcome.ensures.asked
+    c.enumerate-outcome.result c.enumerate-outcome.ensures.found c.enumerate-outcome.ensures.shown c.enumerate-outcome.ensures.asked
 
 pub returns-clause-begun : goal.returns-clause-begun
 returns-clause-begun c =
     let o = c.args.ontology.now in
     let q = c.args.query.now in
     let m = c.in_ok-module.module.members in
+    let small : c.args.budget < 2 ^ 32 = omega arith in
     all_begun o q c.args.budget m c.within-asker.result c.enumerate-outcome.new.entail c.into_log.result
     (made_fresh o q c.args.budget m c.new-oracle.result c.replace-begun.result c.within-asker.result c.within-asker.ensures c.new-oracle.ensures (c.replace-begun.ensures.value ∙ c.requires.unlogged))
-    c.enumerate-outcome.ensures.same c.into_oracle.ensures.is_log (c.into_log.ensures ∙ c.into_oracle.ensures.log) c.in_ok-module.ensures.module c.enumerate-outcome.result
+    c.enumerate-outcome.ensures.same c.into_oracle.ensures.is_log (c.into_log.ensures ∙ c.into_oracle.ensures.log) c.in_ok-module.ensures.module c.requires.in_limit.ontology.few_axioms small
+    c.enumerate-outcome.result c.enumerate-outcome.ensures.begun c.enumerate-outcome.ensures.asked
