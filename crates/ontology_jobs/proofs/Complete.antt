@@ -90,7 +90,7 @@ checked query bytes out NoMemory known b c = absurd known
 -- ---- audits
 
 known_judged : (s t : Status) (out text : List ℕ) → ◌≡◌ {A = Answer} (s, out) (t, text) → IsJudged t → IsJudged s
-known_judged s t out text is judged = subst IsJudged (sym (ap (λ (a : Answer). a.0) is)) judged
+known_judged s t out text is known = subst IsJudged (sym (ap (λ (a : Answer). a.0) is)) known
 
 end_judged : (query bytes : List ℕ) (s : Status) (out : List ℕ) → IsFaultless s → BeginsWithDocument query bytes → (end : Result AuditVerdict Unread) → IsAuditEnd query bytes end → ◌≡◌ {A = Answer} (s, out) (end_answer end) → IsJudged s
 end_judged query bytes s out known b (Ok A.Accepted) says is = known_judged s Done out _ is tt
