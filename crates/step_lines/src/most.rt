@@ -185,6 +185,14 @@ pub fn line_of_most<S: State, R: Rules>(
         Shape::Max(count, role, filler) => line_of_overrun(
             alloc, state, rules, node, concept, count, role, filler,
         ),
-        _ => Err(NoMemory),
+        Shape::Top
+        | Shape::Bottom
+        | Shape::Name(_)
+        | Shape::NotName(_)
+        | Shape::And(_)
+        | Shape::Or(_)
+        | Shape::SomeOf(_, _)
+        | Shape::AllOf(_, _)
+        | Shape::Min(_, _, _) => unreachable!(),
     }
 }
