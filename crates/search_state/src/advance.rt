@@ -41,7 +41,7 @@ impl<'b, A: Allocator + Copy> Progress<'b, A> {
     {
         let resting = rest_addition(self.heap, &self.tree, &self.prints, rules, addition)?;
         self.put_addition(rules, addition, resting)?;
-        self.look(rules, Fact::Has(addition.node, addition.concept))?;
+        self.look(rules, Fact::Has(addition.node, addition.concept));
         Ok(())
     }
 
@@ -55,7 +55,7 @@ impl<'b, A: Allocator + Copy> Progress<'b, A> {
     {
         let resting = rest_new_nodes(self.heap, &self.tree, &self.prints, rules, new)?;
         let first = self.put_new_nodes(rules, new, resting)?;
-        self.look_at_new_nodes(rules, new, first)?;
+        self.look_at_new_nodes(rules, new, first);
         Ok(())
     }
 
@@ -71,7 +71,7 @@ impl<'b, A: Allocator + Copy> Progress<'b, A> {
         let left = left_after_first(rules, choosing)?;
         let fact = first_of(rules, choosing);
         self.put_choice(rules, choosing, resting, left, fact)?;
-        self.look(rules, fact)?;
+        self.look(rules, fact);
         Ok(())
     }
 
@@ -82,7 +82,7 @@ impl<'b, A: Allocator + Copy> Progress<'b, A> {
         ensures { OnOk result (HasAdvanced (R.context rules.now) self.old self.new) }
     {
         let fact = self.turn(rules, mark, marks)?;
-        self.look(rules, fact)?;
+        self.look(rules, fact);
         Ok(())
     }
 

@@ -44,7 +44,7 @@ impl<'b, A: Allocator + Copy> Progress<'b, A> {
         let mut prints = Blocks::new(heap);
         blocks_stay();
         prints.follow(&tree, 0)?;
-        let clash = find_clash_at_start(heap, &tree, &prints, rules, sub, not_sup)?;
+        let clash = find_clash_at_start(&tree, &prints, rules, sub, not_sup);
         Ok(Progress {
             heap,
             query,
@@ -75,20 +75,19 @@ fn put_start<A: Allocator + Copy>(tree: &mut Tree<A>, concept: u32) -> Result<()
 
 // The plain clash that there is at the beginning, if there is one.
 fn find_clash_at_start<A: Allocator + Copy, R: Rules>(
-    heap: Global,
     tree: &Tree<A>,
     prints: &Blocks,
     rules: &R,
     sub: u32,
     not_sup: u32,
-) -> Result<Option<Clash>, NoMemory>
+) -> Option<Clash>
     requires current { IsCurrent (facts_in tree.now) prints.now }
     requires begun { tree.now ≡ begun_entries sub not_sup }
-    ensures { IfOk result (IsClashOf (R.context rules.now) (facts_in tree.now)) }
+    ensures { IsClashOf (R.context rules.now) (facts_in tree.now) result }
 {
     rules.is_ready();
-    match find_clash_by(heap, tree, prints, rules, Fact::Has(0, sub))? {
-        Some(clash) => Ok(Some(clash)),
-        None => find_clash_by(heap, tree, prints, rules, Fact::Has(0, not_sup)),
+    match find_clash_by(tree, prints, rules, Fact::Has(0, sub)) {
+        Some(clash) => Some(clash),
+        None => find_clash_by(tree, prints, rules, Fact::Has(0, not_sup)),
     }
 }

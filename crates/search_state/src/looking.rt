@@ -1,14 +1,13 @@
 // Whether the last facts have made a plain clash.
-ghost use Rattle.std.specs.Prelude.{◌≡◌, MatchOption, IfOk};
+ghost use Rattle.std.specs.Prelude.{◌≡◌, MatchOption};
 ghost use Rattle.completion_tree.specs.Trail.{facts_in};
 ghost use Rattle.step_agenda.specs.Followed.{IsCurrent};
 ghost use Rattle.step_finders.specs.Clashing.{IsShown, NoClashByNew};
 ghost use Rattle.search_state.specs.Looking.{IsLookable, IsNewLookable, NoClashByFact};
 
-use crate::NoMemory;
 use calculus_specs::Fact;
 use completion_tree::Tree;
-use std::alloc::{Allocator, Global};
+use std::alloc::Allocator;
 use step_agenda::{Blocks, TreeState};
 use step_finders::{
     Clash, NewNodes, Rules, find_clash, find_clash_of_apart, find_clash_of_join,
@@ -17,43 +16,38 @@ use step_finders::{
 
 /// A plain clash that is there by the fact; none exactly where there is none.
 pub(crate) fn find_clash_by<A: Allocator + Copy, R: Rules>(
-    alloc: Global,
     tree: &Tree<A>,
     prints: &Blocks,
     rules: &R,
     fact: Fact<u32>,
-) -> Result<Option<Clash>, NoMemory>
+) -> Option<Clash>
     requires current { IsCurrent (facts_in tree.now) prints.now }
     requires lookable { IsLookable (facts_in tree.now) fact }
     ensures { let w = R.context rules.now in let fs = facts_in tree.now in
-        IfOk result (λ found. MatchOption found (NoClashByFact w fs fact) (IsShown w fs)) }
+        MatchOption result (NoClashByFact w fs fact) (IsShown w fs) }
 {
     let state = TreeState::new(tree, prints);
     match fact {
-        Fact::Has(node, concept) => find_clash(alloc, &state, rules, node, concept),
-        Fact::Edge(_, _, _) => Ok(None),
-        Fact::Apart(first, second) => find_clash_of_apart(alloc, &state, rules, first, second),
-        Fact::Same(first, _) => find_clash_of_join(alloc, &state, rules, first),
+        Fact::Has(node, concept) => find_clash(&state, rules, node, concept),
+        Fact::Edge(_, _, _) => None,
+        Fact::Apart(first, second) => find_clash_of_apart(&state, rules, first, second),
+        Fact::Same(first, _) => find_clash_of_join(&state, rules, first),
     }
 }
 
 /// A plain clash that is there by new nodes, of which this is the first; none exactly where there is none.
 pub(crate) fn find_clash_by_new<A: Allocator + Copy, R: Rules>(
-    alloc: Global,
     tree: &Tree<A>,
     prints: &Blocks,
     rules: &R,
     new: &NewNodes,
     first: u32,
-) -> Result<Option<Clash>, NoMemory>
+) -> Option<Clash>
     requires current { IsCurrent (facts_in tree.now) prints.now }
     requires lookable { IsNewLookable (facts_in tree.now) new.now first }
     ensures { let w = R.context rules.now in let fs = facts_in tree.now in
-        IfOk result (λ found. MatchOption found (NoClashByNew w fs new.now.parent new.now.role new.now.filler) (IsShown w fs)) }
+        MatchOption result (NoClashByNew w fs new.now.parent new.now.role new.now.filler) (IsShown w fs) }
 {
     let state = TreeState::new(tree, prints);
-    let found = find_clash_of_new_nodes(
-        alloc, &state, rules, new.parent, new.role, new.filler, first,
-    )?;
-    Ok(found)
+    find_clash_of_new_nodes(&state, rules, new.parent, new.role, new.filler, first)
 }

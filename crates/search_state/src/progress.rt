@@ -126,15 +126,15 @@ impl<'b, A: Allocator + Copy> Progress<'b, A> {
     }
 
     // Finds the plain clash that the last fact has made, if it has made one.
-    pub(crate) fn look<R: Rules>(&mut self, rules: &R, fact: Fact<u32>) -> Result<(), NoMemory>
+    pub(crate) fn look<R: Rules>(&mut self, rules: &R, fact: Fact<u32>)
         requires standing { IsStanding (R.context rules.now) self.old }
         requires last { IsLast (R.context rules.now) self.old.entries fact }
         requires lookable { IsLookable (facts_in self.old.entries) fact }
-        ensures found { OnOk result (IsSearching (R.context rules.now) self.new) }
-        ensures same { OnOk result (self.new ≡ record self.old { clash = self.new.clash }) }
+        ensures found { IsSearching (R.context rules.now) self.new }
+        ensures same { self.new ≡ record self.old { clash = self.new.clash } }
     {
-        self.clash = find_clash_by(self.heap, &self.tree, &self.prints, rules, fact)?;
-        Ok(())
+        let clash = find_clash_by(&self.tree, &self.prints, rules, fact);
+        self.clash = clash;
     }
 
     // Puts the line of new nodes, and their facts. Answers the first of them.
@@ -172,20 +172,15 @@ impl<'b, A: Allocator + Copy> Progress<'b, A> {
     }
 
     // Finds the plain clash that the last new nodes have made, if they have made one.
-    pub(crate) fn look_at_new_nodes<R: Rules>(
-        &mut self,
-        rules: &R,
-        new: &NewNodes,
-        first: u32,
-    ) -> Result<(), NoMemory>
+    pub(crate) fn look_at_new_nodes<R: Rules>(&mut self, rules: &R, new: &NewNodes, first: u32)
         requires standing { IsStanding (R.context rules.now) self.old }
         requires last { IsLastNew (R.context rules.now) self.old.entries new.now first }
         requires lookable { IsNewLookable (facts_in self.old.entries) new.now first }
-        ensures found { OnOk result (IsSearching (R.context rules.now) self.new) }
-        ensures same { OnOk result (self.new ≡ record self.old { clash = self.new.clash }) }
+        ensures found { IsSearching (R.context rules.now) self.new }
+        ensures same { self.new ≡ record self.old { clash = self.new.clash } }
     {
-        self.clash = find_clash_by_new(self.heap, &self.tree, &self.prints, rules, new, first)?;
-        Ok(())
+        let clash = find_clash_by_new(&self.tree, &self.prints, rules, new, first);
+        self.clash = clash;
     }
 
     // Puts the line of a choice, its mark, and the fact of its first alternative.

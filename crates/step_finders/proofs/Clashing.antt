@@ -9,7 +9,7 @@ use Rattle.tableau_specs.specs.Clash.IsPlainClash.{plain_bottom, plain_names, pl
 use Rattle.calculus_specs.specs.Listed.{IsLabel}
 use Rattle.tableau_specs.specs.Near.ClashesBy.{by_bottom, by_name, by_complement, by_most, by_filler}
 use Rattle.calculus_specs.specs.Shape.Shape.{bottom, name, not_name, at_most}
-use Rattle.calculus_specs.specs.State.{node_count, first_origin, parent, has, all_apart}
+use Rattle.calculus_specs.specs.State.{node_count, first_origin, parent, has}
 use Rattle.calculus_specs.specs.Joins.{rep}
 use Rattle.step_finders.proofs.Edges.{where_any, rep_twice}
 use Rattle.tableau_specs.proofs.Moved.{overrun_at}
@@ -17,30 +17,11 @@ use Rattle.std.proofs.lemmas.Bool.{cases_Bool, eqb-true, ltb-true, and_parts}
 use Rattle.std.specs.List.{All, list_all}
 use Rattle.tableau_specs.specs.Near.{speaks_below, speak_of_nodes}
 use Rattle.calculus_specs.specs.declared.facts.Fact.TheVariants.{Has, Edge, Apart, Same}
-use Rattle.std.proofs.Common.{ltb, ◌&&◌, [], ◌∷◌, ◌≡◌, ℕ, ◌<◌, ◌≤◌, Bool, true, false, List, length, ap, ◌∙◌, sym, subst, arith, inl, inr, eqb, get_or, Some, None}
+use Rattle.std.proofs.Common.{ltb, ◌&&◌, [], ◌∷◌, ◌≡◌, ℕ, ◌<◌, Bool, true, false, List, length, ap, ◌∙◌, sym, subst, inl, inr, eqb, get_or, Some, None}
 use Rattle.calculus_specs.specs.Shape.{Shape, shape_of}
 use Rattle.calculus_specs.specs.declared.facts.Fact.{Fact}
-use Rattle.tableau_specs.specs.Clash.{filled_successors}
+use Rattle.tableau_specs.specs.Clash.{IsPlainClash}
 use Rattle.tableau_specs.specs.Steps.{SearchContext, below_of}
-use Rattle.step_finders.specs.Filled.{AreFilled, AreUnapart}
-use Rattle.step_finders.proofs.Members.{same_length, same_apart, same_unapart, pair_apart, contains_member}
-
-module _ (w : SearchContext) (fs : List (Fact ℕ)) (x n s e : ℕ) (ys : List ℕ) (is : AreFilled (below_of w) fs x s e ys) where
-  pub few : length ys ≤ n → AnswersOverrun w fs x n s e false
-  few le = λ more. absurd (omega (arith, more, le, same_length (below_of w) fs x s e ys is))
-
-  pub not_all : (y z : ℕ) → AreUnapart fs ys y z → AnswersOverrun w fs x n s e false
-  not_all y z two more = elim (cases_Bool (all_apart fs (filled_successors (below_of w) fs x s e))) [
-    | inr out ↦ out
-    | inl every ↦
-        let h = same_unapart fs (below_of w) x s e ys y z is two in
-        let k = pair_apart fs (filled_successors (below_of w) fs x s e) y z every (contains_member y (filled_successors (below_of w) fs x s e) h.has_one) (contains_member z (filled_successors (below_of w) fs x s e) h.has_other) h.differ in
-        let l = h.unapart in
-        cc
-  ]
-
-  pub all_of_them : n < length ys → all_apart fs ys ≡ true → AnswersOverrun w fs x n s e true
-  all_of_them more every = (omega (arith, more, same_length (below_of w) fs x s e ys is), same_apart fs (below_of w) x s e ys is every)
 
 same_most : (n s e m t d : ℕ) → at_most n s e ≡ at_most m t d → (n ≡ m) × (s ≡ t) × (e ≡ d)
 same_most n s e m t d h = (cc, cc, cc)
@@ -175,6 +156,21 @@ module _ (w : SearchContext) (fs : List (Fact ℕ)) where
         (λ k d lt hit. subst (λ (f : ℕ). NoClashBy w fs y f) (eqb-true (get_or cs k d) e hit) (each k d lt))
         (label e ∙ h));
   }
+
+-- ---- anywhere
+
+module _ (w : SearchContext) (fs : List (Fact ℕ)) where
+  pub none_by_label : (x : ℕ) (cs : List ℕ) → IsLabel fs x cs → ((k d : ℕ) → k < length cs → NoneByShape w fs x (shape_of w.table (get_or cs k d)))
+      → (c : ℕ) → has fs x c ≡ true → NoneByShape w fs x (shape_of w.table c)
+  none_by_label x cs label each c h =
+      where_any (λ d. eqb d c) (NoneByShape w fs x (shape_of w.table c)) cs
+      (λ k d lt hit. subst (λ (e : ℕ). NoneByShape w fs x (shape_of w.table e)) (eqb-true (get_or cs k d) c hit) (each k d lt))
+      (label c ∙ h)
+
+  pub none_anywhere : ((x : ℕ) → x < node_count fs → (c : ℕ) → has fs x c ≡ true → NoneByShape w fs x (shape_of w.table c)) → ¬ IsPlainClash (below_of w) w.table fs
+  none_anywhere none (plain_bottom x c lt h sh) = subst (NoneByShape w fs x) sh (none x lt c h)
+  none_anywhere none (plain_names x c d a lt h sh g th) = subst (NoneByShape w fs x) sh (none x lt c h) d g th
+  none_anywhere none (plain_most x c n s e lt h sh more every) = (let k = subst (NoneByShape w fs x) sh (none x lt c h) more in cc)
 
 pub shown_is_plain : ShownClashesArePlain
 shown_is_plain w fs (C.Bottom x c) h = plain_bottom x c h.is_node h.holds h.shape

@@ -5,6 +5,7 @@ pub mod Filed
 pub mod Nothing
 pub mod Gathered
 pub mod Members
+pub mod Later
 pub mod InRow
 pub mod Making
 pub mod Ending

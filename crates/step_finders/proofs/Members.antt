@@ -70,7 +70,7 @@ module _ (below : ℕ → ℕ → Bool) (fs : List (Fact ℕ)) (x s e : ℕ) whe
       ∙ node_and (list_any (eqb y) (range_with_len 0 (node_count fs))) (is_successor fs roles x y) (has fs y e)
       (λ h. member_row y 0 (node_count fs) (omega arith) (omega (arith, successor_is_node fs roles x y h)))
 
-  filled_ascending : AllPairs (λ y z. y < z) (filled_successors below fs x s e)
+  pub filled_ascending : AllPairs (λ y z. y < z) (filled_successors below fs x s e)
   filled_ascending =
       AllPairs-filter (λ y z. y < z) (λ v. has fs v e) (successors fs roles x)
       (AllPairs-filter (λ y z. y < z) (is_successor fs roles x) (range_with_len 0 (node_count fs)) (row_ascending (node_count fs)))
@@ -102,7 +102,7 @@ member_contains y (z ∷ ys) h = elim (or_cases (eqb y z) (list_any (eqb y) ys) 
 
 -- ---- pairs that are apart
 
-all_at : (p : ℕ → Bool) (y : ℕ) (ys : List ℕ) → list_all p ys ≡ true → list_any (eqb y) ys ≡ true → p y ≡ true
+pub all_at : (p : ℕ → Bool) (y : ℕ) (ys : List ℕ) → list_all p ys ≡ true → list_any (eqb y) ys ≡ true → p y ≡ true
 all_at p y [] h m = cc
 all_at p y (z ∷ ys) h m =
     let t = and_parts (p z) (list_all p ys) h in
@@ -111,7 +111,7 @@ all_at p y (z ∷ ys) h m =
       | inr later ↦ all_at p y ys t.1 later
     ]
 
-all_from : (p : ℕ → Bool) (ys : List ℕ) → ((y : ℕ) → list_any (eqb y) ys ≡ true → p y ≡ true) → list_all p ys ≡ true
+pub all_from : (p : ℕ → Bool) (ys : List ℕ) → ((y : ℕ) → list_any (eqb y) ys ≡ true → p y ≡ true) → list_all p ys ≡ true
 all_from p [] h = refl
 all_from p (z ∷ ys) h = rw (h z (rw (eq-eqb z z refl) refl)) (all_from p ys (λ y m. h y (or_right (eqb y z) (list_any (eqb y) ys) m)))
 

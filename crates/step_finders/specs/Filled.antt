@@ -1,8 +1,9 @@
 -- The successors that an 'at most' counts, as a list in any order.
-use Rattle.std.specs.Prelude.{◌≡◌, ℕ, ◌==◌, ◌&&◌, ◌<◌, Bool, false, List, Contains, length, get_or, slice_index}
+use Rattle.std.specs.Prelude.{◌≡◌, ℕ, ◌==◌, ◌&&◌, ◌<◌, ◌≤◌, nat_le, Bool, true, false, List, Contains, Option, Some, None, filter, length, get_or, slice_index}
 use Rattle.std.specs.List.{list_any, IsDistinct}
 use Rattle.calculus_specs.specs.declared.facts.Fact.{Fact}
 use Rattle.calculus_specs.specs.State.{has, is_successor, are_apart}
+use Rattle.tableau_specs.specs.Clash.{filled_successors}
 
 -- the list has each successor of x by a role below s that has e, once
 pub record AreFilled (below : ℕ → ℕ → Bool) (fs : List (Fact ℕ)) (x s e : ℕ) (ys : List ℕ) : Type 0 where
@@ -23,3 +24,12 @@ pub record IsLater (fs : List (Fact ℕ)) (ys : List ℕ) (place z : ℕ) : Type
   pub within : later < length ys
   pub stands : get_or ys later z ≡ z
   pub unapart : are_apart fs (slice_index ys place) z ≡ false
+
+-- those from a number on of the representatives that an 'at most' counts, ascending
+unfoldable pub filled_from : (ℕ → ℕ → Bool) → List (Fact ℕ) → ℕ → ℕ → ℕ → ℕ → List ℕ
+filled_from below fs x s e from = filter (nat_le from) (filled_successors below fs x s e)
+
+-- this is the least number that passes, or there is none
+abbrev pub IsLeast : (ℕ → Bool) → Option ℕ → Type 0
+IsLeast p None = (z : ℕ) → p z ≡ false
+IsLeast p (Some y) = (p y ≡ true) × ((z : ℕ) → p z ≡ true → y ≤ z)

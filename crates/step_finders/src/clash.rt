@@ -1,5 +1,5 @@
-// A plain clash that a step makes.
-ghost use Rattle.std.specs.Prelude.{◌≡◌, ℕ, ◌<◌, ◌↔◌, true, false, MatchOption, IfOk, IsTrue};
+// A plain clash: one that a step makes, or any. It takes no memory.
+ghost use Rattle.std.specs.Prelude.{◌≡◌, ℕ, ◌<◌, ◌↔◌, true, false, MatchOption, IsTrue};
 ghost use Rattle.std.specs.List.{All};
 ghost use Rattle.calculus_specs.specs.Shape.{shape_of};
 ghost use Rattle.calculus_specs.specs.Shape.Shape.{bottom};
@@ -7,13 +7,13 @@ ghost use Rattle.calculus_specs.specs.State.{node_count, has as holds};
 ghost use Rattle.calculus_specs.specs.Tree.{IsComplement};
 ghost use Rattle.tableau_specs.specs.Near.{speak_of_nodes};
 ghost use Rattle.step_finders.specs.Choosing.{LacksComplement};
-ghost use Rattle.step_finders.specs.Clashing.{IsShown, AnswersOverrun, NotOverrun, NotOverrunOver, CountsNot, IsMost, NoneByShape, NoneAbove, NoClashBy, IsOfParent, NoneOver, NoClashByNew, NoClashByApart, NoClashByJoin, ShownClashesArePlain};
+ghost use Rattle.step_finders.specs.Clashing.{IsShown, NotOverrun, NotOverrunOver, CountsNot, IsMost, NoneByShape, NoneAbove, NoClashBy, IsOfParent, NoneOver, NoClashByNew, NoClashByApart, NoClashByJoin, ShownClashesArePlain};
+ghost use Rattle.tableau_specs.specs.Clash.{IsPlainClash};
+ghost use Rattle.tableau_specs.specs.Steps.{below_of};
 
-use crate::counted::filled_successors;
-use crate::unapart::find_unapart;
-use crate::{NoMemory, Rules, State};
+use crate::overrun::is_overrun;
+use crate::{Rules, State};
 use shq_nnf::Shape;
-use std::alloc::Global;
 
 /// A plain clash.
 #[derive(Clone, Copy, Debug, PartialEq, Eq)]
@@ -43,78 +43,54 @@ pub enum Clash {
     },
 }
 
-// Whether the successors with the filler are more than so many, and pairwise apart.
-fn is_overrun<S: State, R: Rules>(
-    alloc: Global,
-    state: &S,
-    rules: &R,
-    node: u32,
-    count: u32,
-    role: u32,
-    filler: u32,
-) -> Result<bool, NoMemory>
-    ensures { IfOk result (AnswersOverrun (R.context rules.now) (S.facts state.now) node count role filler) }
-{
-    let nodes = filled_successors(alloc, state, rules, node, role, filler)?;
-    if nodes.len() <= count as usize {
-        return Ok(false);
-    }
-    match find_unapart(state, &nodes) {
-        Some(_) => Ok(false),
-        None => Ok(true),
-    }
-}
-
 // A clash by an 'at most' with this filler, if the node has it.
 fn find_by_most<S: State, R: Rules>(
-    alloc: Global,
     state: &S,
     rules: &R,
     node: u32,
     filler: u32,
     concept: u32,
-) -> Result<Option<Clash>, NoMemory>
+) -> Option<Clash>
     requires is_node { node < node_count (S.facts state.now) }
     requires shape { IsMost (R.context rules.now).table filler concept }
     ensures { let w = R.context rules.now in let fs = S.facts state.now in
-        IfOk result (λ found. MatchOption found (NotOverrun w fs node filler concept) (IsShown w fs)) }
+        MatchOption result (NotOverrun w fs node filler concept) (IsShown w fs) }
 {
     if !state.has(node, concept) {
-        return Ok(None);
+        return None;
     }
     match rules.shape(concept) {
         Shape::Max(count, role, _) => {
-            if is_overrun(alloc, state, rules, node, count, role, filler)? {
-                Ok(Some(Clash::Most { node, concept }))
+            if is_overrun(state, rules, node, count, role, filler) {
+                Some(Clash::Most { node, concept })
             } else {
-                Ok(None)
+                None
             }
         }
-        _ => Ok(None),
+        _ => None,
     }
 }
 
 // A clash by one of these, which are all 'at most' with this filler.
 fn find_by_mosts<S: State, R: Rules>(
-    alloc: Global,
     state: &S,
     rules: &R,
     node: u32,
     filler: u32,
     concepts: &[u32],
-) -> Result<Option<Clash>, NoMemory>
+) -> Option<Clash>
     requires is_node { node < node_count (S.facts state.now) }
     requires shapes { All (IsMost (R.context rules.now).table filler) concepts.now }
     ensures { let w = R.context rules.now in let fs = S.facts state.now in
-        IfOk result (λ found. MatchOption found (All (NotOverrun w fs node filler) concepts.now) (IsShown w fs)) }
+        MatchOption result (All (NotOverrun w fs node filler) concepts.now) (IsShown w fs) }
 {
     for concept in concepts {
-        match find_by_most(alloc, state, rules, node, filler, *concept)? {
-            Some(clash) => return Ok(Some(clash)),
+        match find_by_most(state, rules, node, filler, *concept) {
+            Some(clash) => return Some(clash),
             None => {}
         }
     }
-    Ok(None)
+    None
 }
 
 // A clash by the complement of the concept, where it is a class, or where it is the complement of one.
@@ -137,96 +113,75 @@ fn find_opposite<S: State, R: Rules>(state: &S, rules: &R, node: u32, concept: u
 }
 
 // A clash at the node by the concept.
-fn find_at_node<S: State, R: Rules>(
-    alloc: Global,
-    state: &S,
-    rules: &R,
-    node: u32,
-    concept: u32,
-) -> Result<Option<Clash>, NoMemory>
+fn find_at_node<S: State, R: Rules>(state: &S, rules: &R, node: u32, concept: u32) -> Option<Clash>
     requires is_node { node < node_count (S.facts state.now) }
     requires holds { holds (S.facts state.now) node concept ≡ true }
     ensures { let w = R.context rules.now in let fs = S.facts state.now in
-        IfOk result (λ found. MatchOption found (NoneByShape w fs node (shape_of w.table concept)) (IsShown w fs)) }
+        MatchOption result (NoneByShape w fs node (shape_of w.table concept)) (IsShown w fs) }
 {
     rules.is_ready();
     match rules.shape(concept) {
-        Shape::Bottom => Ok(Some(Clash::Bottom { node, concept })),
+        Shape::Bottom => Some(Clash::Bottom { node, concept }),
         Shape::Name(_) => match find_opposite(state, rules, node, concept) {
-            Some(complement) => Ok(Some(Clash::Both {
+            Some(complement) => Some(Clash::Both {
                 node,
                 class: concept,
                 complement,
-            })),
-            None => Ok(None),
+            }),
+            None => None,
         },
         Shape::NotName(_) => match find_opposite(state, rules, node, concept) {
-            Some(class) => Ok(Some(Clash::Both {
+            Some(class) => Some(Clash::Both {
                 node,
                 class,
                 complement: concept,
-            })),
-            None => Ok(None),
+            }),
+            None => None,
         },
         Shape::Max(count, role, filler) => {
-            if is_overrun(alloc, state, rules, node, count, role, filler)? {
-                Ok(Some(Clash::Most { node, concept }))
+            if is_overrun(state, rules, node, count, role, filler) {
+                Some(Clash::Most { node, concept })
             } else {
-                Ok(None)
+                None
             }
         }
-        _ => Ok(None),
+        _ => None,
     }
 }
 
 // A clash above the node by its concept.
-fn find_above<S: State, R: Rules>(
-    alloc: Global,
-    state: &S,
-    rules: &R,
-    node: u32,
-    concept: u32,
-) -> Result<Option<Clash>, NoMemory>
+fn find_above<S: State, R: Rules>(state: &S, rules: &R, node: u32, concept: u32) -> Option<Clash>
     requires is_node { node < node_count (S.facts state.now) }
     requires speak { speak_of_nodes (S.facts state.now) ≡ true }
     requires above { IsOfParent (S.facts state.now) node }
     ensures { let w = R.context rules.now in let fs = S.facts state.now in
-        IfOk result (λ found. MatchOption found (NoneAbove w fs node concept) (IsShown w fs)) }
+        MatchOption result (NoneAbove w fs node concept) (IsShown w fs) }
 {
     let up = match state.parent(state.representative(node)) {
         Some(up) => up,
-        None => return Ok(None),
+        None => return None,
     };
     let above = state.representative(up);
-    let found = find_by_mosts(alloc, state, rules, above, concept, rules.mosts(concept))?;
-    Ok(found)
+    find_by_mosts(state, rules, above, concept, rules.mosts(concept))
 }
 
 /// A plain clash that is there since the node has the concept; none exactly where there is none.
-///
-/// # Errors
-///
-/// Want of memory.
 pub fn find_clash<S: State, R: Rules>(
-    alloc: Global,
     state: &S,
     rules: &R,
     node: u32,
     concept: u32,
-) -> Result<Option<Clash>, NoMemory>
+) -> Option<Clash>
     requires is_node { node < node_count (S.facts state.now) }
     requires holds { holds (S.facts state.now) node concept ≡ true }
     requires speak { speak_of_nodes (S.facts state.now) ≡ true }
     requires above { IsOfParent (S.facts state.now) node }
     ensures { let w = R.context rules.now in let fs = S.facts state.now in
-        IfOk result (λ found. MatchOption found (NoClashBy w fs node concept) (IsShown w fs)) }
+        MatchOption result (NoClashBy w fs node concept) (IsShown w fs) }
 {
-    match find_at_node(alloc, state, rules, node, concept)? {
-        Some(clash) => Ok(Some(clash)),
-        None => {
-            let found = find_above(alloc, state, rules, node, concept)?;
-            Ok(found)
-        }
+    match find_at_node(state, rules, node, concept) {
+        Some(clash) => Some(clash),
+        None => find_above(state, rules, node, concept),
     }
 }
 
@@ -242,65 +197,60 @@ fn counts_by<R: Rules>(rules: &R, concept: u32, role: u32) -> bool
 
 // A clash by an 'at most' with this filler, if the node has it and it counts successors by this role.
 fn find_by_most_over<S: State, R: Rules>(
-    alloc: Global,
     state: &S,
     rules: &R,
     node: u32,
     role: u32,
     filler: u32,
     concept: u32,
-) -> Result<Option<Clash>, NoMemory>
+) -> Option<Clash>
     requires is_node { node < node_count (S.facts state.now) }
     requires shape { IsMost (R.context rules.now).table filler concept }
     ensures { let w = R.context rules.now in let fs = S.facts state.now in
-        IfOk result (λ found. MatchOption found (NotOverrunOver w fs node role filler concept) (IsShown w fs)) }
+        MatchOption result (NotOverrunOver w fs node role filler concept) (IsShown w fs) }
 {
     if !counts_by(rules, concept, role) {
-        return Ok(None);
+        return None;
     }
-    let found = find_by_most(alloc, state, rules, node, filler, concept)?;
-    Ok(found)
+    find_by_most(state, rules, node, filler, concept)
 }
 
 // A clash by one of these, which are all 'at most' with this filler, that counts successors by this role.
 fn find_by_mosts_over<S: State, R: Rules>(
-    alloc: Global,
     state: &S,
     rules: &R,
     node: u32,
     role: u32,
     filler: u32,
     concepts: &[u32],
-) -> Result<Option<Clash>, NoMemory>
+) -> Option<Clash>
     requires is_node { node < node_count (S.facts state.now) }
     requires shapes { All (IsMost (R.context rules.now).table filler) concepts.now }
     ensures { let w = R.context rules.now in let fs = S.facts state.now in
-        IfOk result (λ found. MatchOption found (All (NotOverrunOver w fs node role filler) concepts.now) (IsShown w fs)) }
+        MatchOption result (All (NotOverrunOver w fs node role filler) concepts.now) (IsShown w fs) }
 {
     for concept in concepts {
-        match find_by_most_over(alloc, state, rules, node, role, filler, *concept)? {
-            Some(clash) => return Ok(Some(clash)),
+        match find_by_most_over(state, rules, node, role, filler, *concept) {
+            Some(clash) => return Some(clash),
             None => {}
         }
     }
-    Ok(None)
+    None
 }
 
 // A clash by an 'at most' of the node with this filler that counts successors by this role.
 fn find_by_filler<S: State, R: Rules>(
-    alloc: Global,
     state: &S,
     rules: &R,
     node: u32,
     role: u32,
     filler: u32,
-) -> Result<Option<Clash>, NoMemory>
+) -> Option<Clash>
     requires { node < node_count (S.facts state.now) }
     ensures { let w = R.context rules.now in let fs = S.facts state.now in
-        IfOk result (λ found. MatchOption found (NoneOver w fs node role filler) (IsShown w fs)) }
+        MatchOption result (NoneOver w fs node role filler) (IsShown w fs) }
 {
-    let found = find_by_mosts_over(alloc, state, rules, node, role, filler, rules.mosts(filler))?;
-    Ok(found)
+    find_by_mosts_over(state, rules, node, role, filler, rules.mosts(filler))
 }
 
 // Whether the concept is bottom.
@@ -315,130 +265,133 @@ fn is_bottom<R: Rules>(rules: &R, concept: u32) -> bool
 
 // A clash by an 'at most' of the node that counts successors by this role, and whose filler is this one or top.
 fn find_by_fillers<S: State, R: Rules>(
-    alloc: Global,
     state: &S,
     rules: &R,
     node: u32,
     role: u32,
     filler: u32,
-) -> Result<Option<Clash>, NoMemory>
+) -> Option<Clash>
     requires { node < node_count (S.facts state.now) }
     ensures { let w = R.context rules.now in let fs = S.facts state.now in
-        IfOk result (λ found. MatchOption found (NoneOver w fs node role 0 × NoneOver w fs node role filler) (IsShown w fs)) }
+        MatchOption result (NoneOver w fs node role 0 × NoneOver w fs node role filler) (IsShown w fs) }
 {
-    match find_by_filler(alloc, state, rules, node, role, 0)? {
-        Some(clash) => Ok(Some(clash)),
-        None => {
-            let found = find_by_filler(alloc, state, rules, node, role, filler)?;
-            Ok(found)
-        }
+    match find_by_filler(state, rules, node, role, 0) {
+        Some(clash) => Some(clash),
+        None => find_by_filler(state, rules, node, role, filler),
     }
 }
 
 /// A plain clash that is there since new nodes with this concept are at the ends of edges by the role from the parent, where
 /// `first` is one of them; none exactly where there is none.
-///
-/// # Errors
-///
-/// Want of memory.
 pub fn find_clash_of_new_nodes<S: State, R: Rules>(
-    alloc: Global,
     state: &S,
     rules: &R,
     parent: u32,
     role: u32,
     filler: u32,
     first: u32,
-) -> Result<Option<Clash>, NoMemory>
+) -> Option<Clash>
     requires parent { parent < node_count (S.facts state.now) }
     requires first { first < node_count (S.facts state.now) }
     requires holds { holds (S.facts state.now) first filler ≡ true }
     ensures { let w = R.context rules.now in let fs = S.facts state.now in
-        IfOk result (λ found. MatchOption found (NoClashByNew w fs parent role filler) (IsShown w fs)) }
+        MatchOption result (NoClashByNew w fs parent role filler) (IsShown w fs) }
 {
     if is_bottom(rules, filler) {
-        return Ok(Some(Clash::Bottom {
+        return Some(Clash::Bottom {
             node: first,
             concept: filler,
-        }));
+        });
     }
-    let found = find_by_fillers(alloc, state, rules, parent, role, filler)?;
-    Ok(found)
+    find_by_fillers(state, rules, parent, role, filler)
 }
 
 // A clash above the first node by the concept, where the second has it too.
 fn find_shared<S: State, R: Rules>(
-    alloc: Global,
     state: &S,
     rules: &R,
     first: u32,
     second: u32,
     concept: u32,
-) -> Result<Option<Clash>, NoMemory>
+) -> Option<Clash>
     requires is_node { first < node_count (S.facts state.now) }
     requires speak { speak_of_nodes (S.facts state.now) ≡ true }
     requires above { IsOfParent (S.facts state.now) first }
     ensures { let w = R.context rules.now in let fs = S.facts state.now in
-        IfOk result (λ found. MatchOption found (holds fs second concept ≡ true → NoneAbove w fs first concept) (IsShown w fs)) }
+        MatchOption result (holds fs second concept ≡ true → NoneAbove w fs first concept) (IsShown w fs) }
 {
     if !state.has(second, concept) {
-        return Ok(None);
+        return None;
     }
-    let found = find_above(alloc, state, rules, first, concept)?;
-    Ok(found)
+    find_above(state, rules, first, concept)
 }
 
 /// A plain clash that is there since the two nodes are apart; none exactly where there is none.
-///
-/// # Errors
-///
-/// Want of memory.
 pub fn find_clash_of_apart<S: State, R: Rules>(
-    alloc: Global,
     state: &S,
     rules: &R,
     first: u32,
     second: u32,
-) -> Result<Option<Clash>, NoMemory>
+) -> Option<Clash>
     requires is_node { first < node_count (S.facts state.now) }
     requires speak { speak_of_nodes (S.facts state.now) ≡ true }
     requires above { IsOfParent (S.facts state.now) first }
     ensures { let w = R.context rules.now in let fs = S.facts state.now in
-        IfOk result (λ found. MatchOption found (NoClashByApart w fs first second) (IsShown w fs)) }
+        MatchOption result (NoClashByApart w fs first second) (IsShown w fs) }
 {
     for concept in state.label(first) {
-        match find_shared(alloc, state, rules, first, second, *concept)? {
-            Some(clash) => return Ok(Some(clash)),
+        match find_shared(state, rules, first, second, *concept) {
+            Some(clash) => return Some(clash),
             None => {}
         }
     }
-    Ok(None)
+    None
 }
 
 /// A plain clash that is there since the node is one with another; none exactly where there is none.
-///
-/// # Errors
-///
-/// Want of memory.
-pub fn find_clash_of_join<S: State, R: Rules>(
-    alloc: Global,
-    state: &S,
-    rules: &R,
-    node: u32,
-) -> Result<Option<Clash>, NoMemory>
+pub fn find_clash_of_join<S: State, R: Rules>(state: &S, rules: &R, node: u32) -> Option<Clash>
     requires is_node { node < node_count (S.facts state.now) }
     requires speak { speak_of_nodes (S.facts state.now) ≡ true }
     requires above { IsOfParent (S.facts state.now) node }
     ensures { let w = R.context rules.now in let fs = S.facts state.now in
-        IfOk result (λ found. MatchOption found (NoClashByJoin w fs node) (IsShown w fs)) }
+        MatchOption result (NoClashByJoin w fs node) (IsShown w fs) }
 {
     for concept in state.label(node) {
-        match find_clash(alloc, state, rules, node, *concept)? {
-            Some(clash) => return Ok(Some(clash)),
+        match find_clash(state, rules, node, *concept) {
+            Some(clash) => return Some(clash),
             None => {}
         }
     }
-    Ok(None)
+    None
+}
+
+// A clash at the node by one of its concepts.
+fn find_by_label<S: State, R: Rules>(state: &S, rules: &R, node: u32) -> Option<Clash>
+    requires { node < node_count (S.facts state.now) }
+    ensures { let w = R.context rules.now in let fs = S.facts state.now in
+        MatchOption result ((c : ℕ) → holds fs node c ≡ true → NoneByShape w fs node (shape_of w.table c)) (IsShown w fs) }
+{
+    for concept in state.label(node) {
+        match find_at_node(state, rules, node, *concept) {
+            Some(clash) => return Some(clash),
+            None => {}
+        }
+    }
+    None
+}
+
+/// A plain clash of the state; none exactly where it has none.
+pub fn find_plain_clash<S: State, R: Rules>(state: &S, rules: &R) -> Option<Clash>
+    ensures { let w = R.context rules.now in let fs = S.facts state.now in
+        MatchOption result (¬ IsPlainClash (below_of w) w.table fs) (IsShown w fs) }
+{
+    for node in 0..state.nodes() {
+        match find_by_label(state, rules, node) {
+            Some(clash) => return Some(clash),
+            None => {}
+        }
+    }
+    None
 }
 
 /// What the finders show is a plain clash.

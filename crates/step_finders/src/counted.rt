@@ -33,8 +33,8 @@ pub fn filled_successors<S: State, R: Rules>(
     Ok(found)
 }
 
-// Whether an edge by a role to a node counts, where those below a role count that lead to nodes with a filler.
-fn is_counted<S: State, R: Rules>(
+/// Whether an edge by a role to a node counts, where those below a role count that lead to nodes with a filler.
+pub(crate) fn is_counted<S: State, R: Rules>(
     state: &S,
     rules: &R,
     by: u32,

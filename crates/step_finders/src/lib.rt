@@ -10,6 +10,7 @@ mod choosing;
 mod clash;
 mod counted;
 mod make;
+mod overrun;
 mod parts;
 mod reason;
 mod rows;
@@ -25,7 +26,7 @@ pub use choose::{
 pub use choosing::Choosing;
 pub use clash::{
     Clash, find_clash, find_clash_of_apart, find_clash_of_join, find_clash_of_new_nodes,
-    shown_clashes_are_plain,
+    find_plain_clash, shown_clashes_are_plain,
 };
 pub use counted::filled_successors;
 pub use make::{NewNodes, find_making, find_making_at, find_making_by};

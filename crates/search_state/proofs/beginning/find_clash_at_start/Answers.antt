@@ -1,12 +1,10 @@
 use Rattle.std.proofs.Common.{ap, subst, Option}
 use Rattle.std.specs.Prelude.{MatchOption}
-use Rattle.std.proofs.lemmas.Result.{IfOk-weaker}
 use Rattle.calculus_specs.specs.declared.facts.Fact.TheVariants.{Has}
 use Rattle.completion_tree.specs.Trail.{facts_in}
 use Rattle.step_finders.specs.declared.clash.Clash.{Clash}
 use Rattle.step_finders.specs.Clashing.{IsShown}
 use Rattle.search_state.specs.Looking.{NoClashByFact}
-use Rattle.search_state.specs.Progress.{IsClashOf}
 use Rattle.search_state.proofs.Begun.{clash_at_start}
 use Rattle.search_state.proofs.beginning.find_clash_at_start.Goals as goal
 
@@ -14,6 +12,5 @@ pub returns-in-None : goal.returns-in-None
 returns-in-None g c =
     let w = g.R.Rules.context c.args.rules.now in
     let fs = facts_in c.args.tree.now in
-    let free : NoClashByFact w fs (Has 0 c.args.sub) = subst (λ (o : Option Clash). MatchOption o (NoClashByFact w fs (Has 0 c.args.sub)) (IsShown w fs)) c.in-None.is c.in_ok-clash.ensures in
-    IfOk-weaker c.find_clash_by-in-None.result (λ o. MatchOption o (NoClashByFact w fs (Has 0 c.args.not_sup)) (IsShown w fs)) (IsClashOf w fs)
-    (λ o h. clash_at_start w c.is_ready.ensures.tabled c.args.sub c.args.not_sup fs (ap facts_in c.requires.begun) free o h) c.find_clash_by-in-None.ensures
+    let free : NoClashByFact w fs (Has 0 c.args.sub) = subst (λ (o : Option Clash). MatchOption o (NoClashByFact w fs (Has 0 c.args.sub)) (IsShown w fs)) c.in-None.is c.find_clash_by.ensures in
+    clash_at_start w c.is_ready.ensures.tabled c.args.sub c.args.not_sup fs (ap facts_in c.requires.begun) free c.find_clash_by-in-None.result c.find_clash_by-in-None.ensures

@@ -9,4 +9,4 @@ pub returns : goal.returns
 returns g c =
     let w = g.R.Rules.context c.args.rules.now in
     let m = c.args.new.now in
-    subst (λ (es : List Entry). MatchOption c.in_ok-found.found (NoClashByNew w (facts_in es) m.parent m.role m.filler) (IsShown w (facts_in es))) c.new-state.ensures.tree c.in_ok-found.ensures
+    subst (λ (es : List Entry). MatchOption c.find_clash_of_new_nodes.result (NoClashByNew w (facts_in es) m.parent m.role m.filler) (IsShown w (facts_in es))) c.new-state.ensures.tree c.find_clash_of_new_nodes.ensures

@@ -19,10 +19,10 @@ pub returns : goal.returns
 returns g c =
     let w = (g.R.Rules.context c.args.rules.now) in
     let fs = (g.S.State.facts c.args.state.now) in
-    answers_more c.in_ok-found.found (All (NotOverrun w fs c.representative-above.result c.args.concept) c.mosts.result.now) (NoneAbove w fs c.args.node c.args.concept) (IsShown w fs) (IsShown w fs)
+    answers_more c.find_by_mosts.result (All (NotOverrun w fs c.representative-above.result c.args.concept) c.mosts.result.now) (NoneAbove w fs c.args.node c.args.concept) (IsShown w fs) (IsShown w fs)
     (λ all. none_above w fs c.args.node c.args.concept c.requires.above c.in-Some.up c.mosts.result.now (sym (c.in-Some.ensures ∙ ap (parent fs) c.representative.ensures)) c.mosts.ensures
     (subst (λ (p : ℕ). All (NotOverrun w fs p c.args.concept) c.mosts.result.now) c.representative-above.ensures all))
-    (λ k h. h) c.in_ok-found.ensures
+    (λ k h. h) c.find_by_mosts.ensures
 
 pub parent-requires : goal.parent-requires
 parent-requires g c = omega (arith, c.requires.is_node, rep-le (g.S.State.facts c.args.state.now) c.args.node, c.representative.ensures)

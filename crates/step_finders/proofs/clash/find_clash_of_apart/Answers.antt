@@ -16,4 +16,4 @@ loop-concept-preserved g c =
     let fs = g.S.State.facts c.args.state.now in
     each_more (λ (e : ℕ). has fs c.args.second e ≡ true → NoneAbove w fs c.args.first e) c.label-concept-items.result.now c.loop-concept.concept-index 0 c.loop-concept.invariant (omega (arith, c.loop-concept-test.true))
     (none_said (has fs c.args.second (get_or c.label-concept-items.result.now c.loop-concept.concept-index 0) ≡ true → NoneAbove w fs c.args.first (get_or c.label-concept-items.result.now c.loop-concept.concept-index 0)) (IsShown w fs)
-    c.in_ok-clash.field-0 c.in-None.is c.in_ok-clash.ensures)
+    c.find_shared.result c.in-None.is c.find_shared.ensures)

@@ -14,4 +14,4 @@ loop-concept-preserved g c =
     let w = g.R.Rules.context c.args.rules.now in
     let fs = g.S.State.facts c.args.state.now in
     each_more (NoClashBy w fs c.args.node) c.label-concept-items.result.now c.loop-concept.concept-index 0 c.loop-concept.invariant (omega (arith, c.loop-concept-test.true))
-    (none_said (NoClashBy w fs c.args.node (get_or c.label-concept-items.result.now c.loop-concept.concept-index 0)) (IsShown w fs) c.in_ok-clash.field-0 c.in-None.is c.in_ok-clash.ensures)
+    (none_said (NoClashBy w fs c.args.node (get_or c.label-concept-items.result.now c.loop-concept.concept-index 0)) (IsShown w fs) c.find_clash.result c.in-None.is c.find_clash.ensures)

@@ -10,4 +10,4 @@ returns-clause-found g c =
     let old : ProgressLists = record { query = s.query.now; sub = s.sub; not_sup = s.not_sup; entries = s.tree; prints = s.prints; trace = s.trace; marks = reverse s.marks.items; clash = s.clash; steps = s.steps } in
     let is : old ≡ c.args.self.now = c.self.view_is in
     looked w old (subst (λ (q : ProgressLists). IsStanding w q) (sym is) c.requires.standing) c.args.fact
-    (subst (λ (q : ProgressLists). IsLast w q.entries c.args.fact) (sym is) c.requires.last) c.in_ok-self-inside.field-0 c.in_ok-self-inside.ensures
+    (subst (λ (q : ProgressLists). IsLast w q.entries c.args.fact) (sym is) c.requires.last) c.find_clash_by-clash.result c.find_clash_by-clash.ensures

@@ -14,4 +14,4 @@ returns-clause-begun g c =
     let es = c.put_start-2.new.tree in
     let are : es ≡ begun_entries sub not_sup =
     c.in_ok-put_start-2.ensures ∙ ap (λ (xs : List Entry). xs ++ Grounded (Has 0 not_sup) by_start ∷ []) (c.in_ok-put_start.ensures ∙ ap (λ (xs : List Entry). xs ++ Grounded (Has 0 sub) by_start ∷ []) c.in_ok-tree.ensures) in
-    begins w c.args.query.now sub not_sup c.requires es are c.follow.new.self c.in_ok-follow.ensures.followed c.new.result c.new.ensures (reverse c.new-2.result.items) (ap reverse c.new-2.ensures.items) c.in_ok-clash.clash c.in_ok-clash.ensures
+    begins w c.args.query.now sub not_sup c.requires es are c.follow.new.self c.in_ok-follow.ensures.followed c.new.result c.new.ensures (reverse c.new-2.result.items) (ap reverse c.new-2.ensures.items) c.find_clash_at_start-clash.result c.find_clash_at_start-clash.ensures

@@ -1,0 +1,18 @@
+use Rattle.std.proofs.Common.{◌≡◌, ◌+◌, ◌≤◌, length}
+use Rattle.calculus_specs.specs.State.{all_apart, node_count}
+use Rattle.tableau_specs.specs.Clash.{filled_successors}
+use Rattle.tableau_specs.specs.Steps.{below_of}
+use Rattle.step_finders.specs.Filled.{filled_from}
+use Rattle.step_finders.proofs.overrun.is_overrun.Given as goal
+
+-- the successors from `from` on are those that were not counted, and are pairwise apart where all are
+abbrev pub invariant-loop-next : goal.invariant-loop-next
+invariant-loop-next g l =
+    let below = below_of (g.R.Rules.context l.rules) in
+    let fs = g.S.State.facts l.state in
+    let later = filled_from below fs l.node l.role l.filler l.from in
+    let all = filled_successors below fs l.node l.role l.filler in
+    (l.more + length later ≡ length all) × (all_apart fs later ≡ all_apart fs all) × (l.more ≤ l.from) × (l._nodes ≡ node_count fs)
+
+abbrev pub decreases-loop-next : goal.decreases-loop-next
+decreases-loop-next g l = length (filled_from (below_of (g.R.Rules.context l.rules)) (g.S.State.facts l.state) l.node l.role l.filler l.from)
