@@ -4,10 +4,9 @@ ghost use Rattle.step_finders.specs.Stepping.{IsStep};
 
 use crate::NoMemory;
 use crate::additions::first_addition;
-use crate::branchings::{first_most, first_union};
+use crate::branchings::{Wanted, first_branching};
 use crate::forced::first_forced;
 use crate::makings::{Held, first_held, first_making};
-use crate::pairs::first_pair;
 use crate::watched::UnionIndex;
 use blocking::least_changed;
 use completion_tree::Tree;
@@ -168,7 +167,14 @@ impl Agenda {
     ) -> Result<Option<Step>, NoMemory>
         ensures { IfOk result (λ found. IfSome found (IsStep (R.context rules.now) (S.facts state.now) (R.files rules.now))) }
     {
-        let (place, pair) = first_pair(heap, tree, state, rules, self.cursors.pairs)?;
+        let (place, pair) = first_branching(
+            heap,
+            tree,
+            state,
+            rules,
+            Wanted::Pair,
+            self.cursors.pairs,
+        )?;
         self.count_looks(self.cursors.pairs, place);
         self.cursors.pairs = place;
         match pair {
@@ -235,7 +241,14 @@ impl Agenda {
     ) -> Result<Option<Step>, NoMemory>
         ensures { IfOk result (λ found. IfSome found (IsStep (R.context rules.now) (S.facts state.now) (R.files rules.now))) }
     {
-        let (place, union) = first_union(tree, state, rules, self.cursors.unions);
+        let (place, union) = first_branching(
+            heap,
+            tree,
+            state,
+            rules,
+            Wanted::Part,
+            self.cursors.unions,
+        )?;
         self.count_looks(self.cursors.unions, place);
         self.cursors.unions = place;
         match union {
@@ -254,7 +267,14 @@ impl Agenda {
     ) -> Result<Option<Step>, NoMemory>
         ensures { IfOk result (λ found. IfSome found (IsStep (R.context rules.now) (S.facts state.now) (R.files rules.now))) }
     {
-        let (place, most) = first_most(heap, tree, state, rules, self.cursors.mosts)?;
+        let (place, most) = first_branching(
+            heap,
+            tree,
+            state,
+            rules,
+            Wanted::Most,
+            self.cursors.mosts,
+        )?;
         self.count_looks(self.cursors.mosts, place);
         self.cursors.mosts = place;
         match most {

@@ -3,28 +3,40 @@ ghost use Rattle.std.specs.Prelude.{◌≡◌, ◌<◌, IfOk, IfSome};
 ghost use Rattle.step_finders.specs.Choosing.{IsChoosable};
 
 use crate::NoMemory;
+use crate::pairs::pair_by;
 use calculus_specs::Fact;
 use completion_tree::{Item, Tree};
 use std::alloc::{Allocator, Global};
 use step_finders::{Choosing, Rules, State, find_most_at, find_most_by, find_union_by};
 
-/// The first entry from this one on by which a filler or a pair of successors is to be chosen, and which; or the length of the
-/// trail.
+/// What is looked for.
+#[derive(Clone, Copy)]
+pub(crate) enum Wanted {
+    /// Two successors that are to be made one or kept apart.
+    Pair,
+    /// A union of which a part is to be chosen.
+    Part,
+    /// A successor of which a filler or its complement is to be chosen, or a pair.
+    Most,
+}
+
+/// The first entry from this one on by which there is something to choose, and what; or the length of the trail.
 ///
 /// # Errors
 ///
 /// Want of memory.
-pub(crate) fn first_most<A: Allocator + Copy, S: State, R: Rules>(
+pub(crate) fn first_branching<A: Allocator + Copy, S: State, R: Rules>(
     heap: Global,
     tree: &Tree<A>,
     state: &S,
     rules: &R,
+    wanted: Wanted,
     from: u32,
 ) -> Result<(u32, Option<Choosing>), NoMemory>
     ensures { IfOk result (λ p. IfSome p.1 (IsChoosable (R.context rules.now) (S.facts state.now))) }
 {
     for place in from..tree.len() {
-        match most_by(heap, tree.item(place), state, rules)? {
+        match branching_by(heap, wanted, tree.item(place), state, rules)? {
             Some(choosing) => return Ok((place, Some(choosing))),
             None => {}
         }
@@ -32,7 +44,23 @@ pub(crate) fn first_most<A: Allocator + Copy, S: State, R: Rules>(
     Ok((tree.len(), None))
 }
 
-// What is to be chosen by the entry.
+fn branching_by<S: State, R: Rules>(
+    heap: Global,
+    wanted: Wanted,
+    item: Item,
+    state: &S,
+    rules: &R,
+) -> Result<Option<Choosing>, NoMemory>
+    ensures { IfOk result (λ found. IfSome found (IsChoosable (R.context rules.now) (S.facts state.now))) }
+{
+    match wanted {
+        Wanted::Pair => pair_by(heap, item, state, rules),
+        Wanted::Part => Ok(union_by(item, state, rules)),
+        Wanted::Most => most_by(heap, item, state, rules),
+    }
+}
+
+// A filler or a pair that is to be chosen by the entry.
 fn most_by<S: State, R: Rules>(
     heap: Global,
     item: Item,
@@ -83,24 +111,6 @@ fn most_at<S: State, R: Rules>(
         return Ok(None);
     }
     find_most_at(heap, state, rules, node)
-}
-
-/// The first entry from this one on that is a union of which a part is to be chosen, and which; or the length of the trail.
-pub(crate) fn first_union<A: Allocator + Copy, S: State, R: Rules>(
-    tree: &Tree<A>,
-    state: &S,
-    rules: &R,
-    from: u32,
-) -> (u32, Option<Choosing>)
-    ensures { IfSome result.1 (IsChoosable (R.context rules.now) (S.facts state.now)) }
-{
-    for place in from..tree.len() {
-        match union_by(tree.item(place), state, rules) {
-            Some(choosing) => return (place, Some(choosing)),
-            None => {}
-        }
-    }
-    (tree.len(), None)
 }
 
 // The union of the entry, where a part of it is to be chosen.

@@ -5,40 +5,20 @@ ghost use Rattle.step_finders.specs.Choosing.{IsChoosable};
 use crate::NoMemory;
 use crate::forced::above;
 use calculus_specs::Fact;
-use completion_tree::{Item, Tree};
+use completion_tree::Item;
 use shq_nnf::Shape;
-use std::alloc::{Allocator, Global};
+use std::alloc::Global;
 use step_finders::{Choosing, Rules, State, find_pair_by};
 
 // Top, the filler that each node has.
 const TOP: u32 = 0;
 
-/// The first entry from this one on by which two successors are to be made one or kept apart, and which; or the length of the
-/// trail.
+/// A pair that is to be chosen by the entry.
 ///
 /// # Errors
 ///
 /// Want of memory.
-pub(crate) fn first_pair<A: Allocator + Copy, S: State, R: Rules>(
-    heap: Global,
-    tree: &Tree<A>,
-    state: &S,
-    rules: &R,
-    from: u32,
-) -> Result<(u32, Option<Choosing>), NoMemory>
-    ensures { IfOk result (λ p. IfSome p.1 (IsChoosable (R.context rules.now) (S.facts state.now))) }
-{
-    for place in from..tree.len() {
-        match pair_by(heap, tree.item(place), state, rules)? {
-            Some(choosing) => return Ok((place, Some(choosing))),
-            None => {}
-        }
-    }
-    Ok((tree.len(), None))
-}
-
-// A pair that is to be chosen by the entry.
-fn pair_by<S: State, R: Rules>(
+pub(crate) fn pair_by<S: State, R: Rules>(
     heap: Global,
     item: Item,
     state: &S,
