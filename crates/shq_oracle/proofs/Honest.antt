@@ -1,6 +1,7 @@
 -- What a search that ends says is honest.
 use Rattle.std.proofs.Common.{◌≡◌, ℕ, zero, suc, ◌+◌, ◌≤◌, List, [], ◌∷◌, ◌++◌, take, Some, ap, sym, subst, ◌∙◌, arith, inl, inr}
-use Rattle.std.specs.Prelude.{slice_get, Result, Ok, Err, IfOk}
+use Rattle.std.specs.Prelude.{slice_get, Option, None, Result, Ok, Err, IfOk, IfSome}
+use Rattle.shq_terms.specs.Concept.{name}
 use Rattle.shq_terms.specs.NoMemory.{NoMemory}
 use Rattle.axiom_sets.specs.Sets.{Limited, member_list}
 use Rattle.shq_terms.specs.declared.axioms.Query.{Query}
@@ -11,7 +12,7 @@ use Rattle.tableau.proofs.CounterModelLaws.{saturated_does_not_entail}
 use Rattle.tableau.specs.SearchState.{SearchState, context_of, trail_of, IsReachedBy}
 use Rattle.tableau.specs.declared.search.End.{End}
 use Rattle.tableau.specs.declared.search.End.TheVariants.{Saturated, Closed, Spent as OutOfFuel}
-use Rattle.tableau.specs.Steps.{IsAtModel, IsAtRefutation, IsEnd}
+use Rattle.tableau.specs.Steps.{IsAtModel, IsAtRefutation, IsEnd, AreLeftOut, ShowsApart}
 use Rattle.run_log.specs.Trails.{TrailLists}
 use Rattle.run_log.specs.HonestLog.{IsAxiomSet, FollowsIn, IsHonestYes, IsHonestNo, GoesOn}
 use Rattle.run_log.proofs.Named.{more}
@@ -22,6 +23,7 @@ use Rattle.shq_oracle.specs.declared.answer.Outcome.{Outcome}
 use Rattle.shq_oracle.specs.declared.answer.Outcome.TheVariants.{Yes, No, Undecided}
 use Rattle.shq_oracle.specs.declared.found.Found.{Found}
 use Rattle.shq_oracle.specs.declared.tested.Tested.{Tested}
+use Rattle.shq_oracle.specs.ApartLists.{AreApart}
 use Rattle.shq_oracle.specs.Decided.{IsProof, IsFound, IsFoundBy, IsTested, IsTestedBy, EndsTest, MayGoOn, HasEnded}
 
 -- one item more
@@ -94,6 +96,25 @@ module _ (s : SearchState) (reached : IsReachedBy s) where
         honest = subst (λ (v : TrailLists). GoesOn s.rules.ontology s.rules.set s.query k v) (sym e) honest;
         fueled = f ∙ whole;
       }
+
+-- ---- further classes
+
+-- what is left out is shown where anything is
+pub if_shown : (s : SearchState) (found : Result (Option Limited) NoMemory) → IfOk found (ShowsApart s) → IfOk found (λ f. IfSome f (AreLeftOut s))
+if_shown s (Ok None) h = tt
+if_shown s (Ok (Some classes)) h = h
+if_shown s (Err e) h = tt
+
+-- of each class that was left out the log may say so
+pub left_out : (s : SearchState) (k : ℕ) → k ≡ s.steps → (found : Option Limited) → IfSome found (AreLeftOut s) → IfSome found (AreApart s.rules.ontology s.rules.set s.query.sub k)
+left_out s k e None h = tt
+left_out s k e (Some classes) h = record {
+  limit_is = h.limit_is;
+  honest = λ a lt member.
+      let shown = h.apart a lt member in
+      let honest : IsHonestNo s.rules.ontology s.rules.set (record { sub = s.query.sub; sup = name a }) s.steps = record { follows_not = shown.follows_not; cost = shown.cost } in
+      subst (λ (n : ℕ). IsHonestNo s.rules.ontology s.rules.set (record { sub = s.query.sub; sup = name a }) n) (sym e) honest;
+}
 
 -- ---- for the rules and the query of the search
 

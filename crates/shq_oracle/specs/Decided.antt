@@ -1,5 +1,5 @@
 -- What the answer to a question is, and what the log says of it.
-use Rattle.std.specs.Prelude.{◌≡◌, ℕ, ◌≤◌, ◌<◌, Bool, true, false, IsTrue, List, [], ◌∷◌, ◌++◌}
+use Rattle.std.specs.Prelude.{◌≡◌, ℕ, ◌≤◌, ◌<◌, Bool, true, false, IsTrue, List, [], ◌∷◌, ◌++◌, IfSome}
 use Rattle.lane_sieve.specs.Sets.{IsPart}
 use Rattle.axiom_sets.specs.Sets.{Limited, member_list}
 use Rattle.shq_terms.specs.Listed.{Listed}
@@ -27,9 +27,11 @@ use Rattle.shq_oracle.specs.declared.answer.Answer.{Answer}
 use Rattle.shq_oracle.specs.declared.answer.Answer.TheVariants as Answered
 use Rattle.shq_oracle.specs.declared.answer.Outcome.{Outcome}
 use Rattle.shq_oracle.specs.declared.answer.Outcome.TheVariants.{Yes, No, Undecided}
+use Rattle.shq_oracle.specs.declared.answer.Shown.{Shown}
 use Rattle.shq_oracle.specs.declared.found.Found.{Found}
 use Rattle.shq_oracle.specs.declared.tested.Tested.{Tested}
 use Rattle.shq_oracle.specs.OracleLists.{OracleLists}
+use Rattle.shq_oracle.specs.ApartLists.{ApartLists, AreApart, IsAbout, entry_of}
 
 -- a refutation of the query over axioms of the set, which it names, and which can be written; of the set it names the role
 -- axioms, and those others alone that stand in its lines
@@ -85,6 +87,17 @@ pub record AddsTest (o : Listed) (s : Limited) (q : Query) (before after : List 
 abbrev pub AppendsTest : Listed → Limited → Query → List Entry → List Entry → Answer → Type 0
 AppendsTest o s q before after a = AddsTest o s q before after (outcome_of a)
 
+-- the same, and what it shows of further classes took as many steps as the test
+pub record AddsShown (o : Listed) (s : Limited) (q : Query) (before after : List Entry) (v : Shown) : Type 0 where
+  pub test : AddsTest o s q before after v.outcome
+  pub about : IfSome v.apart (IsAbout o s q.sub)
+  pub counted : IfSome v.apart (λ a. a.steps ≡ test.steps)
+
+-- the entry that the class expression is not part of the class was put last, and it is honest; or nothing has changed
+abbrev pub Notes : OracleLists → OracleLists → ApartLists → ℕ → Bool → Type 0
+Notes old new a class true = (new.log ≡ old.log ++ entry_of a class ∷ []) × IsHonestEntry old.ontology (entry_of a class)
+Notes old new a class false = new ≡ old
+
 -- where the budget is the outcome, nothing of it is left
 abbrev pub SpendsAll : OracleLists → Outcome → Type 0
 SpendsAll l (Yes u) = Unit {0}
@@ -122,6 +135,7 @@ pub record IsFound (o : Listed) (s : Limited) (q : Query) (fuel : ℕ) (f : Foun
 -- what the outcome of a search is, with so much fuel
 pub record IsTested (o : Listed) (s : Limited) (q : Query) (fuel : ℕ) (t : Tested) : Type 0 where
   pub outcome : IsOutcome o s q t.outcome
+  pub apart : IfSome t.apart (AreApart o s q.sub t.steps)
   pub test : EndsTest o s q fuel t.outcome t.steps t.ended
 
 -- the same of a search, with its rules and its query

@@ -1,2 +1,3 @@
 pub mod OracleLists
+pub mod ApartLists
 pub mod Decided

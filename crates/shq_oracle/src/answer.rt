@@ -1,5 +1,6 @@
 // What a question is answered.
 
+use crate::Apart;
 use axiom_sets::AxiomSet;
 use finite_model::Interp;
 use refutation_tree::Refutation;
@@ -24,4 +25,13 @@ pub enum Outcome {
     No,
     /// The budget was spent.
     Undecided,
+}
+
+/// An outcome, and what the search shows of further classes where it is a no.
+#[derive(Drop)]
+pub struct Shown<'a> {
+    /// Whether the query follows.
+    pub outcome: Outcome,
+    /// Classes of which the query's subclass is no part either.
+    pub apart: Option<Apart<'a>>,
 }

@@ -1,17 +1,18 @@
 // Questions whether queries follow, answered within a budget.
-ghost use Rattle.std.specs.Prelude.{◌≡◌, ◌+◌, ◌≤◌, [], ◌∷◌, ◌++◌, false, length, IfOk, IfSome, OnOk, OnErr};
+ghost use Rattle.std.specs.Prelude.{◌≡◌, ◌↔◌, ◌+◌, ◌<◌, ◌≤◌, [], ◌∷◌, ◌++◌, true, false, length, IfOk, IfSome, OnOk, OnErr};
 ghost use Rattle.run_log.specs.declared.entry.Entry.TheVariants.{Test};
 ghost use Rattle.std.specs.List.{list_any};
 ghost use Rattle.axiom_sets.specs.Sets.{IsWithin};
 ghost use Rattle.ontology_limits.specs.Limits.{IsOntologyInLimit, IsInLimit};
 ghost use Rattle.run_log.specs.Entries.{spent_of, is_spent, IsAnswered};
-ghost use Rattle.run_log.specs.HonestLog.{IsAxiomSet};
+ghost use Rattle.run_log.specs.HonestLog.{IsAxiomSet, IsHonestEntry};
 ghost use Rattle.shq_oracle.specs.Decided.{IsAnswer, AppendsTest, LeavesNothing, IsFound};
-ghost use Rattle.shq_oracle.specs.Decided.{IsOutcome, AddsTest, SpendsAll, IsTested, TakesNode};
+ghost use Rattle.shq_oracle.specs.Decided.{IsOutcome, AddsTest, AddsShown, Notes, SpendsAll, IsTested, TakesNode};
+ghost use Rattle.shq_oracle.specs.ApartLists.{query_of, entry_of, AreApart, IsAbout, MayNote};
 
 use crate::found::{Found, search};
 use crate::tested::{Tested, test};
-use crate::{Answer, Entry, NoMemory, Outcome, RunLog, TestEnd};
+use crate::{Answer, Apart, Entry, NoMemory, Outcome, RunLog, Shown, TestEnd};
 use axiom_sets::AxiomSet;
 use shq_terms::{Ontology, Query};
 use std::alloc::Global;
@@ -50,8 +51,8 @@ impl<'a> Model for Oracle<'a> {
 impl<'a> Oracle<'a> {
     ghost use Rattle.shq_oracle.specs.OracleLists.{OracleLists};
 
-    /// An oracle over the axioms of the ontology that goes on with a log, with a budget of steps and nodes. The memory that it
-    /// takes is `alloc`'s.
+    /// An oracle over the axioms of the ontology that goes on with a log, with a budget of steps and nodes. The memory
+    /// that it takes is `alloc`'s.
     pub fn new(alloc: Global, ontology: &'a Ontology, budget: u32, log: RunLog) -> Oracle<'a>
         requires { spent_of log ≤ budget }
         ensures { result ≡ record { ontology = ontology.now; budget = budget; log = log } }
@@ -95,8 +96,8 @@ impl<'a> Oracle<'a> {
         u64::from(self.budget) - self.log.spent()
     }
 
-    /// Whether the query follows from the axioms of the set, which the log does not answer. The answer comes with its evidence,
-    /// and one entry more in the log says how the test went; or the whole budget is spent.
+    /// Whether the query follows from the axioms of the set, which the log does not answer. The answer comes with its
+    /// evidence, and one entry more in the log says how the test went; or the whole budget is spent.
     ///
     /// # Errors
     /// Memory may be refused; the log is as before then.
@@ -120,8 +121,8 @@ impl<'a> Oracle<'a> {
         self.note(set, query, found)
     }
 
-    /// Whether the query follows, as [`decide`](Oracle::decide) answers it, with the same entry in the log but without evidence:
-    /// no model is made, and of a refutation the axioms alone are handed out.
+    /// Whether the query follows, as [`decide`](Oracle::decide) answers it, with the same entry in the log but without
+    /// evidence: no model is made, and of a refutation the axioms alone are handed out.
     ///
     /// # Errors
     /// Memory may be refused; the log is as before then.
@@ -141,12 +142,64 @@ impl<'a> Oracle<'a> {
         ensures unchanged { OnErr result (self.new.log ≡ self.old.log) }
     {
         let fuel = self.left();
-        let tested = self.try_out(set, query, fuel)?;
+        let tested = self.try_out(set, query, fuel, false)?;
         self.note_outcome(set, query, tested)
     }
 
-    /// Takes one unit of the budget for a node of a hitting-set tree, where one is left, and puts the node's entry last. Answers
-    /// whether one was left.
+    /// The same as [`test`](Oracle::test), and hands out what the search shows of further classes where the query does
+    /// not follow. It shows some mostly where the query is whether anything is in a class expression.
+    ///
+    /// # Errors
+    /// Memory may be refused; the log is as before then.
+    #[tactic(auto, using(crate::proofs::Adding::adds_shown))]
+    pub fn test_apart(&mut self, set: &AxiomSet, query: &Query) -> Result<Shown<'a>, NoMemory>
+        requires limit { set.now.limit ≡ length self.old.ontology.axioms }
+        requires in_limit { IsInLimit self.old.ontology query.now }
+        requires goes_on { list_any is_spent self.old.log ≡ false }
+        requires is_new { ¬ IsAnswered self.old.log set.now query.now }
+
+        ensures outcome { IfOk result (λ s. IsOutcome self.old.ontology set.now query.now s.outcome) }
+        ensures entry { IfOk result (AddsShown self.old.ontology set.now query.now self.old.log self.new.log) }
+        ensures spent { IfOk result (λ s. SpendsAll self.new s.outcome) }
+        ensures within { spent_of self.new.log ≤ self.new.budget }
+
+        ensures same_ontology { self.new.ontology ≡ self.old.ontology }
+        ensures same_budget { self.new.budget ≡ self.old.budget }
+        ensures unchanged { OnErr result (self.new.log ≡ self.old.log) }
+    {
+        let fuel = self.left();
+        let tested = self.try_out(set, query, fuel, true)?;
+        self.note_shown(set, query, tested)
+    }
+
+    /// Puts the entry of a test whether a class expression is part of a class last, which an earlier search shows that
+    /// it is not, where as many steps are left of the budget as that search made. Answers whether it did so.
+    ///
+    /// # Errors
+    /// Memory may be refused; the log is as before then.
+    pub fn note_apart(&mut self, apart: &Apart<'_>, class: u32) -> Result<bool, NoMemory>
+        requires ontology { apart.now.ontology ≡ self.old.ontology }
+        requires listed { class < length self.old.ontology.classes }
+        requires goes_on { list_any is_spent self.old.log ≡ false }
+        requires is_new { ¬ IsAnswered self.old.log apart.now.set (query_of apart.now class) }
+
+        ensures told { IfOk result (λ noted. (noted ≡ true) ↔ MayNote self.old apart.now class) }
+        ensures entry { IfOk result (Notes self.old self.new apart.now class) }
+        ensures within { spent_of self.new.log ≤ self.new.budget }
+
+        ensures same_ontology { self.new.ontology ≡ self.old.ontology }
+        ensures same_budget { self.new.budget ≡ self.old.budget }
+        ensures unchanged { OnErr result (self.new.log ≡ self.old.log) }
+    {
+        if !self.may_note(apart, class) {
+            return Ok(false);
+        }
+        self.log_apart(apart, class)?;
+        Ok(true)
+    }
+
+    /// Takes one unit of the budget for a node of a hitting-set tree, where one is left, and puts the node's entry
+    /// last. Answers whether one was left.
     ///
     /// # Errors
     /// Memory may be refused; the log is as before then.
@@ -176,7 +229,13 @@ impl<'a> Oracle<'a> {
     }
 
     // The same for the outcome alone.
-    fn try_out(&mut self, set: &AxiomSet, query: &Query, fuel: u64) -> Result<Tested, NoMemory>
+    fn try_out(
+        &mut self,
+        set: &AxiomSet,
+        query: &Query,
+        fuel: u64,
+        wants_apart: bool,
+    ) -> Result<Tested, NoMemory>
         requires limit { set.now.limit ≡ length self.old.ontology.axioms }
         requires in_limit { IsInLimit self.old.ontology query.now }
         ensures tested { IfOk result (IsTested self.old.ontology set.now query.now fuel) }
@@ -184,7 +243,15 @@ impl<'a> Oracle<'a> {
         ensures same { self.new ≡ self.old }
     {
         let _limit = set.limit();
-        test_by(self.alloc, &mut self.rules, self.ontology, set, query, fuel)
+        test_by(
+            self.alloc,
+            &mut self.rules,
+            self.ontology,
+            set,
+            query,
+            fuel,
+            wants_apart,
+        )
     }
 
     // Puts the entry of a test, and hands the answer on.
@@ -225,9 +292,103 @@ impl<'a> Oracle<'a> {
             outcome,
             steps,
             ended,
+            ..
         } = tested;
         self.log_test(set, query, steps, ended)?;
         Ok(outcome)
+    }
+
+    // Puts the entry of a test, and hands its outcome on with what it shows of further classes.
+    fn note_shown(
+        &mut self,
+        set: &AxiomSet,
+        query: &Query,
+        tested: Tested,
+    ) -> Result<Shown<'a>, NoMemory>
+        requires within { tested.steps + spent_of self.old.log ≤ self.old.budget }
+        requires small { self.old.budget ≤ u32.MAX }
+        requires set { IsAxiomSet self.old.ontology set.now }
+        requires apart { IfSome tested.apart (AreApart self.old.ontology set.now query.now.sub tested.steps) }
+        ensures outcome { IfOk result (λ s. s.outcome ≡ tested.outcome) }
+        ensures about { IfOk result (λ s. IfSome s.apart (IsAbout self.old.ontology set.now query.now.sub)) }
+        ensures counted { IfOk result (λ s. IfSome s.apart (λ a. a.steps ≡ tested.steps)) }
+        ensures entry { IfOk result (λ s. self.new.log ≡ self.old.log ++ Test set.now query.now tested.steps tested.ended ∷ []) }
+        ensures same_ontology { self.new.ontology ≡ self.old.ontology }
+        ensures same_budget { self.new.budget ≡ self.old.budget }
+        ensures unchanged { OnErr result (self.new.log ≡ self.old.log) }
+    {
+        let Tested {
+            outcome,
+            apart,
+            steps,
+            ended,
+        } = tested;
+        let apart = self.apart_of(set, query, steps, apart)?;
+        self.log_test(set, query, steps, ended)?;
+        Ok(Shown { outcome, apart })
+    }
+
+    // What a search with so many steps shows, if it shows that of some classes.
+    fn apart_of(
+        &self,
+        set: &AxiomSet,
+        query: &Query,
+        steps: u64,
+        classes: Option<AxiomSet>,
+    ) -> Result<Option<Apart<'a>>, NoMemory>
+        requires set { IsAxiomSet self.now.ontology set.now }
+        requires apart { IfSome classes (AreApart self.now.ontology set.now query.now.sub steps) }
+        ensures about { IfOk result (λ found. IfSome found (IsAbout self.now.ontology set.now query.now.sub)) }
+        ensures counted { IfOk result (λ found. IfSome found (λ a. a.steps ≡ steps)) }
+    {
+        match classes {
+            Some(classes) => self.kept_apart(set, query, steps, classes),
+            None => Ok(None),
+        }
+    }
+
+    fn kept_apart(
+        &self,
+        set: &AxiomSet,
+        query: &Query,
+        steps: u64,
+        classes: AxiomSet,
+    ) -> Result<Option<Apart<'a>>, NoMemory>
+        requires set { IsAxiomSet self.now.ontology set.now }
+        requires apart { AreApart self.now.ontology set.now query.now.sub steps classes }
+        ensures about { IfOk result (λ found. IfSome found (IsAbout self.now.ontology set.now query.now.sub)) }
+        ensures counted { IfOk result (λ found. IfSome found (λ a. a.steps ≡ steps)) }
+    {
+        let apart = Apart::new(self.alloc, self.ontology, set, &query.sub, steps, classes)?;
+        Ok(Some(apart))
+    }
+
+    // Whether a search has shown this of a class, and as many steps are left as it made.
+    #[tactic(auto, using(crate::proofs::Adding::may_note_shown, crate::proofs::Adding::may_not_note))]
+    fn may_note(&self, apart: &Apart<'_>, class: u32) -> bool
+        requires ontology { apart.now.ontology ≡ self.now.ontology }
+        requires listed { class < length self.now.ontology.classes }
+        ensures told { (result ≡ true) ↔ MayNote self.now apart.now class }
+        ensures honest { result ≡ true → IsHonestEntry apart.now.ontology (entry_of apart.now class) }
+        ensures small { self.now.budget ≤ u32.MAX }
+    {
+        let left = self.left();
+        apart.shows(class) && apart.steps() <= left
+    }
+
+    // Puts the entry of a test that a search answers which was made for another class.
+    fn log_apart(&mut self, apart: &Apart<'_>, class: u32) -> Result<(), NoMemory>
+        requires within { apart.now.steps + spent_of self.old.log ≤ self.old.budget }
+        requires small { self.old.budget ≤ u32.MAX }
+        ensures entry { OnOk result (self.new.log ≡ self.old.log ++ entry_of apart.now class ∷ []) }
+        ensures same_ontology { self.new.ontology ≡ self.old.ontology }
+        ensures same_budget { self.new.budget ≡ self.old.budget }
+        ensures unchanged { OnErr result (self.new.log ≡ self.old.log) }
+    {
+        let query = apart.query(self.alloc, class)?;
+        let logged = self.log_test(apart.set(), &query, apart.steps(), TestEnd::No);
+        drop(query);
+        logged
     }
 
     // Puts the entry of a test.
@@ -281,6 +442,7 @@ fn test_by<'a>(
     set: &AxiomSet,
     query: &Query,
     fuel: u64,
+    wants_apart: bool,
 ) -> Result<Tested, NoMemory>
     requires kept { IfSome kept.old (λ r. r.ontology ≡ ontology.now) }
     requires set { IsAxiomSet ontology.now set.now }
@@ -289,7 +451,7 @@ fn test_by<'a>(
     ensures kept { IfSome kept.new (λ r. r.ontology ≡ ontology.entry.now) }
 {
     let mut rules = rules_of(alloc, kept.take(), ontology, set)?;
-    let tested = ask_outcome(alloc, &mut rules, query, fuel)?;
+    let tested = ask_outcome(alloc, &mut rules, query, fuel, wants_apart)?;
     *kept = Some(rules);
     Ok(tested)
 }
@@ -353,6 +515,7 @@ fn ask_outcome(
     rules: &mut SearchRules<'_>,
     query: &Query,
     fuel: u64,
+    wants_apart: bool,
 ) -> Result<Tested, NoMemory>
     requires set { IsAxiomSet rules.old.ontology rules.old.set }
     requires in_limit { IsInLimit rules.old.ontology query.now }
@@ -360,7 +523,7 @@ fn ask_outcome(
     ensures same { rules.new.ontology ≡ rules.old.ontology }
 {
     let numbers = rules.numbers_of(alloc, query)?;
-    test(alloc, rules, query, numbers, fuel)
+    test(alloc, rules, query, numbers, fuel, wants_apart)
 }
 
 // An equal query.

@@ -1,35 +1,40 @@
 // What the outcome of one search is.
-ghost use Rattle.std.specs.Prelude.{◌≡◌, ◌≤◌, ℕ, false, IfOk};
+ghost use Rattle.std.specs.Prelude.{◌≡◌, ◌≤◌, ℕ, false, IfOk, IfSome};
 ghost use Rattle.ontology_limits.specs.Limits.{IsInLimit};
 ghost use Rattle.tableau.specs.RuleLists.{AreNumbersOf};
-ghost use Rattle.tableau.specs.Steps.{IsAtModel, IsAtRefutation};
+ghost use Rattle.tableau.specs.Steps.{IsAtModel, IsAtRefutation, AreLeftOut};
 ghost use Rattle.run_log.specs.HonestLog.{IsAxiomSet};
 ghost use Rattle.shq_oracle.specs.Decided.{IsTested, IsTestedBy, MayGoOn, HasEnded};
 
 use crate::found::kept_trail;
 use crate::{NoMemory, Outcome, TestEnd};
+use axiom_sets::AxiomSet;
 use bumpalo::Bump;
 use refutation_tree::Refutation;
 use shq_terms::Query;
 use std::alloc::{Allocator, Global};
 use tableau::{End, Search, SearchRules};
 
-/// The outcome of a search, in how many steps, and how its test ended.
+/// The outcome of a search, what it shows of further classes if that was asked for, in how many steps, and how its test
+/// ended.
 #[derive(Drop)]
 pub(crate) struct Tested {
     pub(crate) outcome: Outcome,
+    pub(crate) apart: Option<AxiomSet>,
     pub(crate) steps: u64,
     pub(crate) ended: TestEnd,
 }
 
-/// Searches with these rules whether the query follows, by at most so many steps, and makes no model. The numbers are those
-/// of what the query asks. The tree of the search lies in an arena of its own, which is let go at the end.
+/// Searches with these rules whether the query follows, by at most so many steps, and makes no model. The numbers are
+/// those of what the query asks. Where it is wanted, what a search shows of further classes is kept. The tree of the
+/// search lies in an arena of its own, which is let go at the end.
 pub(crate) fn test(
     alloc: Global,
     rules: &SearchRules<'_>,
     query: &Query,
     numbers: (u32, u32),
     fuel: u64,
+    wants_apart: bool,
 ) -> Result<Tested, NoMemory>
     requires numbers { AreNumbersOf rules.now query.now numbers.0 numbers.1 }
     requires set { IsAxiomSet rules.now.ontology rules.now.set }
@@ -37,7 +42,7 @@ pub(crate) fn test(
     ensures { IfOk result (IsTested rules.now.ontology rules.now.set query.now fuel) }
 {
     let arena = Bump::new(alloc);
-    test_in(&arena, alloc, rules, query, numbers, fuel)
+    test_in(&arena, alloc, rules, query, numbers, fuel, wants_apart)
 }
 
 #[tactic(auto, using(crate::proofs::Honest::tested_moved, crate::proofs::Honest::has_ended))]
@@ -48,6 +53,7 @@ fn test_in<A: Allocator + Copy>(
     query: &Query,
     numbers: (u32, u32),
     fuel: u64,
+    wants_apart: bool,
 ) -> Result<Tested, NoMemory>
     requires numbers { AreNumbersOf rules.now query.now numbers.0 numbers.1 }
     requires set { IsAxiomSet rules.now.ontology rules.now.set }
@@ -56,7 +62,7 @@ fn test_in<A: Allocator + Copy>(
 {
     let mut search = Search::new_in(arena, alloc, rules, query, numbers.0, numbers.1)?;
     let end = search.run(fuel)?;
-    tested_by(alloc, &search, fuel, end)
+    tested_by(alloc, &search, fuel, end, wants_apart)
 }
 
 // The outcome of a search that ended so, with this fuel.
@@ -65,6 +71,7 @@ fn tested_by<A: Allocator + Copy>(
     search: &Search<'_, A>,
     fuel: u64,
     end: End,
+    wants_apart: bool,
 ) -> Result<Tested, NoMemory>
     requires whole { search.now.failed ≡ false }
     requires set { IsAxiomSet search.now.rules.ontology search.now.rules.set }
@@ -74,23 +81,46 @@ fn tested_by<A: Allocator + Copy>(
     ensures { IfOk result (IsTestedBy search.now fuel) }
 {
     match end {
-        End::Saturated => Ok(with_no(search)),
+        End::Saturated => with_no(search, wants_apart),
         End::Closed(refutation) => with_yes(search, refutation),
         End::Spent => with_trail(alloc, search),
     }
 }
 
 // The outcome of a search that ended at a model.
-fn with_no<A: Allocator + Copy>(search: &Search<'_, A>) -> Tested
+fn with_no<A: Allocator + Copy>(
+    search: &Search<'_, A>,
+    wants_apart: bool,
+) -> Result<Tested, NoMemory>
     requires whole { search.now.failed ≡ false }
     requires in_limit { IsInLimit search.now.rules.ontology search.now.query }
     requires ended { IsAtModel search.now }
-    ensures { (fuel : ℕ) → search.now.steps ≤ fuel → IsTestedBy search.now fuel result }
+    ensures { IfOk result (λ t. (fuel : ℕ) → search.now.steps ≤ fuel → IsTestedBy search.now fuel t) }
 {
-    Tested {
+    let steps = search.steps();
+    let apart = classes_apart(search, wants_apart)?;
+    Ok(Tested {
         outcome: Outcome::No,
-        steps: search.steps(),
+        apart,
+        steps,
         ended: TestEnd::No,
+    })
+}
+
+// The classes that the search has left out, where they are wanted and it shows any.
+#[tactic(auto, using(crate::proofs::Honest::if_shown))]
+fn classes_apart<A: Allocator + Copy>(
+    search: &Search<'_, A>,
+    wanted: bool,
+) -> Result<Option<AxiomSet>, NoMemory>
+    requires whole { search.now.failed ≡ false }
+    requires ended { IsAtModel search.now }
+    ensures { IfOk result (λ found. IfSome found (AreLeftOut search.now)) }
+{
+    if wanted {
+        search.classes_apart()
+    } else {
+        Ok(None)
     }
 }
 
@@ -109,6 +139,7 @@ fn with_yes<A: Allocator + Copy>(
     let logged = refutation.axioms_used().try_clone()?;
     Ok(Tested {
         outcome: Outcome::Yes(used),
+        apart: None,
         steps,
         ended: TestEnd::Yes(logged),
     })
@@ -127,6 +158,7 @@ fn with_trail<A: Allocator + Copy>(
     let trail = kept_trail(alloc, search)?;
     Ok(Tested {
         outcome: Outcome::Undecided,
+        apart: None,
         steps,
         ended: TestEnd::Spent(trail),
     })

@@ -3,7 +3,7 @@ use Rattle.shq_oracle.proofs.Honest.{within_fuel, whole_fuel}
 use Rattle.shq_oracle.proofs.tested.tested_by.Goals as goal
 
 pub returns-in-Saturated : goal.returns-in-Saturated
-returns-in-Saturated g c = c.with_no.ensures c.args.fuel c.requires.within
+returns-in-Saturated g c = within_fuel (IsTestedBy c.args.search.now) c.args.search.now.steps c.args.fuel c.requires.within c.with_no.result c.with_no.ensures
 
 pub returns-in-Closed : goal.returns-in-Closed
 returns-in-Closed g c = within_fuel (IsTestedBy c.args.search.now) c.args.search.now.steps c.args.fuel c.requires.within c.with_yes.result c.with_yes.ensures

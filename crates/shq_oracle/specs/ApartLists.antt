@@ -1,0 +1,51 @@
+-- What contracts see of what one search shows of further classes.
+use Rattle.std.specs.Prelude.{◌≡◌, ℕ, ◌+◌, ◌<◌, ◌≤◌, true, length}
+use Rattle.std.specs.FinSet as set
+use Rattle.axiom_sets.specs.Sets.{Limited}
+use Rattle.shq_terms.specs.Concept.{Concept, name}
+use Rattle.shq_terms.specs.Listed.{Listed}
+use Rattle.shq_terms.specs.declared.axioms.Query.{Query}
+use Rattle.run_log.specs.declared.entry.Entry.{Entry}
+use Rattle.run_log.specs.declared.entry.Entry.TheVariants.{Test}
+use Rattle.run_log.specs.declared.entry.TestEnd.TheVariants.{No}
+use Rattle.run_log.specs.Entries.{spent_of}
+use Rattle.run_log.specs.HonestLog.{IsAxiomSet, IsHonestNo}
+use Rattle.shq_oracle.specs.OracleLists.{OracleLists}
+
+-- the ontology, the set of axioms, the class expression that is part of none of the classes, how many steps decide that
+-- of each, and the classes, whose numbers are greater by one in their set
+pub record ApartLists : Type 0 where
+  pub ontology : Listed
+  pub set : Limited
+  pub sub : Concept
+  pub steps : ℕ
+  pub classes : Limited
+
+-- of each class of a set it is so that a class expression is not part of it by the axioms, and that so many steps
+-- decide
+pub record AreApart (o : Listed) (s : Limited) (sub : Concept) (steps : ℕ) (classes : Limited) : Type 0 where
+  pub limit_is : classes.limit ≡ length o.classes
+  pub honest : (a : ℕ) → a < length o.classes → set.contains classes.members (a + 1) ≡ true → IsHonestNo o s (record { sub = sub; sup = name a }) steps
+
+-- what is kept is so, of axioms of the ontology
+pub record IsKeptApart (a : ApartLists) : Type 0 where
+  pub of_axioms : IsAxiomSet a.ontology a.set
+  pub apart : AreApart a.ontology a.set a.sub a.steps a.classes
+
+-- it is about a class expression and a set of an ontology's axioms
+pub record IsAbout (o : Listed) (s : Limited) (sub : Concept) (a : ApartLists) : Type 0 where
+  pub ontology_is : a.ontology ≡ o
+  pub set_is : a.set ≡ s
+  pub sub_is : a.sub ≡ sub
+
+-- the question whether the class expression is part of a class, and the entry of a test that says it is not
+abbrev pub query_of : ApartLists → ℕ → Query
+query_of a class = record { sub = a.sub; sup = name class }
+
+abbrev pub entry_of : ApartLists → ℕ → Entry
+entry_of a class = Test a.set (query_of a class) a.steps No
+
+-- it shows this of the class, and as many steps are left of the budget
+pub record MayNote (l : OracleLists) (a : ApartLists) (class : ℕ) : Type 0 where
+  pub is_shown : set.contains a.classes.members (class + 1) ≡ true
+  pub fits : spent_of l.log + a.steps ≤ l.budget
