@@ -7,7 +7,7 @@ use Rattle.job_inputs.specs.declared.unread.Unread.TheVariants as U
 use Rattle.job_inputs.specs.declared.status.Status.{Status}
 use Rattle.job_inputs.specs.declared.status.Status.TheVariants.{Done, Undecided}
 use Rattle.job_inputs.specs.Questions.{IsNotAlone}
-use Rattle.classification_jobs.specs.Classifications.{IsFinished, IsUnfinished, OnDocument, HasBegun}
+use Rattle.classification_jobs.specs.Classifications.{IsFinished, IsUnfinished, OnDocument, BeginsClassification}
 
 -- the answer on an ontology
 abbrev pub IsAnsweredOn : ℕ → Listed → List Entry → Status → List ℕ → Type 0
@@ -24,4 +24,4 @@ abbrev pub IsUnanswered : ℕ → List ℕ → List Entry → Unread → Type 0
 IsUnanswered budget bytes log (U.Document e) = IsNotAlone bytes e × (log ≡ [])
 IsUnanswered budget bytes log (U.Query e) = ⊥
 IsUnanswered budget bytes log (U.Line n) = ⊥
-IsUnanswered budget bytes log U.NoMemory = HasBegun budget bytes log
+IsUnanswered budget bytes log U.NoMemory = BeginsClassification budget bytes log

@@ -62,12 +62,12 @@ pub record IsRefused (bytes out : List ℕ) (s : Status) (log : List Entry) : Ty
   pub unlogged : log ≡ []
 
 -- where memory was refused: nothing was asked, or the document is read
-abbrev pub HasBegun : ℕ → List ℕ → List Entry → Type 0
-HasBegun budget bytes log = (log ≡ []) ⊎ OnDocument (IsClassifying budget log) bytes
+abbrev pub BeginsClassification : ℕ → List ℕ → List Entry → Type 0
+BeginsClassification budget bytes log = (log ≡ []) ⊎ OnDocument (IsClassifying budget log) bytes
 
 -- the answer, unless memory was refused
 abbrev pub AnswersClassification : ℕ → List ℕ → List ℕ → Status → List Entry → Type 0
-AnswersClassification budget bytes out NoMemory log = IsOutOfMemory out (HasBegun budget bytes log)
+AnswersClassification budget bytes out NoMemory log = IsOutOfMemory out (BeginsClassification budget bytes log)
 AnswersClassification budget bytes out Done log = OnDocument (IsFinished budget out log) bytes
 AnswersClassification budget bytes out Undecided log = OnDocument (IsUnfinished budget out log) bytes
 AnswersClassification budget bytes out s log = IsRefused bytes out s log
