@@ -70,6 +70,7 @@ impl<'a> Apart<'a> {
         ensures told { result ≡ set.contains self.now.classes.members (class + 1) }
         ensures honest { result ≡ true → IsHonestEntry self.now.ontology (entry_of self.now class) }
     {
+        let _limit = self.classes.limit();
         self.classes.has(class + 1)
     }
 

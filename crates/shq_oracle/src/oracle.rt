@@ -151,7 +151,6 @@ impl<'a> Oracle<'a> {
     ///
     /// # Errors
     /// Memory may be refused; the log is as before then.
-    #[tactic(auto, using(crate::proofs::Adding::adds_shown))]
     pub fn test_apart(&mut self, set: &AxiomSet, query: &Query) -> Result<Shown<'a>, NoMemory>
         requires limit { set.now.limit ≡ length self.old.ontology.axioms }
         requires in_limit { IsInLimit self.old.ontology query.now }
@@ -371,6 +370,7 @@ impl<'a> Oracle<'a> {
         ensures told { (result ≡ true) ↔ MayNote self.now apart.now class }
         ensures honest { result ≡ true → IsHonestEntry apart.now.ontology (entry_of apart.now class) }
         ensures small { self.now.budget ≤ u32.MAX }
+        ensures within { spent_of self.now.log ≤ self.now.budget }
     {
         let left = self.left();
         apart.shows(class) && apart.steps() <= left

@@ -3,6 +3,9 @@ use Rattle.std.specs.FinSet as sets
 use Rattle.shq_oracle.specs.ApartLists.{ApartLists, IsKeptApart}
 use Rattle.shq_oracle.proofs.apart.Apart.shows.Goals as goal
 
+pub overflow_add-class : goal.overflow_add-class
+overflow_add-class c = omega (arith, c.requires, c.self.invariant.apart.limit_is, ap (λ (a : ApartLists). length a.ontology.classes) c.self.view_is, c.limit-limit.ensures.limit, c.limit-limit.type_inv)
+
 pub has-requires-clause-high : goal.has-requires-clause-high
 has-requires-clause-high c = omega (arith, c.requires, c.self.invariant.apart.limit_is, ap (λ (a : ApartLists). length a.ontology.classes) c.self.view_is)
 
