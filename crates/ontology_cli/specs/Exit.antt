@@ -21,12 +21,16 @@ exit_number WriteFault = 7
 exit_number Undecided = 8
 exit_number NoMemory = 9
 
--- a run answered the words, and ended with the status of this number
-pub record EndsBy (held left before now : Option (List ℕ)) (words : List (List ℕ)) (number : ℕ) : Type 0 where
-  pub status : Status
+-- a run answered the words, and ended so
+pub record HasEnded (held left before now : Option (List ℕ)) (words : List (List ℕ)) (status : Status) : Type 0 where
   pub log : List Entry
-  pub number_is : number ≡ exit_number status
   pub answered : AnsweredAll held before now words status log
   pub leaves : Leaves words held left status
   pub undecided : status ≡ Undecided → HasSpentAll (request_of words) log
   pub complete : IsComplete (request_of words) held status log
+
+-- it ended with the status of this number
+pub record EndsBy (held left before now : Option (List ℕ)) (words : List (List ℕ)) (number : ℕ) : Type 0 where
+  pub status : Status
+  pub number_is : number ≡ exit_number status
+  pub ended : HasEnded held left before now words status
