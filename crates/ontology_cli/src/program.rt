@@ -14,8 +14,8 @@ use std::alloc::{AllocError, Global};
 use std::process::ExitCode;
 
 /// Does what the words ask for, and answers how the program ends: with the number of the run's status. It is that of a
-/// fault only where the count of faults rose, and words that ask for no read make none. Where there was no memory for the
-/// words, nothing is read or written, and the program ends as a run that is out of memory.
+/// fault only where the count of faults rose, and words that ask for no read make none. Where there was no memory for
+/// the words, nothing is read or written, and the program ends as a run that is out of memory.
 pub(crate) fn program<S: Source, K: Sink>(
     alloc: Global,
     words: Result<Vec<String>, AllocError>,
