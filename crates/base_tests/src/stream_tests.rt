@@ -1,6 +1,9 @@
 // Whole inputs and outputs in pieces, and faults in mid-stream.
 
-use shq_io::{MemSink, MemSource, ReadEnd, StdSink, StdSource, WriteFailed, read_all, write_whole};
+use shq_io::{
+    MemSink, MemSource, ReadEnd, StdSink, StdSource, SureSink, SureSource, WriteFailed, read_all,
+    write_whole,
+};
 use shq_terms::NoMemory;
 use std::alloc::Global;
 use std::io;
@@ -187,5 +190,61 @@ fn is_all_written(alloc: Global, text: &[u8]) -> bool {
 fn writes_whole_outputs(rt: HostRuntime) -> Result<(), Fail> {
     test_memory(&rt, rt.alloc(), b"hello")?;
     assert!(rt; is_all_written(rt.alloc(), b"hello"), "writers");
+    Ok(())
+}
+
+/// It has 74 bytes.
+const ONTOLOGY: &[u8] = b"Prefix(:=<http://e.org/>)
+Ontology(
+SubClassOf(:A :B)
+SubClassOf(:B :C)
+)
+";
+
+fn is_read_surely(alloc: Global, bytes: &[u8]) -> Result<bool, NoMemory> {
+    let mut source = SureSource::new(alloc, bytes)?;
+    let read = read_all(alloc, &mut source, 1000);
+    Ok(is_read_so(&read, bytes, Ok(bytes.len())))
+}
+
+/// The room, and how many bytes are kept of the ontology, of 74, and of it with 5 bytes more behind it.
+type Kept = (u32, usize, usize);
+
+const KEPT: &[Kept] = &[(0, 0, 0), (73, 73, 73), (74, 74, 74), (79, 74, 79)];
+
+// Whether the sink has taken so many bytes, keeps the first of them, and tells them where it keeps all.
+fn is_kept_so(sink: &SureSink, taken: usize, kept: usize, text: &[u8]) -> bool {
+    let is_told = match sink.taken() {
+        Some(all) => kept == taken && all == sink.kept(),
+        None => kept < taken,
+    };
+    let is_counted = sink.count() == taken as u64 && sink.kept().len() == kept;
+    is_told && is_counted && is_begun_so(sink.kept(), text)
+}
+
+// Whether one of the two begins with the other.
+fn is_begun_so(one: &[u8], other: &[u8]) -> bool {
+    one.starts_with(other) || other.starts_with(one)
+}
+
+fn is_taken_surely(alloc: Global, text: &[u8], case: &Kept) -> Result<bool, NoMemory> {
+    let (room, once, twice) = case;
+    let mut sink = SureSink::with_room(alloc, *room)?;
+    let is_written = write_whole(&mut sink, text) == Ok(()) && is_kept_so(&sink, 74, *once, text);
+    let is_more = write_whole(&mut sink, b"hello") == Ok(()) && is_kept_so(&sink, 79, *twice, text);
+    Ok(is_written && is_more)
+}
+
+fn test_sure(rt: &impl Abort, alloc: Global, text: &[u8]) -> Result<(), NoMemory> {
+    assert!(rt; is_read_surely(alloc, text)?, "source");
+    for case in KEPT {
+        assert!(rt; is_taken_surely(alloc, text, case)?, "{case:?}");
+    }
+    Ok(())
+}
+
+#[test]
+fn moves_bytes_surely(rt: HostRuntime) -> Result<(), Fail> {
+    test_sure(&rt, rt.alloc(), ONTOLOGY)?;
     Ok(())
 }
