@@ -1,4 +1,4 @@
-// Budgets from one step on, up to the first that is enough.
+// Budgets from one step on, up to the first that is enough: what is told grows, and some of it is told before all is.
 
 use job_runs::{Answer, NoMemory, Status, document, run_on};
 use std::alloc::Global;
@@ -58,8 +58,8 @@ DisjointClasses(:B :C)",
 // What comes of a budget.
 #[derive(Clone, Copy)]
 enum Tried {
-    /// It is spent whole.
-    Spent,
+    /// It is spent whole, and whether some of what is asked is told.
+    Spent(bool),
     /// It is enough, and so many steps of it were made.
     Enough(u64),
     /// The answer says wrongly how the run ended, or lacks what one with a smaller budget has.
@@ -78,11 +78,16 @@ fn answer_within(
     run_on(alloc, &words, document.as_bytes())
 }
 
-// Whether each line of the one that begins with a digit stands among the lines of the other, in the same order.
+// Whether a line has a set of a list.
+fn is_set(line: &str) -> bool {
+    line.starts_with(|letter: char| letter.is_ascii_digit())
+}
+
+// Whether each set of the one stands among the lines of the other, in the same order.
 fn is_among(part: &str, whole: &str) -> bool {
     let mut lines = whole.lines();
     part.lines()
-        .filter(|line| line.starts_with(|letter: char| letter.is_ascii_digit()))
+        .filter(|line| is_set(line))
         .all(|line| lines.any(|other| other == line))
 }
 
@@ -105,7 +110,7 @@ fn outcome(answer: &Answer, text: &str, front: &str, budget: u32, before: &str) 
         && answer.spent == u64::from(budget)
         && is_undecided(text, front)
     {
-        Tried::Spent
+        Tried::Spent(text.lines().any(is_set))
     } else {
         Tried::Wrong
     }
@@ -128,19 +133,20 @@ fn try_budget(
     Ok(tried)
 }
 
-// How many steps the job takes: each smaller budget is spent whole, and what is told then is part of what is told with
-// a greater one. At most 500 are tried.
+// How many steps the job takes, and whether with some smaller budget a set is told. Each smaller budget is spent whole,
+// and what is told then is part of what is told with a greater one. At most 500 are tried.
 fn first_budget(
     alloc: Global,
     document: &str,
     words: [&str; 2],
     front: &str,
-) -> Result<Option<u64>, NoMemory> {
+) -> Result<Option<(u64, bool)>, NoMemory> {
     let mut before = String::new(alloc);
+    let mut is_told = false;
     for budget in 1..500_u32 {
         match try_budget(alloc, document, words, front, budget, &mut before)? {
-            Tried::Spent => {}
-            Tried::Enough(steps) => return Ok(Some(steps)),
+            Tried::Spent(some) => is_told |= some,
+            Tried::Enough(steps) => return Ok(Some((steps, is_told))),
             Tried::Wrong => return Ok(None),
         }
     }
@@ -162,7 +168,8 @@ fn check_budgets(
     let document = document(alloc, axioms)?;
     let steps = steps_of(alloc, document.as_str(), words)?;
     let first = first_budget(alloc, document.as_str(), words, front)?;
-    assert_eq!(rt; first, Some(steps), "{axioms}");
+    let is_list = front != NOTHING;
+    assert_eq!(rt; first, Some((steps, is_list)), "{axioms}");
     Ok(())
 }
 
