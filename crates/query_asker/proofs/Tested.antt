@@ -29,8 +29,9 @@ use Rattle.query_asker.specs.AskerLists.{AskerLists, origin_of}
 use Rattle.query_asker.specs.Told.{IsTestOfOther, AreTestsOfOthers, IsShownNoIn, asker_meaning, IsAskerLog, IsUnknown, LogsNode}
 use Rattle.query_asker.specs.Memory.{yes_by, yes_of, no_of, IsMemo}
 use Rattle.query_asker.specs.Asking.{lists_of, CanAsk, IsAsker, IsLater, reply_of}
+use Rattle.query_asker.specs.Deciding.{IsOneTestAs, GainsTest}
 use Rattle.query_asker.proofs.Remembered.{kept_still}
-use Rattle.query_asker.proofs.Logged.{goes_on, with_entry, MayBeLast, log_with, log_counted}
+use Rattle.query_asker.proofs.Logged.{goes_on, with_entry, with_asks, MayBeLast, log_with, log_counted}
 use Rattle.query_asker.proofs.Answering.{yes_by_log, no_by_log}
 use Rattle.set_questions.specs.declared.antichain.Kind.TheVariants.{Minimal, Maximal}
 use Rattle.set_questions.specs.Kept.{kept_sets}
@@ -234,6 +235,9 @@ module _ (o : OracleLists) (q : Query) (among : Option Limited) (first asks : �
     pub later : first ≤ length o.log → IsLater a (lists_of o' q among first (one_more asks))
     later le = record { more = entry ∷ []; is_more = is_after le }
 
+    pub gains : first ≤ length o.log → GainsTest a (lists_of o' q among first (one_more asks)) s v
+    gains le = record { more = entry ∷ []; is_more = is_after le; is_test = inl (record { steps = appends.steps; ended = appends.ended; is_more = refl; matches = appends.matches }) }
+
     pub same_nodes : first ≤ length o.log → nodes_of (lists_of o' q among first (one_more asks)).gained ≡ nodes_of a.gained
     same_nodes le = ap (λ (l : AskerLists). nodes_of l.gained) (is_after le) ∙ nodes_test a.gained s q appends.steps appends.ended
 
@@ -313,6 +317,21 @@ module _ (o : OracleLists) (q : Query) (among : Option Limited) (first asks : �
     takes_by (Ok true) t = takes_one o' s h.is_log t.0 ontology budget t.1 is_set h.first_within
     takes_by (Ok false) t = (nothing_left_of t.0, ap (λ (l : AskerLists). nodes_of l.gained) (same_asker t.1))
     takes_by (Err x) t = tt
+
+-- ---- a call that asks nothing of the oracle, and one that is refused memory
+
+pub gains_none : (a : AskerLists) (s : Limited) → GainsTest a (with_asks a (one_more a.asks)) s Found.Undecided
+gains_none a s =
+    let none : a.gained ≡ a.gained ++ [] = sym (append-nil a.gained) in
+    record {
+      more = [];
+      is_more = λ i. record { ontology = a.ontology; query = a.query; budget = a.budget; local_part = a.local_part; before = a.before; gained = none i; asks = one_more a.asks };
+      is_test = inr (refl, refl);
+    }
+
+pub same_lists : (o o' : OracleLists) (q : Query) (among : Option Limited) (first asks : ℕ) → o'.ontology ≡ o.ontology → o'.budget ≡ o.budget → o'.log ≡ o.log → lists_of o' q among first asks ≡ lists_of o q among first asks
+same_lists o o' q among first asks ontology budget log =
+    let same : o' ≡ o = λ i. record { ontology = ontology i; budget = budget i; log = log i } in ap (λ (l : OracleLists). lists_of l q among first asks) same
 
 -- ---- what such a call leaves as it is
 

@@ -7,8 +7,8 @@ use Rattle.shq_terms.specs.Listed.{Listed}
 use Rattle.shq_terms.specs.declared.axioms.Query.{Query}
 use Rattle.run_log.specs.declared.entry.Entry.{Entry}
 
--- the ontology, the query, the budget of steps and nodes, the axioms among which it asks, the entries that the log had before and
--- those that it gained, and how many asks were answered
+-- the ontology, the query, the budget of steps and nodes, the axioms among which it asks, the entries that the log
+-- had before and those that it gained, and how many asks were answered
 pub record AskerLists : Type 0 where
   pub ontology : Listed
   pub query : Query

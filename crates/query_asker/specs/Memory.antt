@@ -44,7 +44,8 @@ no_sets log = flat_map no_of log
 
 -- ---- the memo
 
--- of the entries that were seen the smallest sets are kept from which the query follows, and the greatest from which it does not
+-- of the entries that were seen the smallest sets are kept from which the query follows, and the greatest from which
+-- it does not
 pub record IsMemo (m : Memo) (log : List Entry) : Type 0 where
   pub within : m.seen ≤ length log
   pub yes_kind : kind_of m.yes ≡ Minimal
@@ -60,7 +61,8 @@ KeepsWithAll kind more old new = (all : List Limited) → AreKept kind all old �
 abbrev pub IsInSome : Limited → List Limited → Type 0
 IsInSome s sets = (t : Limited) × Contains sets t × IsPart s.members t.members
 
--- what the log says of a set of axioms: the query follows from a part of it, or does not follow from more than it, or neither is said
+-- what the log says of a set of axioms: the query follows from a part of it, or does not follow from more than it, or
+-- neither is said
 abbrev pub Recalls : List Entry → Limited → Option Reply → Type 0
 Recalls log s None = ((u : Limited) → Contains (yes_sets log) u → ¬ IsPart u.members s.members) × (¬ IsInSome s (no_sets log))
 Recalls log s (Some (Yes u)) = Contains (yes_sets log) u × IsPart u.members s.members

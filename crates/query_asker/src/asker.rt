@@ -12,20 +12,22 @@ ghost use Rattle.query_asker.specs.AskerLists.{origin_of};
 ghost use Rattle.query_asker.specs.Told.{KeepsAnswers, AreTestsOfOthers, asker_meaning, IsAskerLog};
 ghost use Rattle.query_asker.specs.Told.{IsUnknown, LogsNode};
 ghost use Rattle.query_asker.specs.Asking.{part_of, IsPartIn, IsLocalPart, IsRecalled, IsLater, reply_of};
+ghost use Rattle.shq_oracle.specs.Decided.{outcome_of, IsAnswer};
+ghost use Rattle.query_asker.specs.Deciding.{IsKnown, GainsTest};
 
-use crate::NoMemory;
 use crate::memo::Memo;
+use crate::{Known, NoMemory};
 use axiom_sets::AxiomSet;
 use set_questions::{Entail, Reply};
-use shq_oracle::{Oracle, Outcome};
+use shq_oracle::{Answer, Oracle, Outcome};
 use shq_terms::Query;
 use std::alloc::Global;
 use std::marker::Model;
 
 /// Answers whether one query follows from sets of an ontology's axioms.
 ///
-/// Contracts see the ontology, the query, the budget, the axioms among which it asks, the log that it began with, what the log
-/// gained, and how many asks were answered.
+/// Contracts see the ontology, the query, the budget, the axioms among which it asks, the log that it began with,
+/// what the log gained, and how many asks were answered.
 #[derive(Drop)]
 pub struct Asker<'a> {
     alloc: Global,
@@ -60,8 +62,8 @@ impl<'a> Model for Asker<'a> {
 }
 
 impl<'a> Asker<'a> {
-    /// An asker for the query, which asks among all axioms. The oracle's log has no test that spent the budget, and none of an
-    /// equal query. The memory that it takes is `alloc`'s.
+    /// An asker for the query, which asks among all axioms. The oracle's log has no test that spent the budget, and
+    /// none of an equal query. The memory that it takes is `alloc`'s.
     pub fn new(alloc: Global, oracle: Oracle<'a>, query: &'a Query) -> Asker<'a>
         requires in_limit { IsInLimit oracle.ontology query.now }
         requires goes_on { list_any is_spent oracle.log ≡ false }
@@ -79,7 +81,8 @@ impl<'a> Asker<'a> {
         Asker::made(alloc, oracle, query, None)
     }
 
-    /// The same, but it asks among the axioms of a module alone, from which the query follows where it follows from all.
+    /// The same, but it asks among the axioms of a module alone, from which the query follows where it follows from
+    /// all.
     pub fn within(
         alloc: Global,
         oracle: Oracle<'a>,
@@ -176,6 +179,51 @@ impl<'a> Asker<'a> {
         self.asks = self.asks.saturating_add(1);
     }
 
+    /// What the log says of the set, where it answers for it, and then an ask is counted; else those axioms of the
+    /// set among which it asks, which are to be tested.
+    ///
+    /// # Errors
+    /// Memory may be refused. Nothing has changed then.
+    pub fn known(&mut self, set: &AxiomSet) -> Result<Known, NoMemory>
+        requires { set.now.limit ≡ length self.old.ontology.axioms }
+        ensures known { IfOk result (IsKnown self.old self.new set.now) }
+        ensures unchanged { OnErr result (self.new ≡ self.old) }
+    {
+        let part = self.local_part(set)?;
+        if let Some(known) = self.recall(&part)? {
+            self.count_ask();
+            return Ok(Known::Answered(known));
+        }
+        Ok(Known::Unknown(part))
+    }
+
+    /// Lets the oracle decide, with evidence, whether the query follows from some axioms for which the log does not
+    /// answer, and counts an ask. Where nothing of the budget is left, the oracle is not asked. Once it is, no memory
+    /// is taken.
+    ///
+    /// # Errors
+    /// Memory may be refused. Nothing has changed then.
+    pub fn decide(&mut self, part: &AxiomSet) -> Result<Answer, NoMemory>
+        requires limit { part.now.limit ≡ length self.old.ontology.axioms }
+        requires local_part { IsPart part.now.members self.old.local_part }
+        requires is_new { ¬ IsAnswered self.old.gained part.now self.old.query }
+        ensures evidence { IfOk result (IsAnswer self.old.ontology part.now self.old.query) }
+        ensures answer { IfOk result (λ a. Answers (asker_meaning self.new) part.now (reply_of (outcome_of a))) }
+        ensures unknown { IfOk result (λ a. IsUnknown self.new part.now (reply_of (outcome_of a))) }
+        ensures shown { IfOk result (λ a. ShowsNoOther (asker_meaning self.old) (asker_meaning self.new) (reply_of (outcome_of a))) }
+        ensures gains { IfOk result (λ a. GainsTest self.old self.new part.now (outcome_of a)) }
+        ensures unchanged { OnErr result (self.new ≡ self.old) }
+    {
+        let counted = self.asks.saturating_add(1);
+        if self.oracle.left() == 0 {
+            self.asks = counted;
+            return Ok(Answer::Undecided);
+        }
+        let answer = self.oracle.decide(part, self.query)?;
+        self.asks = counted;
+        Ok(answer)
+    }
+
     // Lets the oracle test a set of which the log says nothing. Once it has, no memory is taken.
     fn test(&mut self, part: &AxiomSet) -> Result<Reply, NoMemory>
         requires limit { part.now.limit ≡ length self.old.ontology.axioms }
@@ -251,8 +299,8 @@ impl<'a> Entail for Asker<'a> {
         self.oracle.ontology().axiom_count()
     }
 
-    /// Asks whether the query follows from the set: first the log, and then, where it has no answer and something of the budget is
-    /// left, the oracle. Where nothing is left, too, the log is asked first.
+    /// Asks whether the query follows from the set: first the log, and then, where it has no answer and something of
+    /// the budget is left, the oracle. Where nothing is left, too, the log is asked first.
     ///
     /// # Errors
     /// Memory may be refused. The log is as before then.
@@ -267,12 +315,10 @@ impl<'a> Entail for Asker<'a> {
         ensures taken { (asker_meaning self.new).taken ≡ (asker_meaning self.old).taken }
         ensures same { origin_of self.new ≡ origin_of self.old }
     {
-        let part = self.local_part(set)?;
-        if let Some(known) = self.recall(&part)? {
-            self.count_ask();
-            return Ok(known);
+        match self.known(set)? {
+            Known::Answered(reply) => Ok(reply),
+            Known::Unknown(part) => self.test(&part),
         }
-        self.test(&part)
     }
 
     /// Takes one unit of the budget for a node, where one is left, and logs just the node.

@@ -13,8 +13,8 @@ use run_log::{Entry, TestEnd};
 use set_questions::{Antichain, Reply, place_of_part};
 use std::alloc::Global;
 
-/// What the entries of a log found, as far as they were seen: the smallest sets of axioms from which the query follows, and the
-/// greatest from which it does not.
+/// What the entries of a log found, as far as they were seen: the smallest sets of axioms from which the query
+/// follows, and the greatest from which it does not.
 #[derive(Drop)]
 pub struct Memo {
     seen: usize,

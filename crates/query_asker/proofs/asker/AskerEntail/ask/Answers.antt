@@ -5,69 +5,70 @@ use Rattle.lane_sieve.specs.Sets.{IsPart}
 use Rattle.set_questions.specs.Asked.{Answers, IsUnknownIf, ShowsNoOther}
 use Rattle.set_questions.specs.Meaning.{one_more}
 use Rattle.run_log.specs.Entries.{IsAnswered}
+use Rattle.query_asker.specs.declared.known.Known.TheVariants.{Answered, Unknown}
 use Rattle.query_asker.specs.AskerLists.{AskerLists}
 use Rattle.query_asker.specs.Told.{asker_meaning, part_in, IsUnknown}
 use Rattle.query_asker.specs.Asking.{IsLater}
-use Rattle.query_asker.proofs.Logged.{with_asks}
-use Rattle.query_asker.proofs.Answering.{keeps_later, lifted, answers_counted, known_is, known_answers, unknown_whole, left_out, shows_counted, new_if_none, local_inside, local_later}
+use Rattle.query_asker.specs.Deciding.{IsKnown}
+use Rattle.query_asker.proofs.Answering.{keeps_later, lifted, unknown_whole, left_out, shows_counted, local_inside, local_later}
 use Rattle.query_asker.proofs.asker.AskerEntail.ask.Goals as goal
 
-pub returns-in-Some-clause-answer : goal.returns-in-Some-clause-answer
-returns-in-Some-clause-answer c =
-    let a = c.args.self.now in
+pub returns-in-Answered-clause-unknown : goal.returns-in-Answered-clause-unknown
+returns-in-Answered-clause-unknown c =
     let s = c.args.set.now in
-    let known = c.in-Some.known in
-    let p = c.in_ok-part.part in
-    let told : Answers (asker_meaning a) p known = known_is a p c.in_ok-known.field-0 known c.in-Some.is c.in_ok-known.ensures.recalled in
-    answers_counted a c.count_ask.new.self (one_more a.asks) s known (c.count_ask.ensures ∙ ap (λ (b : AskerLists). with_asks b (one_more b.asks)) c.recall.ensures.same) (lifted a s p known c.in_ok-part.ensures.part told)
+    let new = c.known.new.self in
+    let reply = c.in-Answered.reply in
+    let known : IsKnown c.args.self.now new s (Answered reply) = rw c.in-Answered.is at c.in_ok-reply.ensures.known in
+    left_out new s (c.requires ∙ ap (λ (b : AskerLists). length b.ontology.axioms) (sym known.0)) reply known.2
 
-pub returns-in-Some-clause-unknown : goal.returns-in-Some-clause-unknown
-returns-in-Some-clause-unknown c =
+pub returns-in-Answered-clause-shown : goal.returns-in-Answered-clause-shown
+returns-in-Answered-clause-shown c =
     let a = c.args.self.now in
-    let new = c.count_ask.new.self in
-    let counted : new ≡ with_asks a (one_more a.asks) = c.count_ask.ensures ∙ ap (λ (b : AskerLists). with_asks b (one_more b.asks)) c.recall.ensures.same in
-    left_out new c.args.set.now (c.requires ∙ ap (λ (b : AskerLists). length b.ontology.axioms) (sym counted)) c.in-Some.known
-    (known_answers a new (part_in new c.args.set.now) c.in_ok-part.part c.in_ok-known.field-0 c.in-Some.known c.in-Some.is c.in_ok-known.ensures.recalled)
-
-pub returns-in-Some-clause-shown : goal.returns-in-Some-clause-shown
-returns-in-Some-clause-shown c =
-    let a = c.args.self.now in
-    shows_counted a c.count_ask.new.self (one_more a.asks) c.in-Some.known (c.count_ask.ensures ∙ ap (λ (b : AskerLists). with_asks b (one_more b.asks)) c.recall.ensures.same)
+    let new = c.known.new.self in
+    let reply = c.in-Answered.reply in
+    let known : IsKnown a new c.args.set.now (Answered reply) = rw c.in-Answered.is at c.in_ok-reply.ensures.known in
+    shows_counted a new (one_more a.asks) reply known.0
 
 pub test-requires-clause-local_part : goal.test-requires-clause-local_part
 test-requires-clause-local_part c =
-    let p = c.in_ok-part.part in
-    subst (λ (b : AskerLists). IsPart p.members b.local_part) (sym c.recall.ensures.same) (local_inside c.args.self.now c.args.set.now p c.in_ok-part.ensures.part)
+    let p = c.in-Unknown.part in
+    let known : IsKnown c.args.self.now c.known.new.self c.args.set.now (Unknown p) = rw c.in-Unknown.is at c.in_ok-reply.ensures.known in
+    subst (λ (b : AskerLists). IsPart p.members b.local_part) (sym known.0) (local_inside c.args.self.now c.args.set.now p known.1)
 
 pub test-requires-clause-is_new : goal.test-requires-clause-is_new
 test-requires-clause-is_new c =
-    let p = c.in_ok-part.part in
-    subst (λ (b : AskerLists). ¬ IsAnswered b.gained p b.query) (sym c.recall.ensures.same) (new_if_none c.args.self.now p c.in_ok-known.field-0 c.in_default.not-Some c.in_ok-known.ensures.recalled)
+    let p = c.in-Unknown.part in
+    let known : IsKnown c.args.self.now c.known.new.self c.args.set.now (Unknown p) = rw c.in-Unknown.is at c.in_ok-reply.ensures.known in
+    subst (λ (b : AskerLists). ¬ IsAnswered b.gained p b.query) (sym known.0) known.2
 
-pub returns-clause-answer : goal.returns-clause-answer
-returns-clause-answer c =
+pub returns-in-Unknown-clause-answer : goal.returns-in-Unknown-clause-answer
+returns-in-Unknown-clause-answer c =
     let s = c.args.set.now in
-    let p = c.in_ok-part.part in
+    let p = c.in-Unknown.part in
     let new = c.test.new.self in
-    let later : IsLater c.args.self.now new = subst (λ (b : AskerLists). IsLater b new) c.recall.ensures.same c.test.ensures.later in
-    IfOk-weaker c.test.result (Answers (asker_meaning new) p) (Answers (asker_meaning new) s) (λ answer h. lifted new s p answer (local_later c.args.self.now new s p later c.in_ok-part.ensures.part) h) c.test.ensures.answer
+    let known : IsKnown c.args.self.now c.known.new.self s (Unknown p) = rw c.in-Unknown.is at c.in_ok-reply.ensures.known in
+    let later : IsLater c.args.self.now new = subst (λ (b : AskerLists). IsLater b new) known.0 c.test.ensures.later in
+    IfOk-weaker c.test.result (Answers (asker_meaning new) p) (Answers (asker_meaning new) s) (λ answer h. lifted new s p answer (local_later c.args.self.now new s p later known.1) h) c.test.ensures.answer
 
-pub returns-clause-unknown : goal.returns-clause-unknown
-returns-clause-unknown c =
+pub returns-in-Unknown-clause-unknown : goal.returns-in-Unknown-clause-unknown
+returns-in-Unknown-clause-unknown c =
     let s = c.args.set.now in
-    let p = c.in_ok-part.part in
+    let p = c.in-Unknown.part in
     let new = c.test.new.self in
-    let later : IsLater c.args.self.now new = subst (λ (b : AskerLists). IsLater b new) c.recall.ensures.same c.test.ensures.later in
+    let known : IsKnown c.args.self.now c.known.new.self s (Unknown p) = rw c.in-Unknown.is at c.in_ok-reply.ensures.known in
+    let later : IsLater c.args.self.now new = subst (λ (b : AskerLists). IsLater b new) known.0 c.test.ensures.later in
     let limit : s.limit ≡ length new.ontology.axioms = c.requires ∙ ap (λ (b : AskerLists). length b.ontology.axioms) (sym later.is_more) in
     IfOk-weaker c.test.result (IsUnknown new p) (IsUnknownIf (asker_meaning new) s)
-    (λ reply h. left_out new s limit reply (unknown_whole new s p (local_later c.args.self.now new s p later c.in_ok-part.ensures.part) reply h)) c.test.ensures.unknown
+    (λ reply h. left_out new s limit reply (unknown_whole new s p (local_later c.args.self.now new s p later known.1) reply h)) c.test.ensures.unknown
 
-pub returns-clause-shown : goal.returns-clause-shown
-returns-clause-shown c =
+pub returns-in-Unknown-clause-shown : goal.returns-in-Unknown-clause-shown
+returns-in-Unknown-clause-shown c =
     let new = c.test.new.self in
-    subst (λ (b : AskerLists). IfOk c.test.result (ShowsNoOther (asker_meaning b) (asker_meaning new))) c.recall.ensures.same c.test.ensures.shown
+    let known : IsKnown c.args.self.now c.known.new.self c.args.set.now (Unknown c.in-Unknown.part) = rw c.in-Unknown.is at c.in_ok-reply.ensures.known in
+    subst (λ (b : AskerLists). IfOk c.test.result (ShowsNoOther (asker_meaning b) (asker_meaning new))) known.0 c.test.ensures.shown
 
-pub returns-clause-keeps : goal.returns-clause-keeps
-returns-clause-keeps c =
+pub returns-in-Unknown-clause-keeps : goal.returns-in-Unknown-clause-keeps
+returns-in-Unknown-clause-keeps c =
     let new = c.test.new.self in
-    keeps_later c.args.self.now new (subst (λ (b : AskerLists). IsLater b new) c.recall.ensures.same c.test.ensures.later)
+    let known : IsKnown c.args.self.now c.known.new.self c.args.set.now (Unknown c.in-Unknown.part) = rw c.in-Unknown.is at c.in_ok-reply.ensures.known in
+    keeps_later c.args.self.now new (subst (λ (b : AskerLists). IsLater b new) known.0 c.test.ensures.later)
