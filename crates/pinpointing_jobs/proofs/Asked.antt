@@ -16,7 +16,7 @@ use Rattle.job_inputs.specs.Replies.{unread_answer}
 use Rattle.job_inputs.specs.Refusals.{IsRefused, HasBegun, nothing, asked, IsUnanswered}
 use Rattle.job_inputs.specs.declared.status.Status.{Status}
 use Rattle.job_inputs.specs.declared.status.Status.TheVariants.{Done, Rejected, BadWords, BadText, Outside, Limit, ReadFault, WriteFault, Undecided, NoMemory}
-use Rattle.job_inputs.specs.Questions.{follows, document, query, IsDocumentAlone, IsQuestion, IsReadQuestion, IsUnreadDocument, IsUnreadQuestion}
+use Rattle.job_inputs.specs.Questions.{Text, follows, document, query, IsDocumentAlone, IsQuestion, IsReadQuestion, IsUnreadDocument, IsUnreadQuestion}
 use Rattle.job_inputs.proofs.OneReading.{questions_not_refused}
 use Rattle.job_inputs.proofs.ReadInLimit.{question_in_limit}
 use Rattle.pinpointing_jobs.specs.declared.asking.Input.{Input}
@@ -48,15 +48,19 @@ no_query inclusion bytes o kept U.NoMemory d why = tt
 
 -- ---- what was asked of an input
 
-pub begun : (inclusion bytes : List ℕ) (budget : ℕ) (input : Input) (log : List Entry) → IsInput inclusion bytes input → HasSearched input.ontology input.query budget log → HasBegun (follows inclusion) bytes log (λ o q. IsPinpointingLog o q budget log)
-begun inclusion bytes budget input log read (inl none) = nothing none
-begun inclusion bytes budget input log read (inr front) = asked input.ontology input.query read.is_question front
+-- nothing was asked, or this is so of what was
+pub has_begun : {E : Type 0} (inclusion bytes : List ℕ) (input : Input) (log : List E) (is_so : Listed → Asked → Type 0) → IsInput inclusion bytes input → (log ≡ []) ⊎ is_so input.ontology input.query → HasBegun (follows inclusion) bytes log is_so
+has_begun inclusion bytes input log is_so read (inl none) = nothing none
+has_begun inclusion bytes input log is_so read (inr so) = asked input.ontology input.query read.is_question so
 
-pub no_input : (inclusion bytes : List ℕ) (budget : ℕ) (log : List Entry) (u : Unread) → log ≡ [] → IsNoInput inclusion bytes u → IsUnanswered (follows inclusion) bytes log (λ o q. IsPinpointingLog o q budget log) u
-no_input inclusion bytes budget log (U.Document e) none why = (why, none)
-no_input inclusion bytes budget log (U.Query e) none why = (why, none)
-no_input inclusion bytes budget log (U.Line n) none why = absurd why
-no_input inclusion bytes budget log U.NoMemory none why = nothing none
+pub begun : (inclusion bytes : List ℕ) (budget : ℕ) (input : Input) (log : List Entry) → IsInput inclusion bytes input → HasSearched input.ontology input.query budget log → HasBegun (follows inclusion) bytes log (λ o q. IsPinpointingLog o q budget log)
+begun inclusion bytes budget input log = has_begun inclusion bytes input log (λ o q. IsPinpointingLog o q budget log)
+
+pub no_input : {E : Type 0} (inclusion bytes : List ℕ) (log : List E) (is_so : Listed → Asked → Type 0) (u : Unread) → log ≡ [] → IsNoInput inclusion bytes u → IsUnanswered (follows inclusion) bytes log is_so u
+no_input inclusion bytes log is_so (U.Document e) none why = (why, none)
+no_input inclusion bytes log is_so (U.Query e) none why = (why, none)
+no_input inclusion bytes log is_so (U.Line n) none why = absurd why
+no_input inclusion bytes log is_so U.NoMemory none why = nothing none
 
 -- ---- answers
 
@@ -97,16 +101,24 @@ out_of_memory out s log_is fact gives so = by s gives
     by Undecided gives = absurd (other Undecided refl gives)
 
 -- the reply to a question that is not answered
+module _ {E : Type 0} (question : Text) (bytes out : List ℕ) (s : Status) (log : List E) (is_so : Listed → Asked → Type 0) (fact : Type 0) where
+  abbrev begins : Type 0
+  begins = HasBegun question bytes log is_so
+
+  abbrev answers : Type 0
+  answers = IsRefused question bytes out s log ⊎ fact
+
+  pub unread_gives : (u : Unread) → IsUnanswered question bytes log is_so u → Gives (unread_answer u) out s → UnlessNoMemory s out begins answers
+  unread_gives (U.Document e) why gives =
+      unless_refused (unread_answer (U.Document e)) out s begins answers gives (nothing why.1) (λ is. inl (record { reply = refused_document e; refused = why.0; answer = is; unlogged = why.1 }))
+  unread_gives (U.Query e) why gives =
+      unless_refused (unread_answer (U.Query e)) out s begins answers gives (nothing why.1) (λ is. inl (record { reply = refused_query e; refused = why.0; answer = is; unlogged = why.1 }))
+  unread_gives (U.Line n) why gives = absurd why
+  unread_gives U.NoMemory why gives = out_of_memory out s begins answers gives why
+
 pub unread_answers : (w : Wanted) (inclusion : List ℕ) (budget : ℕ) (bytes out : List ℕ) (s : Status) (log : List Entry) (u : Unread) → IsUnanswered (follows inclusion) bytes log (λ o q. IsPinpointingLog o q budget log) u → Gives (unread_answer u) out s
     → AnswersPinpointing w inclusion budget bytes out s log
-unread_answers w inclusion budget bytes out s log (U.Document e) why gives =
-    unless_refused (unread_answer (U.Document e)) out s (HasBegun (follows inclusion) bytes log (λ o q. IsPinpointingLog o q budget log)) (IsRefused (follows inclusion) bytes out s log ⊎ IsPinpointed w inclusion budget bytes out s log) gives (nothing why.1)
-    (λ is. inl (record { reply = refused_document e; refused = why.0; answer = is; unlogged = why.1 }))
-unread_answers w inclusion budget bytes out s log (U.Query e) why gives =
-    unless_refused (unread_answer (U.Query e)) out s (HasBegun (follows inclusion) bytes log (λ o q. IsPinpointingLog o q budget log)) (IsRefused (follows inclusion) bytes out s log ⊎ IsPinpointed w inclusion budget bytes out s log) gives (nothing why.1)
-    (λ is. inl (record { reply = refused_query e; refused = why.0; answer = is; unlogged = why.1 }))
-unread_answers w inclusion budget bytes out s log (U.Line n) why gives = absurd why
-unread_answers w inclusion budget bytes out s log U.NoMemory why gives = out_of_memory out s (HasBegun (follows inclusion) bytes log (λ o q. IsPinpointingLog o q budget log)) (IsRefused (follows inclusion) bytes out s log ⊎ IsPinpointed w inclusion budget bytes out s log) gives why
+unread_answers w inclusion budget bytes out s log = unread_gives (follows inclusion) bytes out s log (λ o q. IsPinpointingLog o q budget log) (IsPinpointed w inclusion budget bytes out s log)
 
 -- ---- the document of a workload
 

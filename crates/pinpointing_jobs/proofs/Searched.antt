@@ -28,7 +28,7 @@ use Rattle.run_log.specs.declared.entry.Entry.{Entry}
 use Rattle.run_log.specs.declared.entry.Entry.TheVariants.{Test, Node}
 use Rattle.run_log.specs.declared.entry.TestEnd.TheVariants as E
 use Rattle.run_log.specs.Entries.{cost_of, spent_of, nodes_of, IsAnswered}
-use Rattle.run_log.specs.HonestLog.{IsAxiomSet, IsHonestEntry, EachIsHonest, IsJustificationSet, EndsWhenSpent, AsksFewPerNode, IsHonestWithin, IsPinpointingLog}
+use Rattle.run_log.specs.HonestLog.{IsAxiomSet, IsHonestEntry, EachIsHonest, IsJustificationSet, EndsWhenSpent, AreTreeNodes, AsksFewPerNode, IsHonestWithin, IsPinpointingLog}
 use Rattle.run_log.specs.Shown.{IsShownYes, IsShownNo}
 use Rattle.query_asker.specs.OracleLists.{OracleLists}
 use Rattle.query_asker.specs.AskerLists.{AskerLists, AskerOrigin, origin_of}
@@ -63,7 +63,7 @@ module _ (a : AskerLists) (is_log : IsAskerLog a) (none : a.before ≡ []) where
   within : spent_of a.gained ≤ a.budget
   within = subst (λ (l : List Entry). spent_of l ≤ a.budget) whole is_log.within
 
-  budget_kept : IsHonestWithin a.ontology a.budget a.gained
+  pub budget_kept : IsHonestWithin a.ontology a.budget a.gained
   budget_kept = record { within = within; honest = is_log.honest; ends = subst (EndsWhenSpent a.budget) whole is_log.ends }
 
 -- ---- what the log shows
@@ -190,9 +190,9 @@ module _ (a : AskerLists) (is_log : IsAskerLog a) (is_module : IsLocalModule a.o
 
 -- ---- the log and the lists
 
-module _ (a : AskerLists) (is_log : IsAskerLog a) (none : a.before ≡ []) (is_module : IsLocalModule a.ontology.axioms a.query a.local_part)
+module _ (a : AskerLists) (is_log : IsAskerLog a) (none : a.before ≡ [])
     (asked : a.asks ≤ (length a.ontology.axioms + 1) * length (nodes_of a.gained)) (small : length a.ontology.axioms ≤ 20000) (budget_small : a.budget < 2 ^ 32) where
-  few : AsksFewPerNode a.ontology a.gained
+  pub few : AsksFewPerNode a.ontology a.gained
   few =
       let nodes_few : length (nodes_of a.gained) < 2 ^ 32 = omega (arith, nodes_cost a.gained, within a is_log none, budget_small) in
       elim is_log.few [
@@ -200,29 +200,32 @@ module _ (a : AskerLists) (is_log : IsAskerLog a) (none : a.before ≡ []) (is_m
         | inr full ↦ absurd (omega (arith, full, few_asks (length a.ontology.axioms) (length (nodes_of a.gained)) a.asks small nodes_few asked))
       ]
 
-  pub honest_by : (labels : List Limited) → ((j : Limited) → Contains labels j → j.limit ≡ length a.ontology.axioms) → ((j : Limited) → Contains labels j → IsMinimalYes (FollowsFrom a.ontology.axioms a.query) j)
-      → AreNodes labels (nodes_of a.gained) → IsPinpointingLog a.ontology a.query a.budget a.gained
-  honest_by labels limits smallest nodes = record {
+-- smallest sets from which the query follows, and the nodes of a tree with these labels
+module _ (a : AskerLists) (labels : List Limited) (limits : (j : Limited) → Contains labels j → j.limit ≡ length a.ontology.axioms)
+    (smallest : (j : Limited) → Contains labels j → IsMinimalYes (FollowsFrom a.ontology.axioms a.query) j) where
+  pub just : (j : Limited) → Contains labels j → IsJustificationSet a.ontology a.query j
+  just j listed = to_justification a.ontology a.query j (limits j listed) (smallest j listed)
+
+  pub tree : AreNodes labels (nodes_of a.gained) → AreTreeNodes a.ontology a.query a.gained
+  tree nodes = record { labels = labels; justifications = λ k d lt. just (get_or labels k d) (Contains-get_or labels k d lt); nodes = nodes }
+
+module _ (a : AskerLists) (is_log : IsAskerLog a) (none : a.before ≡ []) (is_module : IsLocalModule a.ontology.axioms a.query a.local_part)
+    (asked : a.asks ≤ (length a.ontology.axioms + 1) * length (nodes_of a.gained)) (small : length a.ontology.axioms ≤ 20000) (budget_small : a.budget < 2 ^ 32) where
+  honest_by : AreTreeNodes a.ontology a.query a.gained → IsPinpointingLog a.ontology a.query a.budget a.gained
+  honest_by nodes = record {
     budget_kept = budget_kept a is_log none;
     tests = is_log.tests;
     new = is_log.new;
-    nodes = record {
-      labels = labels;
-      justifications = λ k d lt. let at = Contains-get_or labels k d lt in to_justification a.ontology a.query (get_or labels k d) (limits (get_or labels k d) at) (smallest (get_or labels k d) at);
-      nodes = nodes;
-    };
-    few = few;
+    nodes = nodes;
+    few = few a is_log none asked small budget_small;
     in_module = record { local_part = a.local_part; is_module = is_module; within = is_log.in_module };
   }
 
 module _ (a : AskerLists) (f : Found) (is_log : IsAskerLog a) (found : IsFound (asker_meaning a) f) (none : a.before ≡ []) (is_module : IsLocalModule a.ontology.axioms a.query a.local_part)
     (asked : a.asks ≤ (length a.ontology.axioms + 1) * length (nodes_of a.gained)) (small : length a.ontology.axioms ≤ 20000) (budget_small : a.budget < 2 ^ 32)
     (begun : AskerLists) (fresh_log : begun.gained ≡ []) (lists : ListsAllShown (asker_meaning begun) (asker_meaning a) f) where
-  just : (j : Limited) → Contains f.justifications.items j → IsJustificationSet a.ontology a.query j
-  just j listed = to_justification a.ontology a.query j (found.just_limits j listed) (found.smallest j listed)
-
   honest : IsPinpointingLog a.ontology a.query a.budget a.gained
-  honest = honest_by a is_log none is_module asked small budget_small f.justifications.items found.just_limits found.smallest found.nodes
+  honest = honest_by a is_log none is_module asked small budget_small (tree a f.justifications.items found.just_limits found.smallest found.nodes)
 
   leaf : (l : Limited) → Contains f.leaves.items l → IsLeaf a.ontology a.query l
   leaf l listed = record { limit_is = found.leaf_limits l listed; within = (found.ends l listed).0; ends = (found.ends l listed).1 }
@@ -250,7 +253,7 @@ module _ (a : AskerLists) (f : Found) (is_log : IsAskerLog a) (found : IsFound (
   searched = record {
     honest = honest;
     order = found.order;
-    justifications = just;
+    justifications = just a f.justifications.items found.just_limits found.smallest;
     leaves = leaf;
     limits = found.limits;
     nodes = found.nodes;
@@ -266,14 +269,14 @@ module _ (a : AskerLists) (f : Found) (is_log : IsAskerLog a) (found : IsFound (
 -- ---- of what a call answers
 
 -- what an asker is made of
-record IsMadeOf (o : Listed) (q : Asked) (budget : ℕ) (m : NumberSet) (a : AskerLists) : Type 0 where
-  ontology : a.ontology ≡ o
-  query : a.query ≡ q
-  budget_is : a.budget ≡ budget
-  local_part : a.local_part ≡ m
-  none : a.before ≡ []
+pub record IsMadeOf (o : Listed) (q : Asked) (budget : ℕ) (m : NumberSet) (a : AskerLists) : Type 0 where
+  pub ontology : a.ontology ≡ o
+  pub query : a.query ≡ q
+  pub budget_is : a.budget ≡ budget
+  pub local_part : a.local_part ≡ m
+  pub none : a.before ≡ []
 
-is_made_of : (o : Listed) (q : Asked) (budget : ℕ) (m : NumberSet) (a : AskerLists) → origin_of a ≡ record { ontology = o; query = q; budget = budget; local_part = m; before = [] } → IsMadeOf o q budget m a
+pub is_made_of : (o : Listed) (q : Asked) (budget : ℕ) (m : NumberSet) (a : AskerLists) → origin_of a ≡ record { ontology = o; query = q; budget = budget; local_part = m; before = [] } → IsMadeOf o q budget m a
 is_made_of o q budget m a e = record {
   ontology = ap (λ (x : AskerOrigin). x.ontology) e;
   query = ap (λ (x : AskerOrigin). x.query) e;
@@ -282,7 +285,7 @@ is_made_of o q budget m a e = record {
   none = ap (λ (x : AskerOrigin). x.before) e;
 }
 
-abbrev fresh : Listed → Asked → ℕ → NumberSet → AskerLists
+abbrev pub fresh : Listed → Asked → ℕ → NumberSet → AskerLists
 fresh o q budget m = record { ontology = o; query = q; budget = budget; local_part = m; before = []; gained = []; asks = 0 }
 
 -- one that was made of an oracle with an empty log
@@ -300,13 +303,13 @@ module_keeps_answers o p q m e is =
     subst (λ (l : Listed). KeepsAnswers l.axioms q m) (sym e) (λ s. (keeps o.axioms q m is s, grows o.axioms q (set.intersection s m) s (intersection_part s m)))
 
 -- an asker that begins with no asks and no nodes makes few asks for each node
-asks_few : (o : Listed) (q : Asked) (budget : ℕ) (m : NumberSet) (begun ended : AskerLists) → begun ≡ fresh o q budget m → AsksFew (length ended.ontology.axioms) (asker_meaning begun) (asker_meaning ended)
+pub asks_few : (o : Listed) (q : Asked) (budget : ℕ) (m : NumberSet) (begun ended : AskerLists) → begun ≡ fresh o q budget m → AsksFew (length ended.ontology.axioms) (asker_meaning begun) (asker_meaning ended)
     → ended.asks ≤ (length ended.ontology.axioms + 1) * length (nodes_of ended.gained)
 asks_few o q budget m begun ended e few =
     let from : AsksFew (length ended.ontology.axioms) (asker_meaning (fresh o q budget m)) (asker_meaning ended) = subst (λ (x : AskerLists). AsksFew (length ended.ontology.axioms) (asker_meaning x) (asker_meaning ended)) e few in
     omega (arith, from)
 
-along : (P : Listed → Asked → ℕ → List Entry → Type 0) (o p : Listed) (q r : Asked) (b c : ℕ) (log more : List Entry) → o ≡ p → q ≡ r → b ≡ c → log ≡ more → P o q b log → P p r c more
+pub along : (P : Listed → Asked → ℕ → List Entry → Type 0) (o p : Listed) (q r : Asked) (b c : ℕ) (log more : List Entry) → o ≡ p → q ≡ r → b ≡ c → log ≡ more → P o q b log → P p r c more
 along P o p q r b c log more same_o same_q same_b same_log h =
     subst (λ (l : Listed). P l r c more) same_o
     (subst (λ (k : Asked). P o k c more) same_q
@@ -328,11 +331,12 @@ module _ (o : Listed) (q : Asked) (budget : ℕ) (m : NumberSet) (begun ended : 
 
   pub all_begun : length o.axioms ≤ 20000 → budget < 2 ^ 32 → (r : Result Found NoMemory) → OnErr r (HasTree (asker_meaning ended)) → AsksFew (length ended.ontology.axioms) (asker_meaning begun) (asker_meaning ended)
       → OnErr r (HasSearched o q budget log)
-  all_begun small budget_small (Ok f) tree asked = tt
-  all_begun small budget_small (Err e) tree asked =
+  all_begun small budget_small (Ok f) begun_tree asked = tt
+  all_begun small budget_small (Err e) begun_tree asked =
       let count : length ended.ontology.axioms ≡ length o.axioms = ap (λ (l : Listed). length l.axioms) of.ontology in
       inr (along IsPinpointingLog ended.ontology o ended.query q ended.budget budget ended.gained log of.ontology of.query of.budget_is logged
-      (honest_by ended is_log of.none moved (asks_few o q budget m begun ended made asked) (omega (arith, small, count)) (omega (arith, budget_small, of.budget_is)) tree.labels tree.limits tree.smallest tree.nodes))
+      (honest_by ended is_log of.none moved (asks_few o q budget m begun ended made asked) (omega (arith, small, count)) (omega (arith, budget_small, of.budget_is))
+      (tree ended begun_tree.labels begun_tree.limits begun_tree.smallest begun_tree.nodes)))
 
   pub all_searched : length o.axioms ≤ 20000 → budget < 2 ^ 32 → (r : Result Found NoMemory) → IfOk r (IsFound (asker_meaning ended)) → IfOk r (ListsAllShown (asker_meaning begun) (asker_meaning ended))
       → AsksFew (length ended.ontology.axioms) (asker_meaning begun) (asker_meaning ended) → IfOk r (IsSearched o q budget log)

@@ -10,9 +10,9 @@ use std::alloc::Global;
 
 /// An ontology and a query on it.
 #[derive(Drop)]
-pub(crate) struct Input {
-    pub(crate) ontology: Ontology,
-    pub(crate) query: Query,
+pub struct Input {
+    pub ontology: Ontology,
+    pub query: Query,
 }
 
 /// Reads a document with nothing else after it, and an inclusion on it.
@@ -20,7 +20,7 @@ pub(crate) struct Input {
 /// # Errors
 ///
 /// What is refused, the document before the query, and `NoMemory`.
-pub(crate) fn read_input(alloc: Global, inclusion: &str, bytes: &[u8]) -> Result<Input, Unread>
+pub fn read_input(alloc: Global, inclusion: &str, bytes: &[u8]) -> Result<Input, Unread>
     requires { length bytes.now ≤ 4294967293 }
     ensures input { IfOk result (IsInput inclusion.now bytes.now) }
     ensures unread { IfErr result (IsNoInput inclusion.now bytes.now) }

@@ -24,6 +24,7 @@ mod whole_text;
 mod workload_laws;
 mod workloads;
 
+pub use asking::{Input, read_input};
 pub use counting::count_answer;
 pub use laws::{lists_are_unique, workloads_are_questions};
 pub use list_laws::{counts_are_right, lists_are_right, whole_lists_are_done};
