@@ -29,7 +29,7 @@ use Rattle.query_asker.specs.AskerLists.{AskerLists, origin_of}
 use Rattle.query_asker.specs.Told.{IsTestOfOther, AreTestsOfOthers, IsShownNoIn, asker_meaning, IsAskerLog, IsUnknown, LogsNode}
 use Rattle.query_asker.specs.Memory.{yes_by, yes_of, no_of, IsMemo}
 use Rattle.query_asker.specs.Asking.{lists_of, CanAsk, IsAsker, IsLater, reply_of}
-use Rattle.query_asker.specs.Deciding.{IsOneTestAs, GainsTest}
+use Rattle.query_asker.specs.Deciding.{GainsTest}
 use Rattle.query_asker.proofs.Remembered.{kept_still}
 use Rattle.query_asker.proofs.Logged.{goes_on, with_entry, with_asks, MayBeLast, log_with, log_counted}
 use Rattle.query_asker.proofs.Answering.{yes_by_log, no_by_log}
@@ -318,7 +318,7 @@ module _ (o : OracleLists) (q : Query) (among : Option Limited) (first asks : �
     takes_by (Ok false) t = (nothing_left_of t.0, ap (λ (l : AskerLists). nodes_of l.gained) (same_asker t.1))
     takes_by (Err x) t = tt
 
--- ---- a call that asks nothing of the oracle, and one that is refused memory
+-- ---- a call that asks nothing of the oracle
 
 pub gains_none : (a : AskerLists) (s : Limited) → GainsTest a (with_asks a (one_more a.asks)) s Found.Undecided
 gains_none a s =
@@ -328,10 +328,6 @@ gains_none a s =
       is_more = λ i. record { ontology = a.ontology; query = a.query; budget = a.budget; local_part = a.local_part; before = a.before; gained = none i; asks = one_more a.asks };
       is_test = inr (refl, refl);
     }
-
-pub same_lists : (o o' : OracleLists) (q : Query) (among : Option Limited) (first asks : ℕ) → o'.ontology ≡ o.ontology → o'.budget ≡ o.budget → o'.log ≡ o.log → lists_of o' q among first asks ≡ lists_of o q among first asks
-same_lists o o' q among first asks ontology budget log =
-    let same : o' ≡ o = λ i. record { ontology = ontology i; budget = budget i; log = log i } in ap (λ (l : OracleLists). lists_of l q among first asks) same
 
 -- ---- what such a call leaves as it is
 
@@ -355,7 +351,7 @@ module _ (a b : AskerLists) (s : Limited) where
   shows_still : b ≡ a → ShowsTheSame (asker_meaning a) (asker_meaning b)
   shows_still e = subst (λ (x : AskerLists). ShowsTheSame (asker_meaning a) (asker_meaning x)) (sym e) (record { same_yes = λ j. (λ y. y, λ y. y); same_no = λ j. (λ n. n, λ n. n) })
 
-  nothing_later : b ≡ a → IsLater a b
+  pub nothing_later : b ≡ a → IsLater a b
   nothing_later e =
       let none : a.gained ≡ a.gained ++ [] = sym (append-nil a.gained) in
       record { more = []; is_more = λ i. record { ontology = (e i).ontology; query = (e i).query; budget = (e i).budget; local_part = (e i).local_part; before = (e i).before; gained = (ap (λ (x : AskerLists). x.gained) e ∙ none) i; asks = b.asks } }

@@ -11,7 +11,7 @@ use Rattle.query_asker.specs.Told.{asker_meaning, IsUnknown}
 use Rattle.query_asker.specs.Asking.{IsAsker, lists_of, reply_of}
 use Rattle.query_asker.specs.Deciding.{GainsTest}
 use Rattle.query_asker.proofs.Logged.{with_asks}
-use Rattle.query_asker.proofs.Tested.{is_new, after_test, answered, unknown, shows, gains, gains_none, same_lists}
+use Rattle.query_asker.proofs.Tested.{is_new, after_test, answered, unknown, shows, gains, gains_none}
 use Rattle.query_asker.proofs.asker.Asker.decide.Goals as goal
 
 pub decide-requires-clause-is_new : goal.decide-requires-clause-is_new

@@ -7,7 +7,7 @@ use Rattle.set_questions.specs.Meaning.{one_more}
 use Rattle.run_log.specs.Entries.{IsAnswered}
 use Rattle.query_asker.specs.declared.known.Known.TheVariants.{Answered, Unknown}
 use Rattle.query_asker.specs.AskerLists.{AskerLists}
-use Rattle.query_asker.specs.Told.{asker_meaning, part_in, IsUnknown}
+use Rattle.query_asker.specs.Told.{asker_meaning, IsUnknown}
 use Rattle.query_asker.specs.Asking.{IsLater}
 use Rattle.query_asker.specs.Deciding.{IsKnown}
 use Rattle.query_asker.proofs.Answering.{keeps_later, lifted, unknown_whole, left_out, shows_counted, local_inside, local_later}
