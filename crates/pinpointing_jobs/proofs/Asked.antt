@@ -1,6 +1,7 @@
 -- The document and the query of a run.
 use Rattle.std.proofs.Common.{◌≡◌, ◌⊎◌, ℕ, ◌≤◌, Bool, true, false, List, [], refl, ap, sym, ◌∙◌, inl, inr}
 use Rattle.shq_terms.specs.Listed.{Listed}
+use Rattle.shq_terms.specs.declared.axioms.Query.{Query as Asked}
 use Rattle.ofn_reader.specs.DocumentContext.{DocumentContext}
 use Rattle.job_inputs.specs.declared.unread.Unread.{Unread}
 use Rattle.job_inputs.specs.declared.unread.Unread.TheVariants as U
