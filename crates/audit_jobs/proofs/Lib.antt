@@ -2,3 +2,11 @@ pub mod Replied
 pub mod Reasons
 pub mod InLimit
 pub mod OneAnswer
+mod Keeping
+mod Asked
+mod TakenOut
+mod Putting
+mod Sound
+mod Witnessed
+mod Answered
+mod Accepted

@@ -1,4 +1,11 @@
 pub mod Audited
+pub mod Kept
+pub mod Told
+pub mod Witnessed
+pub mod Taken
+pub mod Listed
+pub mod Answers
+pub mod Laws
 pub use Rattle.audit_file.specs.AuditLists
 pub use Rattle.audit_check.specs.Sound
 pub use Rattle.audit_check.specs.declared.verdict.AuditVerdict

@@ -1,0 +1,63 @@
+-- From what a search found to the answer.
+use Rattle.std.proofs.Common.{◌≡◌, ℕ, Bool, true, false, List, Result, Ok, Err, inr}
+use Rattle.std.specs.Prelude.{IfOk, OnOk, OnErr}
+use Rattle.shq_terms.specs.Listed.{Listed}
+use Rattle.shq_terms.specs.NoMemory.{NoMemory}
+use Rattle.shq_terms.specs.declared.axioms.Query.{Query as Asked}
+use Rattle.run_log.specs.declared.entry.Entry.{Entry}
+use Rattle.audit_file.specs.AuditLists.{AuditLists}
+use Rattle.audit_file.specs.Written.{audit_text, IsKeptAudit}
+use Rattle.hitting_set_tree.specs.declared.tree.Found.{Found}
+use Rattle.job_inputs.specs.declared.status.Status.{Status}
+use Rattle.job_inputs.specs.declared.status.Status.TheVariants.{Done, Rejected, BadWords, BadText, Outside, Limit, ReadFault, WriteFault, Undecided, NoMemory as OutOfMemory}
+use Rattle.pinpointing_jobs.specs.Listings.{end_status}
+use Rattle.audit_jobs.specs.declared.evidence.Evidence.{Evidence}
+use Rattle.audit_jobs.specs.declared.searching.Searched.{Searched}
+use Rattle.audit_jobs.specs.Witnessed.{HasAsked, IsWitnessed, IsSearched}
+use Rattle.audit_jobs.specs.Listed.{IsAuditOf}
+use Rattle.audit_jobs.specs.Answers.{IsAuditText, IsWritten, IsEvidenceAnswer, IsEvidenced, AnswersEvidence}
+use Rattle.audit_jobs.proofs.Sound.{is_sound, of_axioms_listed, refutations_writable}
+
+-- ---- the text of the audit
+
+pub text_by : {T : Type 0} (o : Listed) (q : Asked) (f : Found) (e : Evidence) → IsWitnessed o q f e.refutations.items e.models.items → f.finished ≡ true → (a : AuditLists) → IsAuditOf f e a
+    → (r : Result T NoMemory) (bytes : T → List ℕ) → IfOk r (λ t. bytes t ≡ audit_text o a) → OnOk r (IsKeptAudit o a) → IfOk r (λ t. IsAuditText o q (bytes t))
+text_by o q f e w finished a is (Ok t) bytes text kept = record {
+  audit = a;
+  text = text;
+  sound = is_sound o q f e w finished a is;
+  of_axioms = of_axioms_listed o q f e w finished a is;
+  refutations = refutations_writable o q f e w finished a is;
+  kept = kept;
+}
+text_by o q f e w finished a is (Err x) bytes text kept = tt
+
+-- ---- of what a call answers
+
+module _ (o : Listed) (q : Asked) (budget : ℕ) (log : List Entry) (s : Searched) (is : IsSearched o q budget log s) where
+  pub all_answered : {T : Type 0} (r : Result (Status × T) NoMemory) (text : T → List ℕ) → IfOk r (λ a. IsWritten o q s.found.finished a.0 (text a.1)) → IfOk r (λ a. IsEvidenceAnswer o q budget log a.0 (text a.1))
+  all_answered (Ok a) text w = record { finished = s.found.finished; written = w; honest = is.honest; spent = is.spent }
+  all_answered (Err x) text w = tt
+
+  pub all_logs : {T : Type 0} (r : Result T NoMemory) → OnErr r (HasAsked o q budget log)
+  all_logs (Ok a) = tt
+  all_logs (Err x) = inr is.honest
+
+-- ---- answers
+
+-- a search does not end for want of memory
+no_want : (finished : Bool) → OutOfMemory ≡ end_status finished → ⊥
+no_want true is = cc is
+no_want false is = cc is
+
+pub evidenced_answers : (inclusion : List ℕ) (budget : ℕ) (bytes out : List ℕ) (s : Status) (log : List Entry) → IsEvidenced inclusion budget bytes out s log → AnswersEvidence inclusion budget bytes out s log
+evidenced_answers inclusion budget bytes out Done log is = inr is
+evidenced_answers inclusion budget bytes out Rejected log is = inr is
+evidenced_answers inclusion budget bytes out BadWords log is = inr is
+evidenced_answers inclusion budget bytes out BadText log is = inr is
+evidenced_answers inclusion budget bytes out Outside log is = inr is
+evidenced_answers inclusion budget bytes out Limit log is = inr is
+evidenced_answers inclusion budget bytes out ReadFault log is = inr is
+evidenced_answers inclusion budget bytes out WriteFault log is = inr is
+evidenced_answers inclusion budget bytes out Undecided log is = inr is
+evidenced_answers inclusion budget bytes out OutOfMemory log is = absurd (no_want is.answer.finished is.answer.written.status)

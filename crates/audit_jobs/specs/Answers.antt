@@ -1,0 +1,63 @@
+-- What is answered to the question for evidence.
+use Rattle.std.specs.Prelude.{◌≡◌, ◌⊎◌, ℕ, Bool, true, false, List, codes}
+use Rattle.std.specs.List.{All}
+use Rattle.shq_terms.specs.Listed.{Listed}
+use Rattle.shq_terms.specs.declared.axioms.Query.{Query as Asked}
+use Rattle.refutation_tree.specs.ReadBack.{IsWritable}
+use Rattle.run_log.specs.declared.entry.Entry.{Entry}
+use Rattle.run_log.specs.Entries.{spent_of}
+use Rattle.audit_file.specs.AuditLists.{AuditLists}
+use Rattle.audit_file.specs.Fitting.{AreOfAxioms}
+use Rattle.audit_file.specs.Written.{audit_text, IsKeptAudit}
+use Rattle.audit_file.specs.declared.entries.Justification.{Justification}
+use Rattle.audit_check.specs.Sound.{IsSound}
+use Rattle.job_inputs.specs.Answer.{line}
+use Rattle.job_inputs.specs.declared.status.Status.{Status}
+use Rattle.job_inputs.specs.Questions.{follows, IsQuestion}
+use Rattle.job_inputs.specs.Refusals.{IsRefused, HasBegun}
+use Rattle.pinpointing_jobs.specs.Memory.{UnlessNoMemory}
+use Rattle.pinpointing_jobs.specs.Listings.{end_status}
+use Rattle.audit_jobs.specs.Witnessed.{IsEvidenceLog}
+
+-- ---- what is printed
+
+-- The text of a sound audit, over sets of axioms of the ontology and with evidence that can be written, as it is
+-- kept: so its lists are exactly all justifications and all repairs, in order.
+pub record IsAuditText (o : Listed) (q : Asked) (out : List ℕ) : Type 0 where
+  pub audit : AuditLists
+  pub text : out ≡ audit_text o audit
+  pub sound : IsSound o q audit
+  pub of_axioms : AreOfAxioms o audit
+  pub refutations : All (λ (j : Justification). IsWritable o j.refutation) audit.justifications
+  pub kept : IsKeptAudit o audit
+
+-- a finished search prints an audit, and one that is not finished says so and nothing else
+abbrev pub IsEvidenceText : Listed → Asked → List ℕ → Bool → Type 0
+IsEvidenceText o q out true = IsAuditText o q out
+IsEvidenceText o q out false = out ≡ line (codes "undecided")
+
+-- the text of what a search found, and how the run ends
+pub record IsWritten (o : Listed) (q : Asked) (finished : Bool) (s : Status) (out : List ℕ) : Type 0 where
+  pub text : IsEvidenceText o q out finished
+  pub status : s ≡ end_status finished
+
+-- ---- what is true of it
+
+-- a query was searched: where the budget did not suffice, all of it is spent
+pub record IsEvidenceAnswer (o : Listed) (q : Asked) (budget : ℕ) (log : List Entry) (s : Status) (out : List ℕ) : Type 0 where
+  pub finished : Bool
+  pub written : IsWritten o q finished s out
+  pub honest : IsEvidenceLog o q budget log
+  pub spent : finished ≡ false → spent_of log ≡ budget
+
+-- the inclusion is a query on the document that the bytes are, and was searched
+pub record IsEvidenced (inclusion : List ℕ) (budget : ℕ) (bytes out : List ℕ) (s : Status) (log : List Entry) : Type 0 where
+  pub ontology : Listed
+  pub query : Asked
+  pub is_question : IsQuestion (follows inclusion) bytes ontology query
+  pub answer : IsEvidenceAnswer ontology query budget log s out
+
+-- the document or the inclusion is refused, or the inclusion was searched
+abbrev pub AnswersEvidence : List ℕ → ℕ → List ℕ → List ℕ → Status → List Entry → Type 0
+AnswersEvidence inclusion budget bytes out s log =
+    UnlessNoMemory s out (HasBegun (follows inclusion) bytes log (λ o q. IsEvidenceLog o q budget log)) (IsRefused (follows inclusion) bytes out s log ⊎ IsEvidenced inclusion budget bytes out s log)

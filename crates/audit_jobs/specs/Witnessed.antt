@@ -1,0 +1,56 @@
+-- What the search for justifications and repairs finds, with the evidence of its tests.
+use Rattle.std.specs.Prelude.{◌≡◌, ◌⊎◌, ℕ, ◌++◌, [], true, false, List, length, Contains}
+use Rattle.lane_sieve.specs.Sets.{IsPart}
+use Rattle.axiom_sets.specs.Sets.{Limited}
+use Rattle.pinpointing_specs.specs.LocalModule.{FollowsFrom}
+use Rattle.pinpointing_specs.specs.Order.{IsAscending}
+use Rattle.pinpointing_specs.specs.Smallest.{rest, IsExplored}
+use Rattle.set_questions.specs.InOrder.{HaveOneLimit}
+use Rattle.hitting_set_tree.specs.declared.tree.Found.{Found}
+use Rattle.shq_terms.specs.Listed.{Listed}
+use Rattle.shq_terms.specs.declared.axioms.Query.{Query as Asked}
+use Rattle.refutation_tree.specs.RefutationLists.{RefutationLists}
+use Rattle.run_log.specs.declared.entry.Entry.{Entry}
+use Rattle.run_log.specs.Entries.{spent_of}
+use Rattle.run_log.specs.HonestLog.{IsJustificationSet, IsHonestWithin, AreTestsOf, AsksNoAnswer, AreTreeNodes, AsksFewPerNode}
+use Rattle.audit_jobs.specs.declared.evidence.CounterModel.{CounterModel}
+use Rattle.audit_jobs.specs.declared.searching.Searched.{Searched}
+use Rattle.audit_jobs.specs.Kept.{AreShown, HasRefutation}
+
+-- ---- the log
+
+-- Each entry is true, and no more than the budget is spent; each test is one of the query, and none is made for which
+-- an earlier entry answers; the nodes are those of a hitting-set tree, and there are at most as many tests for each
+-- of them as axioms, and one. The sets that are tested are not kept within the local module.
+pub record IsEvidenceLog (o : Listed) (q : Asked) (budget : ℕ) (log : List Entry) : Type 0 where
+  pub budget_kept : IsHonestWithin o budget log
+  pub tests : AreTestsOf q log
+  pub new : AsksNoAnswer log
+  pub nodes : AreTreeNodes o q log
+  pub few : AsksFewPerNode o log
+
+-- nothing was asked, or the log is such a one
+abbrev pub HasAsked : Listed → Asked → ℕ → List Entry → Type 0
+HasAsked o q budget log = (log ≡ []) ⊎ IsEvidenceLog o q budget log
+
+-- ---- what was found
+
+-- one of the models is that of a set with each axiom outside of the leaf
+abbrev pub HasModelOutside : List CounterModel → Limited → Type 0
+HasModelOutside ms l = (m : CounterModel) × Contains ms m × IsPart (rest l) m.set.members
+
+-- justifications and leaves, each with evidence among that of the tests; all of them where the budget sufficed
+pub record IsWitnessed (o : Listed) (q : Asked) (f : Found) (rs : List RefutationLists) (ms : List CounterModel) : Type 0 where
+  pub order : IsAscending f.justifications.items
+  pub justifications : (j : Limited) → Contains f.justifications.items j → IsJustificationSet o q j
+  pub limits : HaveOneLimit (f.justifications.items ++ f.leaves.items)
+  pub are_shown : AreShown o q rs ms
+  pub refuted : (j : Limited) → Contains f.justifications.items j → HasRefutation rs j
+  pub modelled : (l : Limited) → Contains f.leaves.items l → HasModelOutside ms l
+  pub explored : f.finished ≡ true → IsExplored (FollowsFrom o.axioms q) (length o.axioms) f.justifications.items f.leaves.items
+
+-- a query was searched, with this log
+pub record IsSearched (o : Listed) (q : Asked) (budget : ℕ) (log : List Entry) (s : Searched) : Type 0 where
+  pub honest : IsEvidenceLog o q budget log
+  pub witnessed : IsWitnessed o q s.found s.evidence.refutations.items s.evidence.models.items
+  pub spent : s.found.finished ≡ false → spent_of log ≡ budget
