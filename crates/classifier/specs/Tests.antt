@@ -1,5 +1,5 @@
 -- One test of a query by all axioms.
-use Rattle.std.specs.Prelude.{◌≡◌, ℕ, List, [], ◌∷◌, ◌++◌, Some, slice_get}
+use Rattle.std.specs.Prelude.{◌≡◌, ℕ, Bool, true, false, List, [], ◌∷◌, ◌++◌, Option, Some, None, slice_get}
 use Rattle.axiom_sets.specs.Sets.{Limited}
 use Rattle.shq_terms.specs.declared.axioms.Query.{Query}
 use Rattle.run_log.specs.declared.entry.Entry.{Entry}
@@ -9,6 +9,7 @@ use Rattle.run_log.specs.declared.entry.TestEnd.TheVariants as E
 use Rattle.run_log.specs.Entries.{spent_of}
 use Rattle.run_log.specs.HonestLog.{IsHonestEntry}
 use Rattle.shq_oracle.specs.OracleLists.{OracleLists}
+use Rattle.shq_oracle.specs.ApartLists.{ApartLists}
 use Rattle.shq_oracle.specs.declared.answer.Outcome.{Outcome}
 use Rattle.shq_oracle.specs.declared.answer.Outcome.TheVariants as O
 use Rattle.classifier.specs.Subsumption.{query_at}
@@ -42,6 +43,16 @@ pub record IsTested (before after : OracleLists) (s : Limited) (q : Query) (v : 
   pub ends_as : EndsAs v ended
   pub honest : IsHonestEntry before.ontology (Test s q steps ended)
   pub spends : SpendsAll after v
+
+-- an entry that it does not follow was put last, or nothing has changed
+abbrev pub IsNoted : OracleLists → OracleLists → Limited → Query → Bool → Type 0
+IsNoted before after s q true = IsTested before after s q No
+IsNoted before after s q false = after ≡ before
+
+-- what was shown last, where anything was, and else what was kept
+abbrev pub newest : Option ApartLists → Option ApartLists → Option ApartLists
+newest (Some a) kept = Some a
+newest None kept = kept
 
 -- the log began so: its first entry tests whether x is part of y
 abbrev pub FirstAsks : ℕ → ℕ → ℕ → List Entry → Type 0

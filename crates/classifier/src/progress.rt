@@ -1,11 +1,13 @@
 // What is known and what is ruled out of the pairs of classes, as far as questions were answered.
-ghost use Rattle.std.specs.Prelude.{◌≡◌, ℕ, ◌+◌, ◌<◌, ◌&&◌, true, false, [], length, IfOk, IfErr, OnOk, OnErr};
+ghost use Rattle.std.specs.Prelude.{◌≡◌, ℕ, ◌+◌, ◌<◌, ◌&&◌, true, false, [], length, IfOk, IfErr, IfSome, OnOk, OnErr};
 ghost use Rattle.std.specs.FinSet as set;
 ghost use Rattle.axiom_sets.specs.Sets.{IsFull};
 ghost use Rattle.ontology_limits.specs.Limits.{IsOntologyInLimit};
 ghost use Rattle.run_log.specs.HonestLog.{IsWhole};
+ghost use Rattle.shq_oracle.specs.ApartLists.{IsAbout};
 ghost use Rattle.classifier.specs.Matrices.{has, IsMatrix, Adds};
 ghost use Rattle.classifier.specs.Rows.{holds, IsAtFirst, Relates};
+ghost use Rattle.classifier.specs.Subsumption.{class_at};
 ghost use Rattle.classifier.specs.Tests.{AreAlike, Begins, HasBegun};
 ghost use Rattle.classifier.specs.ClassificationClassified.{all_in_none, BeginsWith};
 
@@ -15,12 +17,12 @@ use crate::testing::{Verdict, test};
 use crate::told::Inclusion;
 use crate::{BitMatrix, Relation};
 use axiom_sets::AxiomSet;
-use shq_oracle::Oracle;
+use shq_oracle::{Apart, Oracle};
 use shq_terms::{NoMemory, Ontology};
 use std::alloc::Global;
 
-/// The pairs of classes that are settled: those of which it is known that the one is part of the other, and those of which this
-/// is ruled out. Beside them are the set of all axioms and that of all class numbers, each greater by one.
+/// The pairs of classes that are settled: those of which it is known that the one is part of the other, and those of
+/// which this is ruled out. Beside them are the set of all axioms and that of all class numbers, each greater by one.
 #[derive(Drop)]
 pub(crate) struct Progress {
     pub(crate) known: Relation,
@@ -53,8 +55,9 @@ impl Progress {
         })
     }
 
-    /// Asks until each pair of classes is settled: first whether all things are in the class of none, then what axioms say at
-    /// once, and then class by class.
+    /// Asks until each pair of classes is settled: first whether all things are in the class of none, then what axioms
+    /// say at once, and then class by class, those first below which none is known. What these are no part of, nothing
+    /// above them is part of either.
     ///
     /// # Errors
     /// The budget was spent, or memory was refused.
@@ -73,8 +76,10 @@ impl Progress {
         ensures alike { AreAlike oracle.old oracle.new }
     {
         let count = self.known.class_count();
-        self.ask(oracle, count, count + 1)?;
+        let mut kept = None;
+        self.ask(oracle, &mut kept, count, count + 1)?;
         self.settle_told(oracle, told)?;
+        self.settle_lowest(oracle)?;
         self.settle_classes(oracle)
     }
 
@@ -88,6 +93,21 @@ impl Progress {
     {
         for inclusion in told {
             self.settle(oracle, inclusion.sub, inclusion.sup)?;
+        }
+        Ok(())
+    }
+
+    // Asks about the classes below which there is known to be none but the class of none.
+    fn settle_lowest(&mut self, oracle: &mut Oracle<'_>) -> Result<(), Stop>
+        requires going { IsGoing oracle.old self.old }
+        ensures ok { OnOk result (Advances oracle.new self.old self.new) }
+        ensures err { IfErr result (HasStopped oracle.new) }
+        ensures alike { AreAlike oracle.old oracle.new }
+    {
+        for class in 0..self.classes.limit() {
+            if self.known.below(class).len() <= 2 {
+                self.settle_class(oracle, class)?;
+            }
         }
         Ok(())
     }
@@ -106,7 +126,8 @@ impl Progress {
         Ok(())
     }
 
-    // Asks until each pair of the class is settled.
+    // Asks until each pair of the class is settled: first whether it has anything at all, where that is open, since a
+    // search for it mostly shows of most other classes that it is no part of them.
     fn settle_class(&mut self, oracle: &mut Oracle<'_>, class: u32) -> Result<(), Stop>
         requires going { IsGoing oracle.old self.old }
         requires class { class < self.old.known.count + 2 }
@@ -115,8 +136,9 @@ impl Progress {
         ensures err { IfErr result (HasStopped oracle.new) }
         ensures alike { AreAlike oracle.old oracle.new }
     {
-        while let Some(other) = self.next_open(class)? {
-            self.ask(oracle, class, other)?;
+        let mut kept = None;
+        while let Some(other) = self.next_question(class)? {
+            self.ask(oracle, &mut kept, class, other)?;
         }
         Ok(())
     }
@@ -133,15 +155,25 @@ impl Progress {
         if self.known.relates(x, y) || self.ruled_out.has(x, y) {
             return Ok(());
         }
-        self.ask(oracle, x, y)
+        let mut kept = None;
+        self.ask(oracle, &mut kept, x, y)
     }
 
-    // Asks about a pair that is not settled.
-    fn ask(&mut self, oracle: &mut Oracle<'_>, x: u32, y: u32) -> Result<(), Stop>
+    // Asks about a pair that is not settled. What is kept was shown of the first class.
+    fn ask<'a>(
+        &mut self,
+        oracle: &mut Oracle<'a>,
+        kept: &mut Option<Apart<'a>>,
+        x: u32,
+        y: u32,
+    ) -> Result<(), Stop>
         requires going { IsGoing oracle.old self.old }
         requires first { x < self.old.known.count + 2 }
         requires second { y < self.old.known.count + 2 }
         requires open { is_settled self.old x y ≡ false }
+        requires kept { IfSome kept.old (IsAbout oracle.old.ontology self.old.axioms (class_at self.old.known.count x)) }
+        ensures kept { IfSome kept.new (IsAbout oracle.old.ontology self.old.axioms (class_at self.old.known.count x)) }
+        ensures axioms { self.new.axioms ≡ self.old.axioms }
         ensures ok { OnOk result (Advances oracle.new self.old self.new) }
         ensures settled { OnOk result (is_settled self.new x y ≡ true) }
         ensures err { IfErr result (HasStopped oracle.new) }
@@ -149,12 +181,28 @@ impl Progress {
         ensures begun { OnOk result (HasBegun self.old.known.count x y oracle.old oracle.new) }
         ensures alike { AreAlike oracle.old oracle.new }
     {
-        match test(oracle, &self.axioms, self.known.class_count(), x, y)? {
+        match test(oracle, kept, &self.axioms, self.known.class_count(), x, y)? {
             Verdict::Yes => self.take_in(x, y)?,
             Verdict::No => self.rule_out(x, y),
             Verdict::Spent => return Err(Stop::Spent),
         }
         Ok(())
+    }
+
+    // The class of none, where it is open whether the class is part of it; else a most general class of which that is
+    // open.
+    fn next_question(&self, class: u32) -> Result<Option<u32>, NoMemory>
+        requires class { class < self.now.known.count + 2 }
+        requires ruled_out { self.now.ruled_out.size ≡ self.now.known.count + 2 }
+        requires limit { self.now.classes.limit ≡ self.now.known.count + 2 }
+        requires full { IsFull (self.now.known.count + 2) self.now.classes.members }
+        ensures { IfOk result (IsOpenAt self.now class) }
+    {
+        let none = self.known.class_count() + 1;
+        if self.known.relates(class, none) || self.ruled_out.has(class, none) {
+            return self.next_open(class);
+        }
+        Ok(Some(none))
     }
 
     // A most general class such that it is not settled whether the class is part of it; none where all are settled.

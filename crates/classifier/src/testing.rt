@@ -1,13 +1,14 @@
 // One question to the oracle, and its outcome.
-ghost use Rattle.std.specs.Prelude.{◌≡◌, ◌≤◌, false, length, IfOk, OnOk, OnErr};
+ghost use Rattle.std.specs.Prelude.{◌≡◌, ◌≤◌, false, length, IfOk, IfSome, OnOk, OnErr};
 ghost use Rattle.std.specs.List.{list_any};
 ghost use Rattle.ontology_limits.specs.Limits.{IsInLimit};
 ghost use Rattle.run_log.specs.Entries.{spent_of, is_spent, IsAnswered};
 ghost use Rattle.classifier.specs.Subsumption.{class_at, query_at};
-ghost use Rattle.classifier.specs.Tests.{verdict_of, IsTested, AreAlike, Begins, HasBegun};
+ghost use Rattle.shq_oracle.specs.ApartLists.{IsAbout};
+ghost use Rattle.classifier.specs.Tests.{verdict_of, newest, IsTested, IsNoted, AreAlike, Begins, HasBegun};
 
 use axiom_sets::AxiomSet;
-use shq_oracle::{Oracle, Outcome};
+use shq_oracle::{Apart, Oracle, Outcome};
 use shq_terms::{Concept, MAX_CLASSES, NoMemory, Node, Query};
 
 /// What a test found.
@@ -21,47 +22,157 @@ pub(crate) enum Verdict {
     Spent,
 }
 
-/// Asks whether class `x` is part of class `y` by the axioms of the set, where so many classes are listed.
+/// Asks whether class `x` is part of class `y` by the axioms of the set, where so many classes are listed. Where what
+/// is kept of an earlier search for `x` shows that it is not, nothing is searched; what a search shows of further
+/// classes is kept.
 ///
 /// # Errors
 /// Memory may be refused; the log is as before then.
-pub(crate) fn test(
-    oracle: &mut Oracle<'_>,
+pub(crate) fn test<'a>(
+    oracle: &mut Oracle<'a>,
+    kept: &mut Option<Apart<'a>>,
     axioms: &AxiomSet,
     count: u32,
     x: u32,
     y: u32,
 ) -> Result<Verdict, NoMemory>
     requires small { count ≤ MAX_CLASSES }
+    requires listed { count ≡ length oracle.old.ontology.classes }
     requires limit { axioms.now.limit ≡ length oracle.old.ontology.axioms }
     requires in_limit { IsInLimit oracle.old.ontology (query_at count x y) }
     requires goes_on { list_any is_spent oracle.old.log ≡ false }
     requires is_new { IsAnswered oracle.old.log axioms.now (query_at count x y) → ⊥ }
+    requires kept { IfSome kept.old (IsAbout oracle.old.ontology axioms.now (class_at count x)) }
     ensures tested { IfOk result (IsTested oracle.old oracle.new axioms.now (query_at count x y)) }
     ensures within { spent_of oracle.new.log ≤ oracle.new.budget }
     ensures begins { Begins count x y oracle.old oracle.new }
     ensures begun { OnOk result (HasBegun count x y oracle.old oracle.new) }
     ensures alike { AreAlike oracle.old oracle.new }
     ensures unchanged { OnErr result (oracle.new.log ≡ oracle.old.log) }
+    ensures kept { IfSome kept.new (IsAbout oracle.old.ontology axioms.now (class_at count x)) }
 {
     let query = query_between(count, x, y);
-    let verdict = decide(oracle, axioms, &query);
+    let verdict = decide(oracle, kept, axioms, &query, y, count);
     drop(query);
     verdict
 }
 
-// Asks the query.
-fn decide(oracle: &mut Oracle<'_>, axioms: &AxiomSet, query: &Query) -> Result<Verdict, NoMemory>
+// Asks the query, whose superclass is class `y`.
+fn decide<'a>(
+    oracle: &mut Oracle<'a>,
+    kept: &mut Option<Apart<'a>>,
+    axioms: &AxiomSet,
+    query: &Query,
+    y: u32,
+    count: u32,
+) -> Result<Verdict, NoMemory>
+    requires listed { count ≡ length oracle.old.ontology.classes }
+    requires asked { query.now.sup ≡ class_at count y }
     requires limit { axioms.now.limit ≡ length oracle.old.ontology.axioms }
     requires in_limit { IsInLimit oracle.old.ontology query.now }
     requires goes_on { list_any is_spent oracle.old.log ≡ false }
     requires is_new { IsAnswered oracle.old.log axioms.now query.now → ⊥ }
+    requires kept { IfSome kept.old (IsAbout oracle.old.ontology axioms.now query.now.sub) }
     ensures tested { IfOk result (IsTested oracle.old oracle.new axioms.now query.now) }
     ensures within { spent_of oracle.new.log ≤ oracle.new.budget }
     ensures alike { AreAlike oracle.old oracle.new }
     ensures unchanged { OnErr result (oracle.new.log ≡ oracle.old.log) }
+    ensures kept { IfSome kept.new (IsAbout oracle.old.ontology axioms.now query.now.sub) }
 {
-    Ok(verdict_of(oracle.test(axioms, query)?))
+    let noted = is_noted(oracle, kept, axioms, query, y, count)?;
+    if noted {
+        return Ok(Verdict::No);
+    }
+    search(oracle, kept, axioms, query)
+}
+
+// Puts the answer that the query does not follow into the log, if what is kept shows it and the budget allows it.
+#[tactic(auto, using(crate::proofs::Begun::alike_still))]
+fn is_noted(
+    oracle: &mut Oracle<'_>,
+    kept: &Option<Apart<'_>>,
+    axioms: &AxiomSet,
+    query: &Query,
+    y: u32,
+    count: u32,
+) -> Result<bool, NoMemory>
+    requires listed { count ≡ length oracle.old.ontology.classes }
+    requires asked { query.now.sup ≡ class_at count y }
+    requires goes_on { list_any is_spent oracle.old.log ≡ false }
+    requires is_new { IsAnswered oracle.old.log axioms.now query.now → ⊥ }
+    requires kept { IfSome kept.now (IsAbout oracle.old.ontology axioms.now query.now.sub) }
+    ensures noted { IfOk result (IsNoted oracle.old oracle.new axioms.now query.now) }
+    ensures within { spent_of oracle.new.log ≤ oracle.new.budget }
+    ensures alike { AreAlike oracle.old oracle.new }
+    ensures unchanged { OnErr result (oracle.new.log ≡ oracle.old.log) }
+{
+    match kept {
+        Some(apart) => note(oracle, apart, axioms, query, y, count),
+        None => {
+            oracle.left();
+            Ok(false)
+        }
+    }
+}
+
+#[tactic(auto, using(crate::proofs::Begun::alike_still))]
+fn note(
+    oracle: &mut Oracle<'_>,
+    apart: &Apart<'_>,
+    axioms: &AxiomSet,
+    query: &Query,
+    y: u32,
+    count: u32,
+) -> Result<bool, NoMemory>
+    requires listed { count ≡ length oracle.old.ontology.classes }
+    requires asked { query.now.sup ≡ class_at count y }
+    requires goes_on { list_any is_spent oracle.old.log ≡ false }
+    requires is_new { IsAnswered oracle.old.log axioms.now query.now → ⊥ }
+    requires apart { IsAbout oracle.old.ontology axioms.now query.now.sub apart.now }
+    ensures noted { IfOk result (IsNoted oracle.old oracle.new axioms.now query.now) }
+    ensures within { spent_of oracle.new.log ≤ oracle.new.budget }
+    ensures alike { AreAlike oracle.old oracle.new }
+    ensures unchanged { OnErr result (oracle.new.log ≡ oracle.old.log) }
+{
+    if y >= count {
+        oracle.left();
+        return Ok(false);
+    }
+    let noted = oracle.note_apart(apart, y)?;
+    Ok(noted)
+}
+
+// Searches whether the query follows.
+fn search<'a>(
+    oracle: &mut Oracle<'a>,
+    kept: &mut Option<Apart<'a>>,
+    axioms: &AxiomSet,
+    query: &Query,
+) -> Result<Verdict, NoMemory>
+    requires limit { axioms.now.limit ≡ length oracle.old.ontology.axioms }
+    requires in_limit { IsInLimit oracle.old.ontology query.now }
+    requires goes_on { list_any is_spent oracle.old.log ≡ false }
+    requires is_new { IsAnswered oracle.old.log axioms.now query.now → ⊥ }
+    requires kept { IfSome kept.old (IsAbout oracle.old.ontology axioms.now query.now.sub) }
+    ensures tested { IfOk result (IsTested oracle.old oracle.new axioms.now query.now) }
+    ensures within { spent_of oracle.new.log ≤ oracle.new.budget }
+    ensures alike { AreAlike oracle.old oracle.new }
+    ensures unchanged { OnErr result (oracle.new.log ≡ oracle.old.log) }
+    ensures kept { IfSome kept.new (IsAbout oracle.old.ontology axioms.now query.now.sub) }
+{
+    let shown = oracle.test_apart(axioms, query)?;
+    keep(kept, shown.apart);
+    Ok(verdict_of(shown.outcome))
+}
+
+// Keeps what was shown last.
+fn keep<'a>(kept: &mut Option<Apart<'a>>, apart: Option<Apart<'a>>)
+    ensures { kept.new ≡ newest apart.entry kept.old }
+{
+    match apart {
+        Some(apart) => *kept = Some(apart),
+        None => {}
+    }
 }
 
 // Lets the axioms of an outcome go.

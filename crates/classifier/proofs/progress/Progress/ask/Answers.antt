@@ -1,6 +1,8 @@
-use Rattle.std.proofs.Common.{◌≡◌, true, subst}
+use Rattle.std.proofs.Common.{◌≡◌, ◌∙◌, ℕ, true, sym, subst}
+use Rattle.std.specs.Prelude.{IfSome}
 use Rattle.std.proofs.lemmas.Result.{err_from_is_err_and}
-use Rattle.classifier.specs.Subsumption.{query_at}
+use Rattle.shq_oracle.specs.ApartLists.{IsAbout}
+use Rattle.classifier.specs.Subsumption.{class_at, query_at}
 use Rattle.classifier.specs.Tests.{IsTested}
 use Rattle.classifier.specs.Progress.{Advances, is_settled}
 use Rattle.classifier.proofs.Advanced.{stopped_as_before, is_new, after_yes, after_no, after_spent, after_refused}
@@ -86,3 +88,30 @@ returns-in_ok-take_in-in-Yes-clause-begun c = begun_at c.class_count.result c.ar
 
 pub returns-in-No-clause-begun : goal.returns-in-No-clause-begun
 returns-in-No-clause-begun c = begun_at c.class_count.result c.args.self.now.known.count c.args.x c.args.y c.args.oracle.now c.test.new.oracle c.class_count.ensures.count c.in_ok-test.ensures.begun
+
+pub test-requires-clause-listed : goal.test-requires-clause-listed
+test-requires-clause-listed c = c.class_count.ensures.count ∙ c.requires.going.mirrors.count_is
+
+pub test-requires-clause-kept : goal.test-requires-clause-kept
+test-requires-clause-kept c =
+    subst (λ (n : ℕ). IfSome c.args.kept.now (IsAbout c.args.oracle.now.ontology c.args.self.now.axioms (class_at n c.args.x))) (sym c.class_count.ensures.count) c.requires.kept
+
+pub returns-in_err-test-clause-kept : goal.returns-in_err-test-clause-kept
+returns-in_err-test-clause-kept c =
+    subst (λ (n : ℕ). IfSome c.test.new.kept (IsAbout c.args.oracle.now.ontology c.args.self.now.axioms (class_at n c.args.x))) c.class_count.ensures.count c.in_err-test.ensures.kept
+
+pub returns-in_err-take_in-in-Yes-clause-kept : goal.returns-in_err-take_in-in-Yes-clause-kept
+returns-in_err-take_in-in-Yes-clause-kept c =
+    subst (λ (n : ℕ). IfSome c.test.new.kept (IsAbout c.args.oracle.now.ontology c.args.self.now.axioms (class_at n c.args.x))) c.class_count.ensures.count c.in_ok-test.ensures.kept
+
+pub returns-in-Spent-clause-kept : goal.returns-in-Spent-clause-kept
+returns-in-Spent-clause-kept c =
+    subst (λ (n : ℕ). IfSome c.test.new.kept (IsAbout c.args.oracle.now.ontology c.args.self.now.axioms (class_at n c.args.x))) c.class_count.ensures.count c.in_ok-test.ensures.kept
+
+pub returns-in_ok-take_in-in-Yes-clause-kept : goal.returns-in_ok-take_in-in-Yes-clause-kept
+returns-in_ok-take_in-in-Yes-clause-kept c =
+    subst (λ (n : ℕ). IfSome c.test.new.kept (IsAbout c.args.oracle.now.ontology c.args.self.now.axioms (class_at n c.args.x))) c.class_count.ensures.count c.in_ok-test.ensures.kept
+
+pub returns-in-No-clause-kept : goal.returns-in-No-clause-kept
+returns-in-No-clause-kept c =
+    subst (λ (n : ℕ). IfSome c.test.new.kept (IsAbout c.args.oracle.now.ontology c.args.self.now.axioms (class_at n c.args.x))) c.class_count.ensures.count c.in_ok-test.ensures.kept

@@ -6,7 +6,8 @@ use Rattle.axiom_sets.specs.Sets.{Limited}
 use Rattle.classifier.specs.Matrices.{has}
 use Rattle.classifier.specs.Rows.{holds}
 use Rattle.classifier.specs.Progress.{IsOneOf, IsOpenAt}
-use Rattle.classifier.proofs.Open.{left_open, found_open}
+use Rattle.shq_oracle.proofs.Left.{left_open}
+use Rattle.classifier.proofs.Open.{found_open}
 use Rattle.classifier.proofs.progress.Progress.next_open.Goals as goal
 
 pub returns : goal.returns
