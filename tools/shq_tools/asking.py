@@ -45,6 +45,7 @@ JOBS = {
     "classify": Job(()),
     "explain": Job(("AXIOM",)),
     "repair": Job(("AXIOM",)),
+    "evidence": Job(("AXIOM",)),
     "workload": Job(("N",), has_input=False),
 }
 USAGE = f"usage: ./shq {'|'.join(JOBS)}|profile|cut|read ..  (./shq --help says more)"

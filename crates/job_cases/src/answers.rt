@@ -3,7 +3,7 @@
 use crate::blocks::Block;
 use crate::shows::{put_shows, put_whole, text_of};
 use crate::turns::Turn;
-use job_runs::{Answer, Failing, NoMemory, Status, checked, run_on, run_through};
+use job_runs::{Answer, Failing, NoMemory, Status, audited, checked, run_on, run_through};
 use std::alloc::Global;
 
 /// The line that is printed of a run of a case, without its end.
@@ -99,7 +99,7 @@ fn named(alloc: Global, name: &str, number: Option<u32>) -> Result<String, NoMem
     }
 }
 
-// The words of a question that was answered with a certificate.
+// The words of a question that was answered with a certificate or an audit.
 fn question_in<'a>(block: &Block<'a>, answer: &Answer) -> Option<(&'a str, &'a str)> {
     match block.words.as_slice() {
         [job, asked, ..] if has_certificate(job, answer) => Some((*job, *asked)),
@@ -108,10 +108,10 @@ fn question_in<'a>(block: &Block<'a>, answer: &Answer) -> Option<(&'a str, &'a s
 }
 
 fn has_certificate(job: &str, answer: &Answer) -> bool {
-    answer.status == Status::Done && (job == "sat" || job == "entails")
+    answer.status == Status::Done && (job == "sat" || job == "entails" || job == "evidence")
 }
 
-// The verdict, and what `check` says of its certificate.
+// The verdict, and what `check` says of its certificate; or what `audit` says of an audit.
 fn put_evidence(
     alloc: Global,
     line: &mut String,
@@ -121,6 +121,20 @@ fn put_evidence(
 ) -> Result<(), NoMemory> {
     line.push_str(text_of(answer.verdict()))?;
     line.push_str("; ")?;
-    let said = checked(alloc, [job, asked], document, answer.text())?;
+    let said = verified(alloc, (job, asked), document, answer.text())?;
     put_whole(alloc, line, said.text())
+}
+
+// What is said of a certificate or an audit that this job printed.
+fn verified(
+    alloc: Global,
+    (job, asked): (&str, &str),
+    document: &str,
+    printed: &[u8],
+) -> Result<Answer, NoMemory> {
+    if job == "evidence" {
+        audited(alloc, asked, document, printed)
+    } else {
+        checked(alloc, [job, asked], document, printed)
+    }
 }

@@ -38,7 +38,8 @@
 //! this number fails).
 //!
 //! Of each case its name is printed, how the run ended, and the answer, with ` | ` between its lines. Of `sat` and
-//! `entails` the first line is printed, and what `check` says of the whole answer as a certificate. Then comes what
+//! `entails` the first line is printed, and what `check` says of the whole answer as a certificate; of `evidence` the
+//! first line, and what `audit` says of the whole answer. Then comes what
 //! else the case asks for.
 //!
 //! A file is malformed that has a line of no such form, a name twice, a case that asks nothing, or no case at all:

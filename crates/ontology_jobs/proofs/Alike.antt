@@ -8,10 +8,10 @@ use Rattle.classification_jobs.specs.Replies.{reply_answer}
 use Rattle.classification_jobs.specs.Status.{Status}
 use Rattle.classification_jobs.specs.Status.TheVariants.{Done, Rejected, BadWords, BadText, Outside, Limit, ReadFault, WriteFault, Undecided, NoMemory}
 use Rattle.classification_jobs.proofs.OneReading.{alone_not_refused, alone_refusals, questions_not_refused, question_refusals}
-use Rattle.ontology_jobs.specs.Words.{Job, check, audit, decide, classify, pinpoint, Request, on_input, generated, request_of}
+use Rattle.ontology_jobs.specs.Words.{Job, check, audit, decide, classify, pinpoint, evidence, Request, on_input, generated, request_of}
 use Rattle.ontology_jobs.specs.Answers.{IsTooLong, IsBadWords, AnswersJob, AnswersRequest}
 use Rattle.ontology_jobs.specs.Laws.{IsFinal, IsRefusal, IsFaultless, RefusalsAreAnsweredAlike}
-use Rattle.ontology_jobs.proofs.Ended.{Ended, too_long, is_refused, is_done, is_undecided, RefusesDocument, IsReadBy, IsReadDocument, question_ended, list_ended, class_ended, workload_ended}
+use Rattle.ontology_jobs.proofs.Ended.{Ended, too_long, is_refused, is_done, is_undecided, RefusesDocument, IsReadBy, IsReadDocument, question_ended, list_ended, evidence_ended, class_ended, workload_ended}
 use Rattle.ontology_jobs.proofs.Decided.{same_check, same_audit}
 use Rattle.ontology_jobs.proofs.Spending.{spends_all}
 
@@ -102,6 +102,9 @@ by_job_alike (classify budget) bytes out text s t log more r known a b =
 by_job_alike (pinpoint w inclusion budget) bytes out text s t log more r known a b =
     two_ends (IsRefusedQuestion (follows inclusion) bytes) (IsReadBy (follows inclusion) bytes) (λ p so why. questions_not_refused (follows inclusion) bytes so.0 so.1 p so.2 why) (question_refusals (follows inclusion) bytes) bytes out text s t log
     more r (list_ended w inclusion budget bytes out s log (faultless s r) a) (list_ended w inclusion budget bytes text t more known b)
+by_job_alike (evidence inclusion budget) bytes out text s t log more r known a b =
+    two_ends (IsRefusedQuestion (follows inclusion) bytes) (IsReadBy (follows inclusion) bytes) (λ p so why. questions_not_refused (follows inclusion) bytes so.0 so.1 p so.2 why) (question_refusals (follows inclusion) bytes) bytes out text s t log
+    more r (evidence_ended inclusion budget bytes out s log (faultless s r) a) (evidence_ended inclusion budget bytes text t more known b)
 
 no_refused_workload : (number budget : ℕ) (out : List ℕ) (s : Status) (log : List Entry) → IsRefusal s → (s ≡ Done) ⊎ (s ≡ Undecided) → ⊥
 no_refused_workload number budget out s log r (inl is) = subst IsRefusal is r

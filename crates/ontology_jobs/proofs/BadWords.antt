@@ -5,11 +5,11 @@ use Rattle.classification_jobs.specs.Answer.{Answer}
 use Rattle.classification_jobs.specs.Asked.{Reply}
 use Rattle.classification_jobs.specs.Status.{Status}
 use Rattle.classification_jobs.specs.Status.TheVariants.{Done, BadWords, Limit, Undecided}
-use Rattle.ontology_jobs.specs.Words.{Job, check, audit, decide, classify, pinpoint, Request, on_input, generated, request_of}
+use Rattle.ontology_jobs.specs.Words.{Job, check, audit, decide, classify, pinpoint, evidence, Request, on_input, generated, request_of}
 use Rattle.ontology_jobs.specs.Answers.{IsTooLong, IsBadWords, AnswersJob, AnswersRequest, Answers, AnswersAll}
 use Rattle.ontology_jobs.specs.Laws.{AsksForNothing, BadWordsAskForNothing}
 use Rattle.ontology_jobs.proofs.Said.{not_said, not_audited}
-use Rattle.ontology_jobs.proofs.Ended.{Ended, too_long, is_refused, is_done, is_undecided, question_ended, list_ended, class_ended, workload_ended}
+use Rattle.ontology_jobs.proofs.Ended.{Ended, too_long, is_refused, is_done, is_undecided, question_ended, list_ended, evidence_ended, class_ended, workload_ended}
 
 no_limit : (bytes out : List ℕ) (log : List Entry) → IsTooLong bytes out BadWords log → ⊥
 no_limit bytes out log long = let clash : BadWords ≡ Limit = ap (λ (a : Answer). a.0) long.answer in absurd (cc clash)
@@ -28,6 +28,7 @@ no_job (audit query) bytes out log (inr (short, ((end, says, is), none))) = not_
 no_job (decide question budget) bytes out log answer = no_end _ _ bytes out log (question_ended question budget bytes out BadWords log tt answer)
 no_job (classify budget) bytes out log answer = no_end _ _ bytes out log (class_ended budget bytes out BadWords log tt answer)
 no_job (pinpoint w inclusion budget) bytes out log answer = no_end _ _ bytes out log (list_ended w inclusion budget bytes out BadWords log tt answer)
+no_job (evidence inclusion budget) bytes out log answer = no_end _ _ bytes out log (evidence_ended inclusion budget bytes out BadWords log tt answer)
 
 no_workload : (number budget : ℕ) (bytes out : List ℕ) (log : List Entry) → AnswersRequest (generated number budget) bytes out BadWords log → ⊥
 no_workload number budget bytes out log answer =

@@ -24,11 +24,11 @@ use Rattle.classification_jobs.specs.Verdict.TheVariants.{NotEntailed, Entailed,
 use Rattle.classification_jobs.specs.Status.{Status}
 use Rattle.classification_jobs.specs.Status.TheVariants.{Done, Rejected, BadWords, BadText, Outside, Limit, ReadFault, WriteFault, Undecided, NoMemory}
 use Rattle.classification_jobs.proofs.OneReading.{alone_not_refused, questions_not_refused}
-use Rattle.ontology_jobs.specs.Words.{Job, check, audit, decide, classify, pinpoint, Request, on_input, generated, request_of}
+use Rattle.ontology_jobs.specs.Words.{Job, check, audit, decide, classify, pinpoint, evidence, Request, on_input, generated, request_of}
 use Rattle.ontology_jobs.specs.Answers.{IsTooLong, IsBadWords, AreAll, AnswersJob, AnswersRequest, Answers, AnswersAll}
 use Rattle.ontology_jobs.specs.Laws.{IsFaultless}
 use Rattle.ontology_jobs.specs.Complete.{BeginsWithDocument, IsReadable, HasLeft, IsDone, IsJudged, EndsWell, JobsAreDone, WorkloadsAreDone, IsComplete}
-use Rattle.ontology_jobs.proofs.Ended.{Ended, too_long, is_refused, is_done, is_undecided, RefusesDocument, IsReadBy, IsReadDocument, by_job, question_ended, list_ended, class_ended, workload_ended}
+use Rattle.ontology_jobs.proofs.Ended.{Ended, too_long, is_refused, is_done, is_undecided, RefusesDocument, IsReadBy, IsReadDocument, by_job, question_ended, list_ended, evidence_ended, class_ended, workload_ended}
 use Rattle.ontology_jobs.proofs.Spending.{spends_all, question_test_spent, class_test_spent}
 
 -- ---- an input that is read
@@ -149,6 +149,10 @@ jobs_are_done (pinpoint w inclusion budget) bytes out s log readable left known 
     done_by (IsRefusedQuestion (follows inclusion) bytes) (IsReadBy (follows inclusion) bytes) (λ r so why. questions_not_refused (follows inclusion) bytes so.0 so.1 r so.2 why) bytes out log s readable.short readable.read
     (λ is. some_left (spent_of log) budget left (spends_all (on_input (pinpoint w inclusion budget)) bytes out log (undecided (pinpoint w inclusion budget) bytes out s log is answer)))
     (list_ended w inclusion budget bytes out s log known answer)
+jobs_are_done (evidence inclusion budget) bytes out s log readable left known answer =
+    done_by (IsRefusedQuestion (follows inclusion) bytes) (IsReadBy (follows inclusion) bytes) (λ r so why. questions_not_refused (follows inclusion) bytes so.0 so.1 r so.2 why) bytes out log s readable.short readable.read
+    (λ is. some_left (spent_of log) budget left (spends_all (on_input (evidence inclusion budget)) bytes out log (undecided (evidence inclusion budget) bytes out s log is answer)))
+    (evidence_ended inclusion budget bytes out s log known answer)
 
 pub workloads_are_done : WorkloadsAreDone
 workloads_are_done number budget bytes out s log left known answer =

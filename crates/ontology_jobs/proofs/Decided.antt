@@ -18,7 +18,7 @@ use Rattle.ofn_reader.specs.Queries.{query_start}
 use Rattle.ofn_reader.proofs.OneReason.{document_refusals, query_refusals}
 use Rattle.ofn_reader.proofs.Unique.{documents, documents_not_refused, queries, queries_not_refused}
 use Rattle.run_log.specs.declared.entry.Entry.{Entry}
-use Rattle.ontology_jobs.specs.Words.{Job, check, audit, decide, classify, pinpoint, Request, on_input, generated, request_of}
+use Rattle.ontology_jobs.specs.Words.{Job, check, audit, decide, classify, pinpoint, evidence, Request, on_input, generated, request_of}
 use Rattle.audit_jobs.specs.Audited.{IsAuditEnd, end_answer}
 use Rattle.audit_jobs.specs.AuditVerdict.{AuditVerdict}
 use Rattle.audit_jobs.proofs.OneAnswer.{IsKnown, one_end}
@@ -240,4 +240,5 @@ answers words bytes out text s t log more plain known sure = by (request_of word
     by (Some (on_input (decide question budget))) plain p q = absurd plain
     by (Some (on_input (classify budget))) plain p q = absurd plain
     by (Some (on_input (pinpoint wanted inclusion budget))) plain p q = absurd plain
+    by (Some (on_input (evidence inclusion budget))) plain p q = absurd plain
     by (Some (generated number budget)) plain p q = absurd plain

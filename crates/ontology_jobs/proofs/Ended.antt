@@ -15,14 +15,18 @@ use Rattle.classification_jobs.specs.Answer.{Answer, complaint_answer}
 use Rattle.classification_jobs.specs.Asked.{Reply, refused_document}
 use Rattle.classification_jobs.specs.Classifications.{IsRefused as IsRefusedDocument, OnDocument, IsFinished, IsUnfinished, AnswersClassification}
 use Rattle.classification_jobs.specs.Questions.{Text, follows, IsDocumentAlone, IsNotAlone, IsQuestion, IsRefusedQuestion}
-use Rattle.classification_jobs.specs.Refusals.{IsRefused}
+use Rattle.classification_jobs.specs.Refusals.{IsRefused, HasBegun}
 use Rattle.classification_jobs.specs.Replies.{reply_answer}
 use Rattle.classification_jobs.specs.Status.{Status}
 use Rattle.classification_jobs.specs.Status.TheVariants.{Done, Rejected, BadWords, BadText, Outside, Limit, ReadFault, WriteFault, Undecided, NoMemory}
-use Rattle.pinpointing_jobs.specs.Answers.{IsPinpointed, IsMeasured, AnswersPinpointing, AnswersWorkload}
+use Rattle.evidence_jobs.specs.Answers.{IsEvidenced}
+use Rattle.evidence_jobs.specs.Witnessed.{IsEvidenceFront}
+use Rattle.pinpointing_jobs.specs.Answers.{IsPinpointed, IsMeasured, AnswersWorkload}
+use Rattle.pinpointing_jobs.specs.Begun.{IsFront}
+use Rattle.pinpointing_jobs.specs.Memory.{UnlessNoMemory}
 use Rattle.pinpointing_jobs.specs.Listings.{end_status}
 use Rattle.pinpointing_jobs.specs.declared.wanted.Wanted.{Wanted}
-use Rattle.ontology_jobs.specs.Words.{Job, check, decide, classify, pinpoint}
+use Rattle.ontology_jobs.specs.Words.{Job, check, decide, classify, pinpoint, evidence}
 use Rattle.ontology_jobs.specs.Answers.{IsTooLong, AnswersRead, AnswersJob}
 use Rattle.ontology_jobs.specs.Laws.{IsFaultless}
 
@@ -91,18 +95,17 @@ question_ended question budget bytes out s log known answer =
 
 -- ---- lists
 
-by_listing : (w : Wanted) (inclusion : List ℕ) (budget : ℕ) (bytes out : List ℕ) (s : Status) (log : List Entry) → IsFaultless s → AnswersPinpointing w inclusion budget bytes out s log
-    → IsRefused (follows inclusion) bytes out s log ⊎ IsPinpointed w inclusion budget bytes out s log
-by_listing w inclusion budget bytes out Done log known answer = answer
-by_listing w inclusion budget bytes out Rejected log known answer = answer
-by_listing w inclusion budget bytes out BadWords log known answer = answer
-by_listing w inclusion budget bytes out BadText log known answer = answer
-by_listing w inclusion budget bytes out Outside log known answer = answer
-by_listing w inclusion budget bytes out Limit log known answer = answer
-by_listing w inclusion budget bytes out ReadFault log known answer = absurd known
-by_listing w inclusion budget bytes out WriteFault log known answer = absurd known
-by_listing w inclusion budget bytes out Undecided log known answer = answer
-by_listing w inclusion budget bytes out NoMemory log known answer = absurd known
+by_begun : (out : List ℕ) (s : Status) (begun fact : Type 0) → IsFaultless s → UnlessNoMemory s out begun fact → fact
+by_begun out Done begun fact known answer = answer
+by_begun out Rejected begun fact known answer = answer
+by_begun out BadWords begun fact known answer = answer
+by_begun out BadText begun fact known answer = answer
+by_begun out Outside begun fact known answer = answer
+by_begun out Limit begun fact known answer = answer
+by_begun out ReadFault begun fact known answer = absurd known
+by_begun out WriteFault begun fact known answer = absurd known
+by_begun out Undecided begun fact known answer = answer
+by_begun out NoMemory begun fact known answer = absurd known
 
 finished_ends : (b : Bool) → (end_status b ≡ Done) ⊎ (end_status b ≡ Undecided)
 finished_ends true = inl refl
@@ -114,12 +117,28 @@ list_ended w inclusion budget bytes out s log known answer =
     elim (by_job (pinpoint w inclusion budget) bytes out s log known answer) [
       | inl long ↦ too_long long
       | inr read ↦
-          elim (by_listing w inclusion budget bytes out s log known read.1) [
+          elim (by_begun out s (HasBegun (follows inclusion) bytes log (λ o q. IsFront o q budget log)) (IsRefused (follows inclusion) bytes out s log ⊎ IsPinpointed w inclusion budget bytes out s log) known read.1) [
             | inl r ↦ is_refused read.0 r.reply r.refused r.answer r.unlogged
             | inr p ↦
                 elim (finished_ends p.listed.finished) [
                   | inl done ↦ is_done read.0 (p.ontology, p.query, p.is_question) (p.listed.status ∙ done)
                   | inr spent ↦ is_undecided read.0 (p.ontology, p.query, p.is_question) (p.listed.status ∙ spent)
+                ]
+          ]
+    ]
+
+pub evidence_ended : (inclusion : List ℕ) (budget : ℕ) (bytes out : List ℕ) (s : Status) (log : List Entry) → IsFaultless s → AnswersJob (evidence inclusion budget) bytes out s log
+    → Ended (IsRefusedQuestion (follows inclusion) bytes) (IsReadBy (follows inclusion) bytes) bytes out s log
+evidence_ended inclusion budget bytes out s log known answer =
+    elim (by_job (evidence inclusion budget) bytes out s log known answer) [
+      | inl long ↦ too_long long
+      | inr read ↦
+          elim (by_begun out s (HasBegun (follows inclusion) bytes log (λ o q. IsEvidenceFront o q budget log)) (IsRefused (follows inclusion) bytes out s log ⊎ IsEvidenced inclusion budget bytes out s log) known read.1) [
+            | inl r ↦ is_refused read.0 r.reply r.refused r.answer r.unlogged
+            | inr e ↦
+                elim (finished_ends e.answer.finished) [
+                  | inl done ↦ is_done read.0 (e.ontology, e.query, e.is_question) (e.answer.written.status ∙ done)
+                  | inr spent ↦ is_undecided read.0 (e.ontology, e.query, e.is_question) (e.answer.written.status ∙ spent)
                 ]
           ]
     ]

@@ -22,8 +22,9 @@ use Rattle.classification_jobs.specs.Refusals.{IsRefused}
 use Rattle.decision_jobs.specs.Decisions.{decision_status, IsDecided}
 use Rattle.pinpointing_jobs.specs.declared.wanted.Wanted.{Wanted}
 use Rattle.pinpointing_jobs.specs.Listings.{end_status, IsListing, IsListAnswer}
+use Rattle.evidence_jobs.specs.Answers.{IsEvidenceAnswer}
 use Rattle.pinpointing_jobs.specs.Counts.{IsCount, IsCounted}
-use Rattle.ontology_jobs.specs.Words.{Job, check, audit, decide, classify, pinpoint, Request, on_input, generated, request_of}
+use Rattle.ontology_jobs.specs.Words.{Job, check, audit, decide, classify, pinpoint, evidence, Request, on_input, generated, request_of}
 use Rattle.ontology_jobs.specs.Answers.{IsTooLong, IsBadWords, AnswersJob, AnswersRequest, Answers, AnswersAll}
 use Rattle.ontology_jobs.specs.Laws.{SpendsAll, HasSpentAll, UndecidedSpendsAll}
 use Rattle.ontology_jobs.proofs.Said.{not_said, not_audited}
@@ -77,6 +78,13 @@ listed_spent w o q budget log out l = by l.finished l.status l.listing
     by true is listing = absurd (cc is)
     by false is listing = listing.1
 
+evidence_spent : (o : Listed) (q : Asked) (budget : ℕ) (log : List Entry) (out : List ℕ) → IsEvidenceAnswer o q budget log Undecided out → spent_of log ≡ budget
+evidence_spent o q budget log out e = by e.finished e.written.status e.spent
+  where
+    by : (finished : Bool) → Undecided ≡ end_status finished → (finished ≡ false → spent_of log ≡ budget) → spent_of log ≡ budget
+    by true is spent = absurd (cc is)
+    by false is spent = spent refl
+
 counted_spent : (number : ℕ) (o : Listed) (q : Asked) (budget : ℕ) (log : List Entry) (out : List ℕ) → IsCounted number o q budget log Undecided out → spent_of log ≡ budget
 counted_spent number o q budget log out l = by l.finished l.status l.count
   where
@@ -97,6 +105,9 @@ spends_all (on_input (classify budget)) bytes out log (inr (short, on)) = on.so.
 spends_all (on_input (pinpoint wanted inclusion budget)) bytes out log (inl long) = absurd (too_long bytes out log long)
 spends_all (on_input (pinpoint wanted inclusion budget)) bytes out log (inr (short, inl refused)) = absurd (no_refusal (follows inclusion) bytes out log refused)
 spends_all (on_input (pinpoint wanted inclusion budget)) bytes out log (inr (short, inr p)) = listed_spent wanted p.ontology p.query budget log out p.listed
+spends_all (on_input (evidence inclusion budget)) bytes out log (inl long) = absurd (too_long bytes out log long)
+spends_all (on_input (evidence inclusion budget)) bytes out log (inr (short, inl refused)) = absurd (no_refusal (follows inclusion) bytes out log refused)
+spends_all (on_input (evidence inclusion budget)) bytes out log (inr (short, inr e)) = evidence_spent e.ontology e.query budget log out e.answer
 spends_all (generated number budget) bytes out log m = counted_spent number m.ontology m.query budget log out m.counted
 
 pub answered_spends : (held : Option (List ℕ)) (words : List (List ℕ)) (out : List ℕ) (s : Status) (log : List Entry) → AnswersAll held words out s log → s ≡ Undecided → HasSpentAll (request_of words) log

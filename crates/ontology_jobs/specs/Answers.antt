@@ -12,9 +12,10 @@ use Rattle.run_log.specs.declared.entry.Entry.{Entry}
 use Rattle.decision_jobs.specs.Checked.{Checked}
 use Rattle.decision_jobs.specs.Decisions.{AnswersQuestion}
 use Rattle.classification_jobs.specs.Classifications.{AnswersClassification}
+use Rattle.evidence_jobs.specs.Answers.{AnswersEvidence}
 use Rattle.pinpointing_jobs.specs.Answers.{AnswersPinpointing, AnswersWorkload}
 use Rattle.audit_jobs.specs.Audited.{Audited}
-use Rattle.ontology_jobs.specs.Words.{Job, check, audit, decide, classify, pinpoint, Request, on_input, generated, request_of}
+use Rattle.ontology_jobs.specs.Words.{Job, check, audit, decide, classify, pinpoint, evidence, Request, on_input, generated, request_of}
 
 abbrev pub bad_words : List ℕ
 bad_words = line (codes "bad words")
@@ -38,6 +39,7 @@ AnswersRead (audit query) bytes out s log = Audited query bytes out s × (log �
 AnswersRead (decide question budget) bytes out s log = AnswersQuestion question budget bytes out s log
 AnswersRead (classify budget) bytes out s log = AnswersClassification budget bytes out s log
 AnswersRead (pinpoint wanted inclusion budget) bytes out s log = AnswersPinpointing wanted inclusion budget bytes out s log
+AnswersRead (evidence inclusion budget) bytes out s log = AnswersEvidence inclusion budget bytes out s log
 
 -- the answer of a job to an input; memory may be refused before it is read, and then nothing is logged
 abbrev pub AnswersJob : Job → List ℕ → List ℕ → Status → List Entry → Type 0

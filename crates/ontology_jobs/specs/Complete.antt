@@ -12,7 +12,7 @@ use Rattle.classification_jobs.specs.Asked.{IsAsked}
 use Rattle.classification_jobs.specs.Questions.{follows, IsDocumentAlone, IsQuestion}
 use Rattle.classification_jobs.specs.Status.{Status}
 use Rattle.classification_jobs.specs.Status.TheVariants.{Done, Rejected, BadWords, BadText, Outside, Limit, ReadFault, WriteFault, Undecided, NoMemory}
-use Rattle.ontology_jobs.specs.Words.{Job, check, audit, decide, classify, pinpoint, Request, on_input, generated}
+use Rattle.ontology_jobs.specs.Words.{Job, check, audit, decide, classify, pinpoint, evidence, Request, on_input, generated}
 use Rattle.ontology_jobs.specs.Answers.{AnswersJob, AnswersRequest}
 use Rattle.ontology_jobs.specs.Laws.{IsFaultless}
 
@@ -36,6 +36,7 @@ IsRead (audit query) bytes = BeginsWithDocument query bytes
 IsRead (decide question budget) bytes = (o : Listed) × (q : Asked) × IsQuestion question bytes o q
 IsRead (classify budget) bytes = (o : Listed) × (kept : DocumentContext) × IsDocumentAlone bytes o kept
 IsRead (pinpoint wanted inclusion budget) bytes = (o : Listed) × (q : Asked) × IsQuestion (follows inclusion) bytes o q
+IsRead (evidence inclusion budget) bytes = (o : Listed) × (q : Asked) × IsQuestion (follows inclusion) bytes o q
 
 -- the input of a job is within its length, and is read
 pub record IsReadable (job : Job) (bytes : List ℕ) : Type 0 where
@@ -51,6 +52,7 @@ HasLeft (on_input (audit query)) log = Unit {0}
 HasLeft (on_input (decide question budget)) log = (spent_of log < budget) ⊎ (list_any is_spent log ≡ false)
 HasLeft (on_input (classify budget)) log = (spent_of log < budget) ⊎ (list_any is_spent log ≡ false)
 HasLeft (on_input (pinpoint wanted inclusion budget)) log = spent_of log < budget
+HasLeft (on_input (evidence inclusion budget)) log = spent_of log < budget
 HasLeft (generated number budget) log = spent_of log < budget
 
 -- ---- how the run ends
@@ -87,6 +89,7 @@ EndsWell (on_input (audit query)) s = IsJudged s
 EndsWell (on_input (decide question budget)) s = IsDone s
 EndsWell (on_input (classify budget)) s = IsDone s
 EndsWell (on_input (pinpoint wanted inclusion budget)) s = IsDone s
+EndsWell (on_input (evidence inclusion budget)) s = IsDone s
 EndsWell (generated number budget) s = IsDone s
 
 -- ---- the two together

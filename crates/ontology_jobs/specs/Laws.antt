@@ -10,7 +10,7 @@ use Rattle.ofn_reader.specs.DocumentContext.{DocumentContext}
 use Rattle.ofn_reader.specs.Documents.{IsDocument}
 use Rattle.run_log.specs.declared.entry.Entry.{Entry}
 use Rattle.run_log.specs.Entries.{spent_of}
-use Rattle.ontology_jobs.specs.Words.{Job, check, audit, decide, classify, pinpoint, Request, on_input, generated, request_of}
+use Rattle.ontology_jobs.specs.Words.{Job, check, audit, decide, classify, pinpoint, evidence, Request, on_input, generated, request_of}
 use Rattle.audit_jobs.specs.AuditLists.{AuditLists}
 use Rattle.audit_jobs.specs.Sound.{ListsAll}
 use Rattle.audit_jobs.specs.Audited.{audit_after, IsAskedOn}
@@ -41,6 +41,7 @@ AsksForNoSearch (Some (on_input (audit query))) = Unit {0}
 AsksForNoSearch (Some (on_input (decide question budget))) = ⊥
 AsksForNoSearch (Some (on_input (classify budget))) = ⊥
 AsksForNoSearch (Some (on_input (pinpoint wanted inclusion budget))) = ⊥
+AsksForNoSearch (Some (on_input (evidence inclusion budget))) = ⊥
 AsksForNoSearch (Some (generated number budget)) = ⊥
 
 abbrev pub AnswersAreUnique : Type 0
@@ -55,6 +56,7 @@ SpendsAll (on_input (audit query)) log = ⊥
 SpendsAll (on_input (decide question budget)) log = spent_of log ≡ budget
 SpendsAll (on_input (classify budget)) log = spent_of log ≡ budget
 SpendsAll (on_input (pinpoint wanted inclusion budget)) log = spent_of log ≡ budget
+SpendsAll (on_input (evidence inclusion budget)) log = spent_of log ≡ budget
 SpendsAll (generated number budget) log = spent_of log ≡ budget
 
 -- the same of what words ask for; those of no job spend nothing

@@ -11,7 +11,7 @@ use Rattle.ontology_jobs.specs.declared.words.Command.{Command}
 use Rattle.ontology_jobs.specs.declared.words.Command.TheVariants.{OnInput, Workload}
 use Rattle.ontology_jobs.specs.declared.workload_number.WorkloadNumber.{WorkloadNumber}
 use Rattle.ontology_jobs.specs.declared.words.Job.{Job as Kept}
-use Rattle.ontology_jobs.specs.declared.words.Job.TheVariants.{Check, Audit, Decide, Classify, Pinpoint}
+use Rattle.ontology_jobs.specs.declared.words.Job.TheVariants.{Check, Audit, Decide, Classify, Pinpoint, Evidence}
 
 -- a job on an input, with a budget where it searches
 pub data Job : Type 0 where
@@ -25,6 +25,8 @@ pub data Job : Type 0 where
   classify : ℕ → Job
   -- the justifications or the repairs of the axiom of this text
   pinpoint : Wanted → List ℕ → ℕ → Job
+  -- these for the axiom of this text, each with what shows it
+  evidence : List ℕ → ℕ → Job
 
 -- what words ask for: a job on an input, or the pinpointing job on the workload of a number
 pub data Request : Type 0 where
@@ -60,11 +62,12 @@ generated_with budget n = Some (generated n budget)
 abbrev pub workload_request : List ℕ → List ℕ → ℕ → Option Request
 workload_request w text budget = if bytes_eq w (codes "workload") then option_and_then (generated_with budget) (workload_number text) else None
 
--- `explain AXIOM` and `repair AXIOM`, with a budget
+-- `explain AXIOM`, `repair AXIOM` and `evidence AXIOM`, with a budget
 abbrev pub pinpointing_request : List ℕ → List ℕ → ℕ → Option Request
 pinpointing_request w text budget =
     if bytes_eq w (codes "explain") then Some (on_input (pinpoint Justifications text budget))
     else if bytes_eq w (codes "repair") then Some (on_input (pinpoint Repairs text budget))
+    else if bytes_eq w (codes "evidence") then Some (on_input (evidence text budget))
     else workload_request w text budget
 
 -- `sat CLASS` and `entails AXIOM`, and those above, with a budget
@@ -119,6 +122,7 @@ kept_job (Audit a) = audit a.now
 kept_job (Decide question budget) = decide (question_text question) budget
 kept_job (Classify budget) = classify budget
 kept_job (Pinpoint wanted a budget) = pinpoint wanted a.now budget
+kept_job (Evidence a budget) = evidence a.now budget
 
 abbrev pub plain_number : WorkloadNumber → ℕ
 plain_number n = n.number

@@ -11,6 +11,7 @@ use crate::words::{Command, Job, read_words};
 use audit_jobs::verify_audit;
 use classification_jobs::{Status, Text, classify};
 use decision_jobs::{answer, verify};
+use evidence_jobs::find_evidence;
 use pinpointing_jobs::{pinpoint, run_workload};
 use run_log::RunLog;
 use shq_io::{ReadEnd, Sink, Source, WriteFailed, read_all, write_whole};
@@ -133,6 +134,9 @@ fn do_on(alloc: Global, job: Job<'_>, input: &[u8], log: &mut RunLog) -> (Status
         Job::Classify(budget) => classify(alloc, budget, input, log),
         Job::Pinpoint(wanted, inclusion, budget) => {
             pinpoint(alloc, wanted, inclusion, budget, input, log)
+        }
+        Job::Evidence(inclusion, budget) => {
+            find_evidence(alloc, inclusion, budget, input, log)
         }
     }
 }

@@ -29,6 +29,8 @@ pub enum Job<'a> {
     Classify(u32),
     /// `explain AXIOM` or `repair AXIOM`: all smallest sets of axioms from which the axiom follows, or whose removal ends that.
     Pinpoint(Wanted, &'a str, u32),
+    /// `evidence AXIOM`: these sets as an audit, each with what shows it.
+    Evidence(&'a str, u32),
 }
 
 // How many steps a job may take where the words do not say it.
@@ -117,6 +119,8 @@ fn read_pinpointing<'a>(job: &str, text: &'a str, budget: u32) -> Option<Command
         Some(Command::OnInput(Job::Pinpoint(Wanted::Justifications, text, budget)))
     } else if job == "repair" {
         Some(Command::OnInput(Job::Pinpoint(Wanted::Repairs, text, budget)))
+    } else if job == "evidence" {
+        Some(Command::OnInput(Job::Evidence(text, budget)))
     } else {
         read_workload(job, text.as_bytes(), budget)
     }
