@@ -135,9 +135,7 @@ fn do_on(alloc: Global, job: Job<'_>, input: &[u8], log: &mut RunLog) -> (Status
         Job::Pinpoint(wanted, inclusion, budget) => {
             pinpoint(alloc, wanted, inclusion, budget, input, log)
         }
-        Job::Evidence(inclusion, budget) => {
-            find_evidence(alloc, inclusion, budget, input, log)
-        }
+        Job::Evidence(inclusion, budget) => { find_evidence(alloc, inclusion, budget, input, log) }
     }
 }
 
