@@ -47,6 +47,7 @@ class Words(unittest.TestCase):
             "explain --budget 5 X f.ofn": ("explain X budget 5", "f.ofn"),
             "check X f.txt": ("check X", "f.txt"),
             "audit X f.txt": ("audit X", "f.txt"),
+            "evidence X budget 5 f.ofn": ("evidence X budget 5", "f.ofn"),
             "classify --help": ("classify --help", None),
             "workload 5 f.ofn": ("workload 5 f.ofn", None),
             "other word": ("other word", None),
