@@ -19,8 +19,8 @@ use Rattle.classification_jobs.specs.Refusals.{IsRefused, HasBegun}
 use Rattle.classification_jobs.specs.Replies.{reply_answer}
 use Rattle.classification_jobs.specs.Status.{Status}
 use Rattle.classification_jobs.specs.Status.TheVariants.{Done, Rejected, BadWords, BadText, Outside, Limit, ReadFault, WriteFault, Undecided, NoMemory}
-use Rattle.evidence_jobs.specs.Answers.{IsEvidenced}
-use Rattle.evidence_jobs.specs.Witnessed.{IsEvidenceFront}
+use Rattle.audit_jobs.specs.Answers.{IsEvidenced}
+use Rattle.audit_jobs.specs.Witnessed.{IsEvidenceLog}
 use Rattle.pinpointing_jobs.specs.Answers.{IsPinpointed, IsMeasured, AnswersWorkload}
 use Rattle.pinpointing_jobs.specs.Begun.{IsFront}
 use Rattle.pinpointing_jobs.specs.Memory.{UnlessNoMemory}
@@ -133,7 +133,7 @@ evidence_ended inclusion budget bytes out s log known answer =
     elim (by_job (evidence inclusion budget) bytes out s log known answer) [
       | inl long ↦ too_long long
       | inr read ↦
-          elim (by_begun out s (HasBegun (follows inclusion) bytes log (λ o q. IsEvidenceFront o q budget log)) (IsRefused (follows inclusion) bytes out s log ⊎ IsEvidenced inclusion budget bytes out s log) known read.1) [
+          elim (by_begun out s (HasBegun (follows inclusion) bytes log (λ o q. IsEvidenceLog o q budget log)) (IsRefused (follows inclusion) bytes out s log ⊎ IsEvidenced inclusion budget bytes out s log) known read.1) [
             | inl r ↦ is_refused read.0 r.reply r.refused r.answer r.unlogged
             | inr e ↦
                 elim (finished_ends e.answer.finished) [

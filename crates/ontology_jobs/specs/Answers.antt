@@ -12,7 +12,7 @@ use Rattle.run_log.specs.declared.entry.Entry.{Entry}
 use Rattle.decision_jobs.specs.Checked.{Checked}
 use Rattle.decision_jobs.specs.Decisions.{AnswersQuestion}
 use Rattle.classification_jobs.specs.Classifications.{AnswersClassification}
-use Rattle.evidence_jobs.specs.Answers.{AnswersEvidence}
+use Rattle.audit_jobs.specs.Answers.{AnswersEvidence}
 use Rattle.pinpointing_jobs.specs.Answers.{AnswersPinpointing, AnswersWorkload}
 use Rattle.audit_jobs.specs.Audited.{Audited}
 use Rattle.ontology_jobs.specs.Words.{Job, check, audit, decide, classify, pinpoint, evidence, Request, on_input, generated, request_of}
