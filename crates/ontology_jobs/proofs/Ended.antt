@@ -22,7 +22,7 @@ use Rattle.classification_jobs.specs.Status.TheVariants.{Done, Rejected, BadWord
 use Rattle.audit_jobs.specs.Answers.{IsEvidenced}
 use Rattle.audit_jobs.specs.Witnessed.{IsEvidenceLog}
 use Rattle.pinpointing_jobs.specs.Answers.{IsPinpointed, IsMeasured, AnswersWorkload}
-use Rattle.pinpointing_jobs.specs.Begun.{IsFront}
+use Rattle.run_log.specs.HonestLog.{IsPinpointingLog}
 use Rattle.pinpointing_jobs.specs.Memory.{UnlessNoMemory}
 use Rattle.pinpointing_jobs.specs.Listings.{end_status}
 use Rattle.pinpointing_jobs.specs.declared.wanted.Wanted.{Wanted}
@@ -117,7 +117,7 @@ list_ended w inclusion budget bytes out s log known answer =
     elim (by_job (pinpoint w inclusion budget) bytes out s log known answer) [
       | inl long ↦ too_long long
       | inr read ↦
-          elim (by_begun out s (HasBegun (follows inclusion) bytes log (λ o q. IsFront o q budget log)) (IsRefused (follows inclusion) bytes out s log ⊎ IsPinpointed w inclusion budget bytes out s log) known read.1) [
+          elim (by_begun out s (HasBegun (follows inclusion) bytes log (λ o q. IsPinpointingLog o q budget log)) (IsRefused (follows inclusion) bytes out s log ⊎ IsPinpointed w inclusion budget bytes out s log) known read.1) [
             | inl r ↦ is_refused read.0 r.reply r.refused r.answer r.unlogged
             | inr p ↦
                 elim (finished_ends p.listed.finished) [
