@@ -1,5 +1,5 @@
--- The trigger of the row by which a search uses a part: at the names among the conjuncts, where there are any; else at an
--- edge of the first existential restriction among them; else everywhere. A range is used at the ends of edges.
+-- The trigger of the row by which a search uses a part: at the names among the conjuncts, where there are any; else at
+-- an edge of the first existential restriction among them; else everywhere. A range is used at the ends of edges.
 use Rattle.std.specs.Prelude.{ℕ, ◌+◌, List, [], ◌∷◌, map, Option, None, Some, if◌then◌else◌}
 use Rattle.std.specs.Option.{option_or}
 use Rattle.shq_terms.specs.Concept.{Concept, some_of}

@@ -2,9 +2,9 @@
 //!
 //! A search needs numbers that no concept of its table has as a part. Where a node has 'at most n' over a filler, each
 //! successor is put into the filler or into its complement. Where a node has 'all' over a role, its successors by a
-//! transitive role below that one get the 'all' over the transitive role (I. Horrocks, U. Sattler and S. Tobies, *Practical
-//! Reasoning for Expressive Description Logics*, Logic for Programming and Automated Reasoning, 1999). [`close`] puts these
-//! into a table, and what they ask for in turn.
+//! transitive role below that one get the 'all' over the transitive role (I. Horrocks, U. Sattler and S. Tobies,
+//! *Practical Reasoning for Expressive Description Logics*, Logic for Programming and Automated Reasoning, 1999).
+//! [`close`] puts these into a table, and what they ask for in turn.
 // The numbers that a search needs besides those of its table.
 ghost use Rattle.std.specs.Prelude.{◌≡◌, ◌<◌, true, IfOk, OnOk, length};
 ghost use Rattle.calculus_specs.specs.Shape.{IsTable};

@@ -1,17 +1,17 @@
 //! The rows by which a search uses the axioms of a set, filed by what they wait for.
 //!
-//! Each part of each axiom has one [`Row`]. One that waits for class names is filed under one of these classes, that which
-//! the fewest rows wait for, so that a node looks at few rows in vain. One that waits for an edge is filed under the role,
-//! and one that waits for nothing stands apart. This is the lazy unfolding of absorbed axioms (I. Horrocks and S. Tobies,
-//! *Reasoning with Axioms: Theory and Practice*, Principles of Knowledge Representation and Reasoning, 2000), with several
-//! names on a left side as in binary absorption (A. Hudek and G. Weddell, *Binary Absorption in Tableaux-Based Reasoning for
-//! Description Logics*, Description Logics, 2006).
+//! Each part of each axiom has one [`Row`]. One that waits for class names is filed under one of these classes, that
+//! which the fewest rows wait for, so that a node looks at few rows in vain. One that waits for an edge is filed under
+//! the role, and one that waits for nothing stands apart. This is the lazy unfolding of absorbed axioms (I. Horrocks
+//! and S. Tobies, *Reasoning with Axioms: Theory and Practice*, Principles of Knowledge Representation and Reasoning,
+//! 2000), with several names on a left side as in binary absorption (A. Hudek and G. Weddell, *Binary Absorption in
+//! Tableaux-Based Reasoning for Description Logics*, Description Logics, 2006).
 //!
 //! A [`RowTable`] is made for each set of axioms that is asked about, and costs what these axioms cost, whatever the
 //! ontology has besides.
 //!
-//! `trigger_laws` say why rows that wait say all that the axioms say. [`close`] puts into a table of concepts each number that a
-//! search over these rows can need, before it starts.
+//! `trigger_laws` say why rows that wait say all that the axioms say. [`close`] puts into a table of concepts each
+//! number that a search over these rows can need, before it starts.
 #![tactic(auto)]
 
 mod closing;

@@ -151,7 +151,8 @@ fn role_of_shape(shape: Shape<'_>) -> Option<u32>
     }
 }
 
-// What an inclusion waits for whose names stand at these positions, and whose first existential restriction has this role.
+// What an inclusion waits for whose names stand at these positions, and whose first existential restriction has this
+// role.
 fn inclusion_trigger(positions: NumberList, role: Option<u32>) -> Trigger
     ensures { plain_trigger result ≡ inclusion_trigger positions role }
 {

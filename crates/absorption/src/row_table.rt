@@ -42,8 +42,8 @@ impl Model for RowTable {
 impl RowTable {
     ghost use Rattle.absorption.specs.Places.{FiledRows};
 
-    /// The rows of the axioms of a set: one for each part, with the trigger that is fixed for it, and its concept by its
-    /// number among `concepts`, which gains what it lacks. The set is of axioms of the ontology.
+    /// The rows of the axioms of a set: one for each part, with the trigger that is fixed for it, and its concept by
+    /// its number among `concepts`, which gains what it lacks. The set is of axioms of the ontology.
     ///
     /// # Errors
     ///
@@ -67,7 +67,8 @@ impl RowTable {
         RowTable::filed(alloc, concepts, outcome?)
     }
 
-    /// The rows that wait for this class, among other names or alone, and stand here. A class without such rows has none.
+    /// The rows that wait for this class, among other names or alone, and stand here. A class without such rows has
+    /// none.
     pub fn by_name(&self, class: u32) -> &[Row]
         ensures { result.now ≡ rows_under self.now.at_names class }
     {

@@ -2,11 +2,11 @@
 //
 // They are searched for in depth, as in the algorithm MMCS (Keisuke Murakami and Takeaki Uno, "Efficient Algorithms for
 // Dualizing Large-Scale Hypergraphs", Discrete Applied Mathematics 170, 2014). A node of the search is a set that hits
-// some given set in each of its members alone. A number is a candidate at a node where with it each member is still hit alone,
-// and no earlier branch has it. The children of a node have one candidate more, of a given set that is not met: of all
-// of these the one with the fewest candidates, so that where one has none, no branch is begun. So each transversal is
-// come to once, none is looked at again for being smallest, and nothing is kept but the path to the node and what was
-// found. A node costs a look at each given set for each of its members.
+// some given set in each of its members alone. A number is a candidate at a node where with it each member is still hit
+// alone, and no earlier branch has it. The children of a node have one candidate more, of a given set that is not met:
+// of all of these the one with the fewest candidates, so that where one has none, no branch is begun. So each
+// transversal is come to once, none is looked at again for being smallest, and nothing is kept but the path to the node
+// and what was found. A node costs a look at each given set for each of its members.
 
 ghost use Rattle.std.specs.Prelude.{◌≡◌, ◌<◌, ◌≤◌, true, false, IfOk, OnOk, IfSome, IfNone, length};
 ghost use Rattle.std.specs.List.{All};
@@ -22,8 +22,8 @@ use set_questions::put_in_order;
 use shq_terms::NoMemory;
 use std::alloc::Global;
 
-/// The smallest sets, of numbers up to the limit, that meet each of the sets, in the order of sets, each once. Of no sets
-/// it is the empty set alone, and where one of the sets is empty there is none.
+/// The smallest sets, of numbers up to the limit, that meet each of the sets, in the order of sets, each once. Of no
+/// sets it is the empty set alone, and where one of the sets is empty there is none.
 ///
 /// # Errors
 /// Where memory is refused.

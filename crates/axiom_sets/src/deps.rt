@@ -4,8 +4,8 @@
 //! depend on: dependency-directed backtracking (Richard Stallman and Gerald Sussman, Artificial Intelligence 9, 1977),
 //! known as backjumping in description logic reasoners. A branching point is a mark, a number, and [`Deps`] is a set of
 //! marks as an ascending list that several facts may share: a set costs what its members cost, whatever their size, and
-//! the empty set takes no memory. Contracts see a finite set of numbers: union, removal and the latest mark are proved of
-//! its members.
+//! the empty set takes no memory. Contracts see a finite set of numbers: union, removal and the latest mark are proved
+//! of its members.
 // A set of marks: their ascending list, shared by the sets that are equal.
 
 ghost use Rattle.std.specs.Prelude.{◌≡◌, ℕ, ◌==◌, ◌↔◌, not, true, IsNone, IfSome, IfOk, filter};

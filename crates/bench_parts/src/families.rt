@@ -30,7 +30,8 @@ fn put_into(set: &mut AxiomSet, number: u32)
     }
 }
 
-/// One way through a chain of diamonds: the two axioms of a way in each link, where the digits of `choice` say which way.
+/// One way through a chain of diamonds: the two axioms of a way in each link, where the digits of `choice` say which
+/// way.
 fn one_way(
     alloc: Global,
     count: u32,

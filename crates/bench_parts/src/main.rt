@@ -1,6 +1,7 @@
-//! Times parts of the program. The first word says which: `sets`, how many times as fast as plain loops the kernels over sets
-//! are; `pinpointing`, nodes, questions and time of the hitting-set tree; `tree`, how fast facts are put, asked for, joined
-//! and undone. For any other word it prints these words. It promises nothing, and is outside of every theorem.
+//! Times parts of the program. The first word says which: `sets`, how many times as fast as plain loops the kernels
+//! over sets are; `pinpointing`, nodes, questions and time of the hitting-set tree; `tree`, how fast facts are put,
+//! asked for, joined and undone. For any other word it prints these words. It promises nothing, and is outside of every
+//! theorem.
 #![tactic(auto)]
 
 mod families;

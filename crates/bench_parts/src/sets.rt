@@ -1,5 +1,5 @@
-// How the kernels compare with the same loops over single words: for each kernel how many times as fast as the plain loop
-// it was in this run.
+// How the kernels compare with the same loops over single words: for each kernel how many times as fast as the plain
+// loop it was in this run.
 
 use crate::out_of_memory;
 use crate::plain_loops::{plain_candidates, plain_meets, plain_subset, plain_union};

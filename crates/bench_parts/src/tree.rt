@@ -201,7 +201,8 @@ fn time_chain<A: Allocator + Copy>(
     )
 }
 
-/// A star whose children have one concept each, and a tree in which each node has EACH concepts: every fact rests on a mark.
+/// A star whose children have one concept each, and a tree in which each node has EACH concepts: every fact rests on a
+/// mark.
 fn grow<A: Allocator + Copy>(heap: Global, tree: &mut Tree<A>, from: u32) -> Result<(), NoMemory> {
     if from < tree.nodes() {
         let by = By {

@@ -21,8 +21,8 @@ pub(crate) enum Family {
     Definitions,
     /// The same, where the successors are in classes of the tree.
     MixedDefinitions,
-    /// So many classes, each defined as what is in one and the same class and has a successor in the one before; every eighth
-    /// begins anew.
+    /// So many classes, each defined as what is in one and the same class and has a successor in the one before; every
+    /// eighth begins anew.
     DefinitionsBelow,
     /// One pigeon more than so many holes, all said of one node.
     PigeonNames,
@@ -119,8 +119,8 @@ fn put_tree(list: &mut Vec<Statement>, size: u32) -> Result<(), NoMemory> {
     Ok(())
 }
 
-/// Definitions of the classes of a tree but the first, of which the class 0 is the last. A successor is in a class of its own,
-/// or in that of half the number where the definitions are mixed.
+/// Definitions of the classes of a tree but the first, of which the class 0 is the last. A successor is in a class of
+/// its own, or in that of half the number where the definitions are mixed.
 fn put_definitions(list: &mut Vec<Statement>, size: u32, is_mixed: bool) -> Result<(), NoMemory> {
     for number in 1..size {
         let class = size - 1 - number;
@@ -143,8 +143,8 @@ fn put_definition(list: &mut Vec<Statement>, class: Term, all: Term) -> Result<(
 /// How many definitions lead down from one to the next.
 const DEPTH: u32 = 8;
 
-/// Definitions below one class, of which the class 0 is the last. The first of every so many has a successor in a class of its
-/// own.
+/// Definitions below one class, of which the class 0 is the last. The first of every so many has a successor in a class
+/// of its own.
 fn put_definitions_below(list: &mut Vec<Statement>, size: u32) -> Result<(), NoMemory> {
     for number in 0..size {
         let class = size - 1 - number;

@@ -26,8 +26,8 @@ pub(crate) fn axiom_fits(names: Names, axiom: &Axiom) -> bool
     }
 }
 
-/// Whether the class expression uses listed names alone, its groups have two parts at least, and no cardinality is above
-/// [`MAX_COUNT`].
+/// Whether the class expression uses listed names alone, its groups have two parts at least, and no cardinality is
+/// above [`MAX_COUNT`].
 #[cycle(fitting)]
 fn fits(names: Names, concept: &Concept) -> bool
     ensures { result ≡ fits names.classes names.roles concept.now }

@@ -1,8 +1,8 @@
-//! What the search does, and how much a job asks. Given the word `search`, it prints for each family of generated axioms what
-//! the search does on them, without the reader and the checks around it, and how long it takes. Given `log` and the words of
-//! a job, it does the job on standard input, as the program does, and prints in place of the answer how many entries the
-//! log has, tests and nodes of a hitting-set tree, and what they took of the budget. For any other words it prints these
-//! two. It promises nothing, and is outside of every theorem.
+//! What the search does, and how much a job asks. Given the word `search`, it prints for each family of generated
+//! axioms what the search does on them, without the reader and the checks around it, and how long it takes. Given `log`
+//! and the words of a job, it does the job on standard input, as the program does, and prints in place of the answer
+//! how many entries the log has, tests and nodes of a hitting-set tree, and what they took of the budget. For any other
+//! words it prints these two. It promises nothing, and is outside of every theorem.
 #![tactic(auto)]
 
 mod family;

@@ -5,8 +5,8 @@ use Rattle.calculus_specs.specs.declared.facts.Fact.TheVariants.{Has, Edge, Apar
 use Rattle.tableau_specs.specs.declared.Item.{Item}
 use Rattle.tableau_specs.specs.declared.Item.TheVariants.{Fact as Says, Mark}
 
--- the lesser of a bound and the nodes whose label, parent or representative the fact may change, where m leads each node to
--- its representative
+-- the lesser of a bound and the nodes whose label, parent or representative the fact may change, where m leads each
+-- node to its representative
 abbrev pub least_with : (ℕ → ℕ) → ℕ → Fact ℕ → ℕ
 least_with m bound (Has y c) = min bound (m y)
 least_with m bound (Edge r y z) = min bound z

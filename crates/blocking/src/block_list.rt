@@ -141,8 +141,8 @@ fn sift(print: &[u64; 4], prints: &Lanes, found: &mut Vec<u32>) -> usize
     candidates(*print, prints, found.as_mut_slice())
 }
 
-// The print that is kept of the node, which has this block: of what can block no other node an empty one, which has no print
-// in it.
+// The print that is kept of the node, which has this block: of what can block no other node an empty one, which has no
+// print in it.
 fn print_to_keep<A: Allocator + Copy>(tree: &Tree<A>, node: u32, block: Block) -> [u64; 4]
     requires { block ≡ block_of (facts_in tree.now) node }
     ensures { IsSound (facts_in tree.now) node result }

@@ -11,8 +11,8 @@ use calculus_specs::Fact;
 use completion_tree::{Item, Tree};
 use std::alloc::Allocator;
 
-/// A node below which the facts of the trail from a place on change no block: the least node of which they say something new,
-/// or the number of nodes.
+/// A node below which the facts of the trail from a place on change no block: the least node of which they say
+/// something new, or the number of nodes.
 ///
 /// Ask before the facts are taken back, or after they are put.
 pub fn least_changed<A: Allocator + Copy>(tree: &Tree<A>, place: u32) -> u32
@@ -27,8 +27,8 @@ pub fn least_changed<A: Allocator + Copy>(tree: &Tree<A>, place: u32) -> u32
     least
 }
 
-/// After facts were put from a place of the trail on: a node below which the blocks are current, where they were so below
-/// `from` before.
+/// After facts were put from a place of the trail on: a node below which the blocks are current, where they were so
+/// below `from` before.
 pub fn still_current<A: Allocator + Copy>(tree: &Tree<A>, place: u32, from: u32) -> u32
     requires place { place ≤ length tree.now }
     requires parents { HasParentsBefore (facts_in tree.now) }
@@ -38,8 +38,8 @@ pub fn still_current<A: Allocator + Copy>(tree: &Tree<A>, place: u32, from: u32)
     from.min(least_changed(tree, place))
 }
 
-/// Before the facts from a place of the trail on are taken back: a node below which the blocks will be current, of the nodes
-/// that there are then, where they are so below `from` now.
+/// Before the facts from a place of the trail on are taken back: a node below which the blocks will be current, of the
+/// nodes that there are then, where they are so below `from` now.
 pub fn current_before<A: Allocator + Copy>(tree: &Tree<A>, place: u32, from: u32) -> u32
     requires place { place ≤ length tree.now }
     requires parents { HasParentsBefore (facts_in tree.now) }

@@ -1,13 +1,14 @@
 //! Which nodes of a completion tree are blocked, found again from the least node that changed.
 //!
-//! A node is blocked by the least clear node before it, anywhere in the tree, that has all that it has (blocking by earlier
-//! nodes; F. Baader, M. Buchheit and B. Hollunder, *Cardinality Restrictions on Concepts*, Artificial Intelligence 88,
-//! 1996). [`Blocks`] keeps the block of each node, and for each node that may block others a print of 256 bits of what it has:
-//! a node whose label is part of another's has a print that is part of the other's. So few nodes are tested exactly.
+//! A node is blocked by the least clear node before it, anywhere in the tree, that has all that it has (blocking by
+//! earlier nodes; F. Baader, M. Buchheit and B. Hollunder, *Cardinality Restrictions on Concepts*, Artificial
+//! Intelligence 88, 1996). [`Blocks`] keeps the block of each node, and for each node that may block others a print of
+//! 256 bits of what it has: a node whose label is part of another's has a print that is part of the other's. So few
+//! nodes are tested exactly.
 //!
-//! The block of a node rests on the nodes up to it alone. So [`Blocks::follow`] looks at those nodes alone from which on
-//! something changed: [`still_current`] says from which on where facts were put, and [`current_before`] where they will be taken
-//! back.
+//! The block of a node rests on the nodes up to it alone. So [`Blocks::follow`] looks at those nodes alone from which
+//! on something changed: [`still_current`] says from which on where facts were put, and [`current_before`] where they
+//! will be taken back.
 #![tactic(auto)]
 
 mod block_list;

@@ -1,4 +1,5 @@
--- A fact between representatives is kept exactly where some fact of the list says it of nodes with these representatives.
+-- A fact between representatives is kept exactly where some fact of the list says it of nodes with these
+-- representatives.
 use Rattle.std.proofs.Common.{◌≡◌, ℕ, ◌&&◌, ◌||◌, min, max, Bool, true, false, List, [], ◌∷◌, ◌++◌, Option, Some, None, refl, ap, sym, subst, ◌∙◌, inl, inr, arith}
 use Rattle.std.specs.Prelude.{◌==◌, if◌then◌else◌}
 use Rattle.std.specs.List.{list_any}

@@ -1,4 +1,5 @@
--- Links that lead from representatives to lesser ones: the walk from a node along its own links ends where all links lead it.
+-- Links that lead from representatives to lesser ones: the walk from a node along its own links ends where all links
+-- lead it.
 use Rattle.std.proofs.Common.{◌≡◌, ℕ, min, max, ◌<◌, ◌≤◌, Bool, true, false, cond, List, [], ◌∷◌, ◌++◌, length, take, get_or, refl, ap, sym, subst, ◌∙◌, inl, inr, Option, Some, None, arith, length-append, take-take}
 use Rattle.std.specs.Prelude.{◌==◌, nat_eq}
 use Rattle.std.specs.Map.{lookup}
@@ -58,7 +59,8 @@ renamed_low high low = elim (cases_eq low high) [
 renamed_other : (high low x : ℕ) → (x ≡ high → ⊥) → renamed high low x ≡ x
 renamed_other high low x differ = unless_equal x high low x differ
 
--- the link of a node leads to a lesser one, from which all links lead to the same; where it has none, they leave it as it is
+-- the link of a node leads to a lesser one, from which all links lead to the same; where it has none, they leave it as
+-- it is
 abbrev pub IsStep : List (ℕ × ℕ) → ℕ → Option ℕ → Type 0
 IsStep ls x None = through ls x ≡ x
 IsStep ls x (Some y) = (y < x) × (through ls y ≡ through ls x)

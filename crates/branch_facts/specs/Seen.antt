@@ -1,5 +1,6 @@
--- How facts are kept so that each is found by one look: between representatives, and again between those that later joins
--- leave. The representative of a node is reached by links, each from a node that was one to a lesser one, in their order.
+-- How facts are kept so that each is found by one look: between representatives, and again between those that later
+-- joins leave. The representative of a node is reached by links, each from a node that was one to a lesser one, in
+-- their order.
 use Rattle.std.specs.Prelude.{◌≡◌, ℕ, ◌==◌, ◌<◌, ◌&&◌, ◌||◌, min, max, Bool, false, List, [], ◌∷◌, ◌++◌, map, length, take, get_or, Option, Some, None, if◌then◌else◌}
 use Rattle.std.specs.List.{list_any}
 use Rattle.calculus_specs.specs.declared.facts.Fact.{Fact}

@@ -12,9 +12,10 @@ use std::marker::Model;
 
 /// Facts between representatives, and the links that lead to these.
 ///
-/// A join of two representatives makes a link from the higher one to the lower one, which is found by the higher: a node with a
-/// link is no representative any more, and so gets no second one. The representative of a node is reached by its link, if it
-/// has one, then by that of the node reached, and so on. The nodes fall on the way, so that it ends, and each costs one look.
+/// A join of two representatives makes a link from the higher one to the lower one, which is found by the higher: a
+/// node with a link is no representative any more, and so gets no second one. The representative of a node is reached
+/// by its link, if it has one, then by that of the node reached, and so on. The nodes fall on the way, so that it ends,
+/// and each costs one look.
 #[derive(Drop)]
 pub(crate) struct Index {
     seen: IndexSet<Seen>,

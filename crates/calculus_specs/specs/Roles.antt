@@ -1,5 +1,5 @@
--- Roles below others and simple roles, over the single steps that role axioms make: from the lower role of an inclusion to
--- the upper one, and between any two roles that an axiom makes equivalent.
+-- Roles below others and simple roles, over the single steps that role axioms make: from the lower role of an inclusion
+-- to the upper one, and between any two roles that an axiom makes equivalent.
 use Rattle.std.specs.Prelude.{◌≡◌, ℕ, true, ◌↔◌}
 use Rattle.calculus_specs.specs.Rows.{Theory}
 

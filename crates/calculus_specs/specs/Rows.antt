@@ -42,7 +42,8 @@ abbrev pub others_from : ℕ → List ℕ → List Concept → List Concept
 others_from first positions [] = []
 others_from first positions (c ∷ cs) = if is_among positions first then others_from (first + 1) positions cs else c ∷ others_from (first + 1) positions cs
 
--- what an element is in that is in the conjuncts at these positions: the complement of another conjunct, or the right side
+-- what an element is in that is in the conjuncts at these positions: the complement of another conjunct, or the right
+-- side
 abbrev pub row_concept : List Concept → Concept → List ℕ → Concept
 row_concept conjuncts right positions = or_of (map negated_form (others_from 1 positions conjuncts) ++ right ∷ [])
 
@@ -70,8 +71,8 @@ abbrev pub is_some_of : ℕ → Concept → Bool
 is_some_of s (some_of r c) = r == s
 is_some_of s _ = false
 
--- where a row is used: at each node, at a node in the conjuncts at these positions, at a node where an edge below a role
--- begins, or at a node where one ends
+-- where a row is used: at each node, at a node in the conjuncts at these positions, at a node where an edge below a
+-- role begins, or at a node where one ends
 pub data Trigger : Type 0 where
   always : Trigger
   names : List ℕ → Trigger

@@ -1,10 +1,10 @@
 //! What refutations and searches know of their nodes: facts, and what a list of them says.
 //!
-//! A list of facts is what the literature calls a completion tree or graph: nodes with concepts, edges of roles, and pairs of
-//! nodes that are different (Horrocks, Sattler and Tobies, "Practical Reasoning for Expressive Description Logics", 1999).
-//! There two nodes are merged by moving what is said of one to the other. Here a fact joins them, nothing is moved, and
-//! everything is read through representatives: the least node of those that are joined. So facts are only ever added, and
-//! taking the last ones away again leaves exactly what was said before.
+//! A list of facts is what the literature calls a completion tree or graph: nodes with concepts, edges of roles, and
+//! pairs of nodes that are different (Horrocks, Sattler and Tobies, "Practical Reasoning for Expressive Description
+//! Logics", 1999). There two nodes are merged by moving what is said of one to the other. Here a fact joins them,
+//! nothing is moved, and everything is read through representatives: the least node of those that are joined. So facts
+//! are only ever added, and taking the last ones away again leaves exactly what was said before.
 ghost use Rattle.calculus_specs.specs.FactLaws.{RepsAreLeast, LabelIsHeld, ApartIsSymmetric, ReadingKeepsState, NumbersReadAsTrees};
 
 /// A fact on nodes, over concepts of a kind: numbers of a table in a search.

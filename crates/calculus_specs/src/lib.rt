@@ -1,7 +1,7 @@
 //! What both a search and the checker of its refutations speak of: concepts in tables, facts on nodes, and rule lines.
 //!
-//! - `shapes`: concepts in normal form and the shapes by which a table keeps them, the parts of an axiom and the rows of a part,
-//!   roles below others.
+//! - `shapes`: concepts in normal form and the shapes by which a table keeps them, the parts of an axiom and the rows
+//!   of a part, roles below others.
 //! - `facts`: facts on nodes, and what a list of facts says of representatives, labels and successors.
 //! - `refutations`: rule lines, what each adds to what is known, and when a tree of them shuts every branch.
 //!

@@ -1,15 +1,15 @@
-//! Concepts in normal form and the shapes by which a table keeps them, the parts of an axiom and the rows of a part, and
-//! roles below others: what the tableau calculus and its refutations speak of.
+//! Concepts in normal form and the shapes by which a table keeps them, the parts of an axiom and the rows of a part,
+//! and roles below others: what the tableau calculus and its refutations speak of.
 //!
-//! - **Negation normal form.** A complement stands on class names alone. Beyond that, intersections and unions are flat, and
-//!   the cardinalities 0 and 1 are written by other operators where these say the same, so that fewer equal concepts have
-//!   different forms.
-//! - **A table of shapes.** Each concept of a search has a number, and its parts have numbers below it. Equal concepts have
-//!   equal numbers (hash consing), so that a comparison is one of numbers.
-//! - **Parts and rows.** An axiom is a list of inclusions and ranges, its parts. An inclusion is used by one of its rows: at
-//!   every node, or only at nodes that have some of the class names on its left or an edge of some role (absorption; Horrocks
-//!   and Tobies, "Reasoning with Axioms: Theory and Practice", 2000). Here any choice of names on the left may trigger a row,
-//!   and the axiom itself is never rewritten.
+//! - **Negation normal form.** A complement stands on class names alone. Beyond that, intersections and unions are
+//!   flat, and the cardinalities 0 and 1 are written by other operators where these say the same, so that fewer equal
+//!   concepts have different forms.
+//! - **A table of shapes.** Each concept of a search has a number, and its parts have numbers below it. Equal concepts
+//!   have equal numbers (hash consing), so that a comparison is one of numbers.
+//! - **Parts and rows.** An axiom is a list of inclusions and ranges, its parts. An inclusion is used by one of its
+//!   rows: at every node, or only at nodes that have some of the class names on its left or an edge of some role
+//!   (absorption; Horrocks and Tobies, "Reasoning with Axioms: Theory and Practice", 2000). Here any choice of names on
+//!   the left may trigger a row, and the axiom itself is never rewritten.
 //! - **Role inclusion and simple roles** are those of the OWL 2 Structural Specification, section 11.
 ghost use Rattle.calculus_specs.specs.ShapeLaws.{NormalFormsAreNotDeeper, TestIsEquality, TableGrows, TreesFollowShapes, NumbersAreUnique};
 

@@ -40,7 +40,8 @@ model_after o ls = elim (model_of o ls) [ None ↦ Err (or_no_line (option_map c
 abbrev pub refutation_after : Listed → List (List ℕ) → Result Certificate ℕ
 refutation_after o ls = elim (refutation_of o ls) [ None ↦ Err (or_no_line (option_map clamped_line (malformed_refutation_line o ls))) | Some k ↦ Ok (Refutation k) ]
 
--- What lines are that begin with a verdict: a certificate, or none, with the number of the first malformed line, from 1.
+-- What lines are that begin with a verdict: a certificate, or none, with the number of the first malformed line, from
+-- 1.
 abbrev pub certificate_in : Listed → List (List ℕ) → Result Certificate ℕ
 certificate_in o [] = Err 1
 certificate_in o (l ∷ ls) = if is_model_verdict l then model_after o ls else if is_refutation_verdict l then refutation_after o ls else Err 1

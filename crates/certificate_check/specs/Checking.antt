@@ -67,8 +67,8 @@ IsOfModel o q m (Axiom k) = first_unmet (meaning m) 1 o.axioms ≡ Some k
 IsOfModel o q m Query = (first_unmet (meaning m) 1 o.axioms ≡ None) × IsFirstBelow m.size (refutes_at (meaning m) q) None
 IsOfModel o q m v = ⊥
 
--- The line of the certificate on which the rule line of a place stands, from 1, and after the last one the line `end`: three
--- lines begin the text, and each concept has one.
+-- The line of the certificate on which the rule line of a place stands, from 1, and after the last one the line `end`:
+-- three lines begin the text, and each concept has one.
 abbrev pub line_of_place : Refutation → ℕ → ℕ
 line_of_place r place = 3 + length r.shapes + place
 
@@ -92,8 +92,8 @@ IsVerdictOn o q (C.Refutation r) v = IsOfRefutation o q r v
 abbrev pub IsVerdict : Input → Verdict → Type 0
 IsVerdict input v = IsVerdictOn input.ontology input.asked input.certificate v
 
--- What is replied to a query on an ontology and to the text behind the document: the verdict on the certificate that it is; or
--- the first line that keeps it from being one.
+-- What is replied to a query on an ontology and to the text behind the document: the verdict on the certificate that it
+-- is; or the first line that keeps it from being one.
 abbrev pub Shows : Listed → Asked → List ℕ → Reply → Type 0
 Shows o asked rest (judged v) = (c : Certificate) × (certificate o rest ≡ Ok c) × IsVerdictOn o asked c v
 Shows o asked rest (malformed_line n) = IsFirstMalformed 1 (certificate_read o) (certificate_lines rest) n

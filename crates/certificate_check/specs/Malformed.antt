@@ -10,9 +10,9 @@ use Rattle.certificate_check.specs.declared.certificate.Certificate.{Certificate
 abbrev pub certificate_read : Listed → List (List ℕ) → Option Certificate
 certificate_read o ls = result_ok (certificate_in o ls)
 
--- The number that is found where a text is no certificate is that of the first malformed line: some certificate begins with
--- the lines before it, and none with these and it; or it would stand after the last line, and some certificate begins with
--- all lines.
+-- The number that is found where a text is no certificate is that of the first malformed line: some certificate begins
+-- with the lines before it, and none with these and it; or it would stand after the last line, and some certificate
+-- begins with all lines.
 abbrev pub MalformedIsFirst : Type 0
 MalformedIsFirst =
     (o : Listed) (text : List ℕ) (n : ℕ) → length text ≤ 4294967293 → certificate o text ≡ Err n → IsFirstMalformed 1 (certificate_read o) (certificate_lines text) n

@@ -19,8 +19,8 @@ TellsBlank lines (Some n) = list_all is_blank lines ≡ false
 abbrev pub BeginsText : {K : Type 0} → (List (List ℕ) → Option K) → List (List ℕ) → Type 0
 BeginsText {K = K} reading front = (rest : List (List ℕ)) × (k : K) × (reading (front ++ rest) ≡ Some k)
 
--- The lines are no text, and the line after k others is the first that keeps them from being one: a text begins with the
--- lines before it, and none with these and it; or it would stand after the last, and a text begins with all lines.
+-- The lines are no text, and the line after k others is the first that keeps them from being one: a text begins with
+-- the lines before it, and none with these and it; or it would stand after the last, and a text begins with all lines.
 pub record StopsAfter {K : Type 0} (reading : List (List ℕ) → Option K) (lines : List (List ℕ)) (k : ℕ) : Type 0 where
   pub no_text : reading lines ≡ None
   pub within : k ≤ length lines

@@ -6,8 +6,8 @@ pub fn words_are_read_back()
     ensures { WordsAreReadBack }
 {}
 
-/// Lines without line feeds and without carriage returns at their ends, with a line feed after each, are the lines of that
-/// text, and an empty line after them.
+/// Lines without line feeds and without carriage returns at their ends, with a line feed after each, are the lines of
+/// that text, and an empty line after them.
 pub fn lines_are_read_back()
     ensures { LinesAreReadBack }
 {}

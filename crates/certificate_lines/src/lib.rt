@@ -1,11 +1,12 @@
 //! The line format of certificates: a text is its lines, a line its words, and a word may be a number or a name.
 //!
-//! A certificate is read by a program that is proved, so its format is as plain as the clausal proofs of SAT solvers (DRAT:
-//! Wetzler, Heule and Hunt, SAT 2014): one fact on each line, words with one blank between them, numbers in decimal. Names are
-//! full IRIs between `<` and `>`, as in RDF 1.1 N-Triples. What differs: nothing is passed over. Two blanks together, a
-//! leading zero or a word too many make a line malformed, so a text has one reading at most, and a text without a reading has
-//! one first malformed line: the first with which no text begins. That law is proved here once, over any reading of one line
-//! more (`Body` and `FirstMalformed` among the specs and proofs); the crates above say only how they read a line.
+//! A certificate is read by a program that is proved, so its format is as plain as the clausal proofs of SAT solvers
+//! (DRAT: Wetzler, Heule and Hunt, SAT 2014): one fact on each line, words with one blank between them, numbers in
+//! decimal. Names are full IRIs between `<` and `>`, as in RDF 1.1 N-Triples. What differs: nothing is passed over. Two
+//! blanks together, a leading zero or a word too many make a line malformed, so a text has one reading at most, and a
+//! text without a reading has one first malformed line: the first with which no text begins. That law is proved here
+//! once, over any reading of one line more (`Body` and `FirstMalformed` among the specs and proofs); the crates above
+//! say only how they read a line.
 #![tactic(auto)]
 
 ghost use Rattle.std.specs.Prelude.{◌≡◌, map, true, IfOk, option_map, nat_eq};

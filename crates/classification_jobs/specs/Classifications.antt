@@ -22,8 +22,8 @@ use Rattle.job_inputs.specs.Refusals.{IsOutOfMemory}
 
 -- ---- answers on an ontology
 
--- each two of its classes are decided: the text is that of their taxonomy, and the log is honest, shows it, and asks nothing that
--- was ruled out
+-- each two of its classes are decided: the text is that of their taxonomy, and the log is honest, shows it, and asks
+-- nothing that was ruled out
 pub record IsFinished (budget : ℕ) (out : List ℕ) (log : List Entry) (o : Listed) : Type 0 where
   pub part_of : Parthood
   pub is_so : IsSubsumption o part_of
@@ -32,8 +32,8 @@ pub record IsFinished (budget : ℕ) (out : List ℕ) (log : List Entry) (o : Li
   pub excluded : AsksNoExcluded log
   pub shown : ShowsClasses o log
 
--- the budget was spent in the middle of a test, the last one of an honest log that asks nothing that was ruled out, and the text
--- says nothing else
+-- the budget was spent in the middle of a test, the last one of an honest log that asks nothing that was ruled out, and
+-- the text says nothing else
 pub record IsUnfinished (budget : ℕ) (out : List ℕ) (log : List Entry) (o : Listed) : Type 0 where
   pub text : out ≡ line (codes "undecided")
   pub honest : IsClassificationLog o budget log

@@ -1,5 +1,5 @@
--- The taxonomy of a relation `is part of` on some listed classes, owl:Thing and owl:Nothing. The classes have the numbers below
--- their count, owl:Thing has the count as its number, and owl:Nothing the next one.
+-- The taxonomy of a relation `is part of` on some listed classes, owl:Thing and owl:Nothing. The classes have the
+-- numbers below their count, owl:Thing has the count as its number, and owl:Nothing the next one.
 use Rattle.std.specs.Prelude.{ℕ, ◌+◌, ◌==◌, Bool, List, not, ◌&&◌, map, if◌then◌else◌}
 use Rattle.lane_sieve.specs.Sets.{passing}
 use Rattle.shq_meaning.specs.Below.{all_below}

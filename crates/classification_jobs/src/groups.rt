@@ -1,9 +1,10 @@
-//! The taxonomy of an ontology: which classes have no element, which have every element, and how the others lie in one another.
+//! The taxonomy of an ontology: which classes have no element, which have every element, and how the others lie in one
+//! another.
 //!
-//! Classification finds for each two classes whether the one is part of the other (Baader, Hollunder, Nebel, Profitlich and
-//! Franconi, "An empirical analysis of optimization techniques for terminological representation systems", Applied
-//! Intelligence 4, 1994). A taxonomy says the same in short: classes that are equal stand together, and each group names only
-//! the groups directly above it, from which all others follow.
+//! Classification finds for each two classes whether the one is part of the other (Baader, Hollunder, Nebel, Profitlich
+//! and Franconi, "An empirical analysis of optimization techniques for terminological representation systems", Applied
+//! Intelligence 4, 1994). A taxonomy says the same in short: classes that are equal stand together, and each group
+//! names only the groups directly above it, from which all others follow.
 // What a taxonomy says.
 ghost use Rattle.std.specs.Prelude.{◌≡◌};
 
@@ -41,7 +42,8 @@ impl Group {
         &self.classes
     }
 
-    /// The first class of each group directly above, in the same order. Where there is none, `owl:Thing` alone is above.
+    /// The first class of each group directly above, in the same order. Where there is none, `owl:Thing` alone is
+    /// above.
     pub fn parents(&self) -> &[u32]
         ensures { result.now ≡ self.now.parents }
     {

@@ -1,9 +1,9 @@
 //! The job `classify`: which class of a document is part of which.
 //!
-//! The answer is the taxonomy of the document's classes, or that the budget of the search was spent. Whatever was asked stands in
-//! the log, and each line of the taxonomy follows from it: so a reader of the log has no need to trust the order in which the
-//! questions were chosen (Glimm, Horrocks, Motik, Shearer and Stoilos, "A novel approach to ontology classification", Journal of
-//! Web Semantics 14, 2012, give such an order).
+//! The answer is the taxonomy of the document's classes, or that the budget of the search was spent. Whatever was asked
+//! stands in the log, and each line of the taxonomy follows from it: so a reader of the log has no need to trust the
+//! order in which the questions were chosen (Glimm, Horrocks, Motik, Shearer and Stoilos, "A novel approach to ontology
+//! classification", Journal of Web Semantics 14, 2012, give such an order).
 //!
 //! A [`Taxonomy`] says the relation in short: groups of equal classes, each with the groups directly above it.
 #![tactic(auto)]

@@ -11,9 +11,9 @@ use shq_terms::{NoMemory, Ontology};
 impl Taxonomy {
     /// Appends the text of the taxonomy, with the names of the ontology's classes as full IRIs between `<` and `>`.
     ///
-    /// It is the line `inconsistent`, or these lines, with one blank between two items: `consistent`; `nothing` and the classes
-    /// equal to `owl:Nothing`; `thing` and the classes equal to `owl:Thing`; and for each group `class`, its classes, `under`, and
-    /// the first class of each group directly above it, or `owl:Thing`.
+    /// It is the line `inconsistent`, or these lines, with one blank between two items: `consistent`; `nothing` and the
+    /// classes equal to `owl:Nothing`; `thing` and the classes equal to `owl:Thing`; and for each group `class`, its
+    /// classes, `under`, and the first class of each group directly above it, or `owl:Thing`.
     ///
     /// # Errors
     ///

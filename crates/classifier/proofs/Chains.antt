@@ -136,8 +136,8 @@ module _ (log : List Entry) (s : Limited) (q : Query) (steps : ℕ) where
         ]
   ]
 
-  -- What one that was yes rules out was ruled out before, or it was so for what the test leads from, or to, or both. In the
-  -- last case the query itself was ruled out.
+  -- What one that was yes rules out was ruled out before, or it was so for what the test leads from, or to, or both. In
+  -- the last case the query itself was ruled out.
   pub ruled_out_by_yes : (u : Limited) (a b : Concept) → IsRuledOut (log ++ Test s q steps (Yes u) ∷ []) a b
       → (IsRuledOut log a b ⊎ (IsRuledOut log q.sub b × IsChain log q.sup a)) ⊎ ((IsRuledOut log a q.sup × IsChain log b q.sub) ⊎ IsRuledOut log q.sub q.sup)
   ruled_out_by_yes u a b r = elim (Contains-push_cases log (Test s q steps (Yes u)) (Test r.tested r.query r.steps No) r.is_no) [

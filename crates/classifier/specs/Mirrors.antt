@@ -8,7 +8,8 @@ use Rattle.classifier.specs.Matrices.{Matrix, has}
 use Rattle.classifier.specs.Rows.{Rows, holds}
 use Rattle.classifier.specs.Subsumption.{class_at}
 
--- What is known is just what tests of the log lead to, in any number of steps. What is ruled out is just what they rule out.
+-- What is known is just what tests of the log lead to, in any number of steps. What is ruled out is just what they rule
+-- out.
 pub record Mirrors (o : Listed) (log : List Entry) (known : Rows) (ruled_out : Matrix) : Type 0 where
   pub count_is : known.count ≡ length o.classes
   pub size_is : ruled_out.size ≡ length o.classes + 2

@@ -15,7 +15,8 @@ use Rattle.classifier.specs.declared.progress.Progress.{Progress}
 use Rattle.classifier.specs.declared.stop.Stop.{Stop}
 use Rattle.classifier.specs.Classified.{IsStop}
 
--- the log is honest and asks nothing that was ruled out, something of the budget may be left, and what is kept mirrors the log
+-- the log is honest and asks nothing that was ruled out, something of the budget may be left, and what is kept mirrors
+-- the log
 pub record IsGoing (l : OracleLists) (p : Progress) : Type 0 where
   pub in_limit : IsOntologyInLimit l.ontology
   pub honest : IsClassificationLog l.ontology l.budget l.log

@@ -3,8 +3,8 @@ use Rattle.std.specs.Prelude.{◌≡◌, ℕ, ◌+◌, ◌<◌, ◌≤◌, ◌==
 use Rattle.std.specs.Coded.{Coded, code_by, coded×, coded_ℕ}
 use Rattle.classifier.specs.Matrices.{Matrix, matrix_code, has}
 
--- Of so many classes. The numbers below the count are these classes, the count is the class of all things, and the number
--- behind it is the class of none.
+-- Of so many classes. The numbers below the count are these classes, the count is the class of all things, and the
+-- number behind it is the class of none.
 pub record Rows : Type 0 where
   pub count : ℕ
   pub above : Matrix

@@ -6,7 +6,8 @@ use Rattle.shq_terms.specs.declared.axioms.Query.{Query}
 use Rattle.shq_meaning.specs.Truth.{Entails}
 use Rattle.refutation_truth.specs.Theory.{all_axioms}
 
--- the class of a number, where so many classes are listed: first these, then the class of all things, and then that of none
+-- the class of a number, where so many classes are listed: first these, then the class of all things, and then that of
+-- none
 abbrev pub class_at : ℕ → ℕ → Concept
 class_at count x = if x == count then top else (if x == count + 1 then bottom else name x)
 

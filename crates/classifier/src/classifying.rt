@@ -14,13 +14,14 @@ use shq_oracle::Oracle;
 use shq_terms::Ontology;
 use std::alloc::Global;
 
-/// Which class of the ontology is part of which, by all of its axioms (OWL 2 Direct Semantics, section 2.5), where the oracle
-/// is one for this ontology that was asked nothing yet. The log shows each pair. The first question is whether all things are
-/// in the class of none, and nothing is asked whose answer follows from the answers before, be it yes or no.
+/// Which class of the ontology is part of which, by all of its axioms (OWL 2 Direct Semantics, section 2.5), where the
+/// oracle is one for this ontology that was asked nothing yet. The log shows each pair. The first question is whether
+/// all things are in the class of none, and nothing is asked whose answer follows from the answers before, be it yes or
+/// no.
 ///
 /// # Errors
-/// The budget of the oracle was spent in the middle of a test, which is the last of the log; or memory was refused, and no
-/// test spent the budget. The log is honest in each case, and asks nothing that follows.
+/// The budget of the oracle was spent in the middle of a test, which is the last of the log; or memory was refused, and
+/// no test spent the budget. The log is honest in each case, and asks nothing that follows.
 pub fn classify(
     alloc: Global,
     oracle: &mut Oracle<'_>,

@@ -7,8 +7,9 @@ use crate::Relation;
 use axiom_sets::AxiomSet;
 use shq_terms::NoMemory;
 
-/// One of the classes, whose numbers are greater by one in the set, such that none of the others is known to be above it unless
-/// both are equal; none where there are no classes. The work is a few rows of bits for each class on a way upwards.
+/// One of the classes, whose numbers are greater by one in the set, such that none of the others is known to be above
+/// it unless both are equal; none where there are no classes. The work is a few rows of bits for each class on a way
+/// upwards.
 ///
 /// # Errors
 /// Memory may be refused.

@@ -1,14 +1,16 @@
-//! Classification: which class of an ontology is part of which, decided by an oracle that answers one question at a time.
+//! Classification: which class of an ontology is part of which, decided by an oracle that answers one question at a
+//! time.
 //!
-//! What is asked is only what no earlier answer settles. An answer that a class is part of another settles all that follows of
-//! it; one that it is not rules out each pair that would imply it. The next question of a class is about the most general
-//! classes that are open, so that whole parts of the hierarchy are ruled out by one answer, as in "An Empirical Analysis of
-//! Optimization Techniques for Terminological Representation Systems" (Franz Baader, Bernhard Hollunder, Bernhard Nebel,
-//! Hans-Jürgen Profitlich and Enrico Franconi, Applied Intelligence 4, 1994), and "A Novel Approach to Ontology Classification"
-//! (Birte Glimm, Ian Horrocks, Boris Motik, Rob Shearer and Giorgos Stoilos, Journal of Web Semantics 14, 2012).
+//! What is asked is only what no earlier answer settles. An answer that a class is part of another settles all that
+//! follows of it; one that it is not rules out each pair that would imply it. The next question of a class is about the
+//! most general classes that are open, so that whole parts of the hierarchy are ruled out by one answer, as in "An
+//! Empirical Analysis of Optimization Techniques for Terminological Representation Systems" (Franz Baader, Bernhard
+//! Hollunder, Bernhard Nebel, Hans-Jürgen Profitlich and Enrico Franconi, Applied Intelligence 4, 1994), and "A Novel
+//! Approach to Ontology Classification" (Birte Glimm, Ian Horrocks, Boris Motik, Rob Shearer and Giorgos Stoilos,
+//! Journal of Web Semantics 14, 2012).
 //!
-//! The order of the questions is no part of any contract. What is promised is the relation itself, that the log of the oracle
-//! shows each of its pairs, and that no question was asked whose answer followed from the answers before.
+//! The order of the questions is no part of any contract. What is promised is the relation itself, that the log of the
+//! oracle shows each of its pairs, and that no question was asked whose answer followed from the answers before.
 //!
 //! What is known is kept as one row of bits for each class ([`Relation`]); `classification_laws` say what tests settle.
 #![tactic(auto)]

@@ -9,8 +9,8 @@ use shq_terms::NoMemory;
 use std::alloc::Global;
 use std::marker::Model;
 
-/// A set of pairs of numbers below a size. Contracts see the size and, for each number, a row: a set that has `y + 1` where
-/// the number is paired with `y`.
+/// A set of pairs of numbers below a size. Contracts see the size and, for each number, a row: a set that has `y + 1`
+/// where the number is paired with `y`.
 #[derive(Drop)]
 pub struct BitMatrix {
     size: u32,
@@ -87,8 +87,8 @@ impl BitMatrix {
         self.rows[x as usize].put(y + 1);
     }
 
-    /// Pairs each number of one set with each of another, where the numbers in both sets are greater by one. The work is a row
-    /// of bits for each number of the first set.
+    /// Pairs each number of one set with each of another, where the numbers in both sets are greater by one. The work
+    /// is a row of bits for each number of the first set.
     pub fn unite(&mut self, chosen: &AxiomSet, added: &AxiomSet)
         requires chosen { chosen.now.limit ≡ self.old.size }
         requires added { added.now.limit ≡ self.old.size }
@@ -98,8 +98,8 @@ impl BitMatrix {
         unite_rows(&mut self.rows, chosen, added);
     }
 
-    /// Pairs each number that is paired with `column` with each of a set, where the numbers in the set are greater by one. Where
-    /// there is none, no row is looked at.
+    /// Pairs each number that is paired with `column` with each of a set, where the numbers in the set are greater by
+    /// one. Where there is none, no row is looked at.
     pub fn unite_where(&mut self, column: u32, added: &AxiomSet)
         requires column { column < self.old.size }
         requires added { added.now.limit ≡ self.old.size }

@@ -1,10 +1,11 @@
 //! Which class is part of which, as one row of bits for each class.
 //!
-//! Classification (the subsumption hierarchy of all classes of an ontology, OWL 2 Direct Semantics, section 2.5) begins with
-//! what holds of every ontology, and adds what questions find. A [`Relation`] keeps for each class the set of those above it
-//! and the set of those below it. What is added is closed at once: it stays reflexive and transitive, as "Making Use of
-//! Traversal in Classification" needs it (Franz Baader, Bernhard Hollunder, Bernhard Nebel, Hans-Jürgen Profitlich and Enrico
-//! Franconi, "An Empirical Analysis of Optimization Techniques for Terminological Representation Systems", 1994).
+//! Classification (the subsumption hierarchy of all classes of an ontology, OWL 2 Direct Semantics, section 2.5) begins
+//! with what holds of every ontology, and adds what questions find. A [`Relation`] keeps for each class the set of
+//! those above it and the set of those below it. What is added is closed at once: it stays reflexive and transitive, as
+//! "Making Use of Traversal in Classification" needs it (Franz Baader, Bernhard Hollunder, Bernhard Nebel, Hans-Jürgen
+//! Profitlich and Enrico Franconi, "An Empirical Analysis of Optimization Techniques for Terminological Representation
+//! Systems", 1994).
 //!
 //! A [`BitMatrix`] is any set of pairs of numbers, kept in the same way.
 // A relation on classes that stays closed.
@@ -20,8 +21,8 @@ use shq_terms::{MAX_CLASSES, NoMemory};
 use std::alloc::Global;
 use std::marker::Model;
 
-/// Which class is related to which. Classes are numbers: first those that are listed, behind them the class of all things,
-/// and then the class of none. Contracts see how many are listed, and which numbers are related.
+/// Which class is related to which. Classes are numbers: first those that are listed, behind them the class of all
+/// things, and then the class of none. Contracts see how many are listed, and which numbers are related.
 #[derive(Drop)]
 pub struct Relation {
     count: u32,
@@ -42,8 +43,8 @@ impl Model for Relation {
 }
 
 impl Relation {
-    /// The relation of so many classes before any question: each is related to itself and to the class of all things, and the
-    /// class of none is related to each.
+    /// The relation of so many classes before any question: each is related to itself and to the class of all things,
+    /// and the class of none is related to each.
     ///
     /// # Errors
     /// Memory may be refused.

@@ -26,7 +26,8 @@ concept_is_listed o table c = uses_listed (length o.classes) (length o.roles) (t
 abbrev pub uses_names : Listed → List Shape → Line → Bool
 uses_names o table line = list_all (concept_is_listed o table) (concept_numbers line) && line_is_listed o line
 
--- from the start of a search for something that is in `sub` and not in `sup`, over a set of axioms, the lines close everything
+-- from the start of a search for something that is in `sub` and not in `sup`, over a set of axioms, the lines close
+-- everything
 abbrev pub CloseAll : Listed → Limited → List Shape → Concept → Concept → List NotedLine → Type 0
 CloseAll o set table sub sup lines = leaves (step_of (theory_of o.axioms (member_list set)) table) (noted_start sub sup ∷ []) lines ≡ Some []
 

@@ -1,9 +1,10 @@
 //! The refutation of a search that has closed.
 //!
-//! It names what its lines rest on and no more: of the axioms of the set, the role axioms, by which lines test roles, and those
-//! that stand in a line. So it tells which axioms an entailment was found to follow from.
+//! It names what its lines rest on and no more: of the axioms of the set, the role axioms, by which lines test roles,
+//! and those that stand in a line. So it tells which axioms an entailment was found to follow from.
 //!
-//! Its concepts are numbered anew (`finished`), so that it costs what its lines name, and not what the search's table holds.
+//! Its concepts are numbered anew (`finished`), so that it costs what its lines name, and not what the search's table
+//! holds.
 #![tactic(auto)]
 
 mod finished;

@@ -17,8 +17,8 @@ use shq_nnf::Concepts;
 use shq_terms::Ontology;
 use std::alloc::Global;
 
-/// The refutation of the lines of a search over a set of axioms, where these close everything. It names the role axioms of
-/// the set, and the others that stand in its lines. The concepts of the lines are numbers of the table.
+/// The refutation of the lines of a search over a set of axioms, where these close everything. It names the role axioms
+/// of the set, and the others that stand in its lines. The concepts of the lines are numbers of the table.
 ///
 /// # Errors
 ///

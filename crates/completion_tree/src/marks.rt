@@ -34,8 +34,8 @@ pub(crate) fn marks_behind<A: Allocator + Copy>(
     }
 }
 
-// The marks of the very fact, where it is found among the facts. It holds in the state of those that rest on its marks, whatever
-// nodes are one there.
+// The marks of the very fact, where it is found among the facts. It holds in the state of those that rest on its marks,
+// whatever nodes are one there.
 fn own_marks<A: Allocator + Copy>(
     trail: &Trail<A>,
     facts: &FactTree<A>,

@@ -192,8 +192,8 @@ impl<A: Allocator + Copy> Tree<A> {
         self.facts.are_apart(first, second)
     }
 
-    /// Marks such that the fact holds in the state of those facts alone that rest on no other marks. An edge holds by its very
-    /// role.
+    /// Marks such that the fact holds in the state of those facts alone that rest on no other marks. An edge holds by
+    /// its very role.
     ///
     /// # Errors
     /// Memory may be refused.
@@ -237,8 +237,8 @@ impl<A: Allocator + Copy> Tree<A> {
         self.add(Fact::Same(first, second), by)
     }
 
-    /// Makes nodes at the ends of edges from a node, each with the concept, and pairwise apart, and answers the first. All
-    /// these facts rest on the same, and stand in the order of the definition.
+    /// Makes nodes at the ends of edges from a node, each with the concept, and pairwise apart, and answers the first.
+    /// All these facts rest on the same, and stand in the order of the definition.
     ///
     /// # Errors
     /// Memory may be refused; nothing has changed then.

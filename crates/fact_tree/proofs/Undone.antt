@@ -24,7 +24,8 @@ set_back xs i a d = set_twice xs i a (get_or xs i d) ∙ set-get_or xs i d
 
 -- ---- a longer node
 
--- where the first nodes are as before but for one that is longer, and its new members are the links that differ, the lengths lead back
+-- where the first nodes are as before but for one that is longer, and its new members are the links that differ, the
+-- lengths lead back
 pub leads_back : (k later : Kept) (at : ℕ) (m : Lists) → at < length k.nodes → take (length k.nodes) later.nodes ≡ slice_set k.nodes at m → Begins (lists_at k at) m
     → relinked (drop (length (lists_at k at).members) m.members) (take (length k.nodes) later.links) ≡ k.links → undone (lengths_of at k) later ≡ k
 leads_back k later at m lt nodes begins links =

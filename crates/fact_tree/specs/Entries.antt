@@ -1,6 +1,6 @@
--- How facts are taken back. Each fact changes the lists of one node, which it makes longer at their ends, perhaps makes a
--- node, and perhaps links the members of a representative. So its entry keeps the lengths before it: members that are cut
--- off are linked to the first of them again.
+-- How facts are taken back. Each fact changes the lists of one node, which it makes longer at their ends, perhaps makes
+-- a node, and perhaps links the members of a representative. So its entry keeps the lengths before it: members that are
+-- cut off are linked to the first of them again.
 use Rattle.std.specs.Prelude.{◌≡◌, ℕ, ◌+◌, ◌<◌, ◌≤◌, ◌==◌, ◌&&◌, nat_lt, Bool, true, List, length, take, drop, map, get_or, slice_set}
 use Rattle.std.specs.List.{list_any}
 use Rattle.calculus_specs.specs.declared.facts.Fact.{Fact}

@@ -1,5 +1,5 @@
--- What a tree keeps of a list of facts, as a fold over it: a link for each node, to its representative, and the lists of each
--- node, of which those of representatives are read.
+-- What a tree keeps of a list of facts, as a fold over it: a link for each node, to its representative, and the lists
+-- of each node, of which those of representatives are read.
 use Rattle.std.specs.Prelude.{◌≡◌, ℕ, ◌==◌, min, max, List, [], ◌∷◌, ◌++◌, length, take, get_or, if◌then◌else◌, slice_set}
 use Rattle.std.specs.List.{list_any}
 use Rattle.calculus_specs.specs.declared.facts.Fact.{Fact}

@@ -6,7 +6,8 @@ use Rattle.calculus_specs.specs.Joins.{rep}
 use Rattle.calculus_specs.specs.State.{node_count, parent, has_edge, gives_concept, gives_edge, gives_apart, fresh_facts}
 use Rattle.calculus_specs.specs.declared.facts.Fact.TheVariants.{Has, Edge, Apart, Same}
 
--- whether the fact keeps a node with the representative a, which it names first, apart from one with the representative b
+-- whether the fact keeps a node with the representative a, which it names first, apart from one with the representative
+-- b
 abbrev pub gives_first : (ℕ → ℕ) → ℕ → ℕ → Fact ℕ → Bool
 gives_first m a b (Apart y z) = m y == a && m z == b
 gives_first m a b (Has y c) = false
@@ -29,7 +30,8 @@ with_fresh fs x s e count = fs ++ fresh_facts x s e (node_count fs) count
 abbrev pub IsOrigin : List (Fact ℕ) → ℕ → (ℕ × ℕ) → Type 0
 IsOrigin fs x o = (has_edge fs (λ s. s == o.0) o.1 x ≡ true) × (parent fs x ≡ Some o.1)
 
--- whether a fact alone says what is asked, where m leads each node to its representative; that two nodes are one is said by joins
+-- whether a fact alone says what is asked, where m leads each node to its representative; that two nodes are one is
+-- said by joins
 abbrev pub gives : (ℕ → ℕ) → Fact ℕ → Fact ℕ → Bool
 gives m (Has x c) f = gives_concept (λ d. d == c) m (m x) f
 gives m (Edge r x y) f = gives_edge (λ s. s == r) m (m x) (m y) f

@@ -34,7 +34,8 @@ pub(crate) fn put_last<A: Allocator + Copy>(
     Ok(())
 }
 
-// Gives a concept that comes behind these its bit, and each of them where there were few. Where memory is refused none has one.
+// Gives a concept that comes behind these its bit, and each of them where there were few. Where memory is refused none
+// has one.
 fn note<A: Allocator + Copy>(bits: &mut Vec<u64, A>, concepts: &[u32], concept: u32)
     requires { AreIndexed concepts.now bits.old.items }
     ensures { AreIndexed (concepts.now ++ concept ∷ []) bits.new.items }

@@ -29,8 +29,8 @@ pub(crate) struct Node<A: Allocator> {
     print: [u64; 4],
     // A bit for each concept where they are many; else no words.
     bits: Vec<u64, A>,
-    // Where to look first for what says something of it: the places of the first edge into it, and, beside the lists, of
-    // what gave its concepts and its aparts. No answer rests on them: who looks there checks what stands there.
+    // Where to look first for what says something of it: the places of the first edge into it, and, beside the lists,
+    // of what gave its concepts and its aparts. No answer rests on them: who looks there checks what stands there.
     origin_place: u32,
     concept_places: Vec<u32, A>,
     apart_places: Vec<u32, A>,

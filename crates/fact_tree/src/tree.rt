@@ -196,8 +196,8 @@ impl<A: Allocator + Copy> FactTree<A> {
         self.store.node(self.store.root(node)).members().len() == 1
     }
 
-    /// The place of a fact that alone says what is asked; none where there is none. That two nodes are one is said by no fact
-    /// alone.
+    /// The place of a fact that alone says what is asked; none where there is none. That two nodes are one is said by
+    /// no fact alone.
     pub fn ground(&self, asked: Fact<u32>) -> Option<usize>
         ensures some { IfSome result (IsGround self.now asked) }
         ensures none { IsNone result → IsUngrounded self.now asked }

@@ -12,8 +12,8 @@ use std::alloc::Global;
 use std::collections::BTreeSet;
 use std::marker::Model;
 
-/// A finite interpretation (OWL 2 Direct Semantics, section 2.2): a domain of the numbers below a size, a set of them for
-/// each class, and a set of pairs of them for each role. A class or role of which nothing was put is empty.
+/// A finite interpretation (OWL 2 Direct Semantics, section 2.2): a domain of the numbers below a size, a set of them
+/// for each class, and a set of pairs of them for each role. A class or role of which nothing was put is empty.
 #[derive(Drop)]
 pub struct Interp {
     size: u32,

@@ -12,11 +12,11 @@ use shq_terms::Ontology;
 use std::alloc::Global;
 use std::collections::BTreeSet;
 
-/// The model whose text these lines are: `model N`, lines `class NAME X ..` and `role NAME X,Y ..` in any order, the line
-/// `end`, and blank lines. A name is the full IRI of a listed class or role between `<` and `>`, and has one line at most
-/// as a class and one as a role. Elements are below N and ascend strictly on their line. Pairs ascend strictly by the
-/// first element and then by the second. A line `class NAME` without an element is malformed, and so is a line `role NAME`
-/// without a pair: what is empty has no line.
+/// The model whose text these lines are: `model N`, lines `class NAME X ..` and `role NAME X,Y ..` in any order, the
+/// line `end`, and blank lines. A name is the full IRI of a listed class or role between `<` and `>`, and has one line
+/// at most as a class and one as a role. Elements are below N and ascend strictly on their line. Pairs ascend strictly
+/// by the first element and then by the second. A line `class NAME` without an element is malformed, and so is a line
+/// `role NAME` without a pair: what is empty has no line.
 ///
 /// # Errors
 ///

@@ -10,7 +10,8 @@ use crate::Interp;
 use shq_terms::{Concept, Node, Query};
 
 impl Interp {
-    /// Whether the element is in the class expression (OWL 2 Direct Semantics, section 2.2.3). The element is below the size.
+    /// Whether the element is in the class expression (OWL 2 Direct Semantics, section 2.2.3). The element is below the
+    /// size.
     #[cycle(truth)]
     pub fn holds(&self, concept: &Concept, x: u32) -> bool
         requires { x < self.now.size }
@@ -86,9 +87,9 @@ impl Interp {
         true
     }
 
-    /// The next element at which the expression may be true. It is false at each that is passed over: outside the class of
-    /// a name, and without a successor where the expression wants one. A conjunction passes over what any of its parts
-    /// does, a disjunction what all do.
+    /// The next element at which the expression may be true. It is false at each that is passed over: outside the class
+    /// of a name, and without a successor where the expression wants one. A conjunction passes over what any of its
+    /// parts does, a disjunction what all do.
     #[cycle(candidates)]
     pub(crate) fn next_candidate(&self, concept: &Concept, from: u32) -> Option<u32>
         ensures { IsNext self.now.size from (holds (meaning self.now) concept.now) result }

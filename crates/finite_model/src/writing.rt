@@ -11,8 +11,8 @@ use std::alloc::Global;
 impl Interp {
     /// Appends the text of the interpretation, or nothing: `model N`, a line `class <IRI> X ..` for each class that has
     /// elements, a line `role <IRI> X,Y ..` for each role that has pairs, and `end`, each with a line feed after it.
-    /// Classes and roles stand in list order, and the items of a line ascend. Each class and role of which something was
-    /// put is listed. The memory is `alloc`'s.
+    /// Classes and roles stand in list order, and the items of a line ascend. Each class and role of which something
+    /// was put is listed. The memory is `alloc`'s.
     ///
     /// What is kept is as the law of reading back asks ([`models_are_read_back`]): where names are listed once and are
     /// IRIs, the lines of the text stand for the interpretation again.

@@ -11,8 +11,8 @@ use Rattle.hitting_set_tree.specs.declared.frames.Node.{Node}
 use Rattle.hitting_set_tree.specs.Territory.{InNode, InScope, InFrame}
 use Rattle.hitting_set_tree.specs.Tree.{Lists}
 
--- how a node stands on the frames below it, where `scope` has the node's sets: they are none of a frame's, the node hits
--- more than each frame does, and it is a child of the last one
+-- how a node stands on the frames below it, where `scope` has the node's sets: they are none of a frame's, the node
+-- hits more than each frame does, and it is a child of the last one
 pub record Stands (below : List Frame) (hit : Limited) (scope : NumberSet → Type 0) : Type 0 where
   pub apart : (g : Frame) → Contains below g → (t : NumberSet) → scope t → ¬ InFrame g t
   pub more : (g : Frame) → Contains below g → (k : ℕ) × (set.contains hit.members k ≡ true) × (set.contains g.hit.members k ≡ false)
@@ -23,8 +23,8 @@ pub record Stands (below : List Frame) (hit : Limited) (scope : NumberSet → Ty
 abbrev pub IsBuilt : List Frame → Type 0
 IsBuilt fs = (i : ℕ) (d : Frame) → i < length fs → Stands (take i fs) (slice_index_or fs i d).hit (InScope (slice_index_or fs i d))
 
--- between two looks: the nodes of the first `rooted` frames were taken, and all taken nodes are settled; none of the others
--- is, nor is a set that is still to be looked at
+-- between two looks: the nodes of the first `rooted` frames were taken, and all taken nodes are settled; none of the
+-- others is, nor is a set that is still to be looked at
 pub record IsOpen (taken : List Limited) (ls : Lists) (rooted : ℕ) (label : ℕ → Limited) : Type 0 where
   pub tree : IsTree ls.justifications taken label
   pub leaf_taken : (l : Limited) → Contains ls.leaves l → Contains taken l

@@ -100,8 +100,8 @@ ListsShown m m' justifications went_on = (s : NumberSet) → m'.shown_yes s → 
 abbrev pub IsOutstanding : Lists → Node → Type 0
 IsOutstanding ls node = MeetsEach ls.justifications node.hit.members × (¬ HasPart ls.leaves node.hit.members)
 
--- what a look at a node or a frame does, which stands for the sets `beside` and weighs `heavy`: where the budget sufficed,
--- the lists take these sets over, and weigh less
+-- what a look at a node or a frame does, which stands for the sets `beside` and weighs `heavy`: where the budget
+-- sufficed, the lists take these sets over, and weigh less
 pub record IsStep (m : Meaning) (old new : Lists) (beside : NumberSet → Type 0) (heavy : ℕ) (went_on : Bool) : Type 0 where
   pub listed : HoldsLists m new
   pub covered : went_on ≡ true → IsCovered old beside → IsCovered new (λ _. ⊥)

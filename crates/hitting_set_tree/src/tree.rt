@@ -48,12 +48,13 @@ pub struct Found {
 }
 
 /// Lists the smallest yes-sets in their order, and leaves whose rests are no yes-sets: all of them where the budget
-/// suffices. It is told as too small only where something is lacking: where some set meets each listed yes-set, and has no
-/// leaf as part.
+/// suffices. It is told as too small only where something is lacking: where some set meets each listed yes-set, and has
+/// no leaf as part.
 ///
 /// Nothing that was found is left out: each set that was shown to be a yes-set has a listed set as part, or, where the
 /// budget was spent, a yes-set of which no answer says whether it is a smallest one. Each taken node is a leaf or apart
-/// from a listed set, or no answer about its rest is remembered, or its rest is a yes-set that was not shrunk to the end.
+/// from a listed set, or no answer about its rest is remembered, or its rest is a yes-set that was not shrunk to the
+/// end.
 ///
 /// # Errors
 /// Where memory is refused. The sets that were taken until then are nodes of such a tree all the same, and no more was
@@ -175,8 +176,8 @@ fn look_on<E: Entail>(
     }
 }
 
-/// Looks at a node: a listed set apart from it is its label; else nothing is to be done where a known leaf is part of it;
-/// else it is taken and asked.
+/// Looks at a node: a listed set apart from it is its label; else nothing is to be done where a known leaf is part of
+/// it; else it is taken and asked.
 fn visit<E: Entail>(
     alloc: Global,
     entail: &mut E,

@@ -32,18 +32,17 @@
 //! | `first KIND` | print its first line of a kind |
 //! | `steps` | print how many steps it took |
 //!
-//! The kinds of `each` are `budget` (the words `budget` and the number stand behind the others), `cut` (of the input there
-//! are so many bytes alone), `keep` (of the certificate so many lines), `drop` (it lacks the line of this number), `spoil`
-//! (that line has a word more), `read` and `write` (a read gives at most 8 bytes, a write takes at most 4, and the one of
-//! this number fails).
+//! The kinds of `each` are `budget` (the words `budget` and the number stand behind the others), `cut` (of the input
+//! there are so many bytes alone), `keep` (of the certificate so many lines), `drop` (it lacks the line of this
+//! number), `spoil` (that line has a word more), `read` and `write` (a read gives at most 8 bytes, a write takes at
+//! most 4, and the one of this number fails).
 //!
 //! Of each case its name is printed, how the run ended, and the answer, with ` | ` between its lines. Of `sat` and
 //! `entails` the first line is printed, and what `check` says of the whole answer as a certificate; of `evidence` the
-//! first line, and what `audit` says of the whole answer. Then comes what
-//! else the case asks for.
+//! first line, and what `audit` says of the whole answer. Then comes what else the case asks for.
 //!
-//! A file is malformed that has a line of no such form, a name twice, a case that asks nothing, or no case at all:
-//! then no case is run, and the program fails with the number of the line.
+//! A file is malformed that has a line of no such form, a name twice, a case that asks nothing, or no case at all: then
+//! no case is run, and the program fails with the number of the line.
 #![tactic(auto)]
 
 mod answers;

@@ -36,8 +36,8 @@ IsUnasked o kept query (U.Query e) = IsNotAsked o kept query e
 IsUnasked o kept query U.NoMemory = Unit {0}
 IsUnasked o kept query u = ⊥
 
--- What is replied: the verdict on the certificate; why the document, or the query, is refused; or the number of the first
--- malformed line of what should be a certificate.
+-- What is replied: the verdict on the certificate; why the document, or the query, is refused; or the number of the
+-- first malformed line of what should be a certificate.
 pub data Reply : Type 0 where
   judged : Verdict → Reply
   refused_document : Refusal → Reply

@@ -1,5 +1,5 @@
--- What is refused before anything is asked: then the log of the questions is empty, whatever its entries are. And what the log
--- holds where memory was refused.
+-- What is refused before anything is asked: then the log of the questions is empty, whatever its entries are. And what
+-- the log holds where memory was refused.
 use Rattle.std.specs.Prelude.{◌≡◌, ℕ, [], List}
 use Rattle.shq_terms.specs.Listed.{Listed}
 use Rattle.shq_terms.specs.declared.axioms.Query.{Query as Asked}

@@ -25,8 +25,8 @@ pub enum Question<'a> {
 ///
 /// # Errors
 ///
-/// `Document` with what is wrong first, where what stands after the document counts as a fault of shape on its line; and
-/// `NoMemory`.
+/// `Document` with what is wrong first, where what stands after the document counts as a fault of shape on its line;
+/// and `NoMemory`.
 pub fn read_document(alloc: Global, bytes: &[u8]) -> Result<(Ontology, Context), Unread>
     requires { length bytes.now ≤ 4294967293 }
     ensures read { IfOk result (λ r. IsDocumentAlone bytes.now r.0 r.1) }

@@ -1,6 +1,6 @@
-//! Tests of the jobs that no text can say: what is told with each budget from one step on, lists and taxonomies compared
-//! with what all subsets and all pairs say, audits, and calls below the jobs. What can be said by text stands in
-//! `job_cases`.
+//! Tests of the jobs that no text can say: what is told with each budget from one step on, lists and taxonomies
+//! compared with what all subsets and all pairs say, audits, and calls below the jobs. What can be said by text stands
+//! in `job_cases`.
 #![tactic(auto)]
 
 #[cfg(test)]

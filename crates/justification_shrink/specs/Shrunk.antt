@@ -30,8 +30,8 @@ abbrev pub LosesNothing : Meaning → Meaning → Limited → Shrunk → Type 0
 LosesNothing m m' start (Just j) = ShowsAbove m m' j
 LosesNothing m m' start Spent = (kept : Limited) × IsPart kept.members start.members × IsUndecided m' kept × ShowsAbove m m' kept
 
--- what is left of a yes-set that was tried without one of its numbers: the same set, which needs the number if it has it, or a smaller
--- one without it
+-- what is left of a yes-set that was tried without one of its numbers: the same set, which needs the number if it has
+-- it, or a smaller one without it
 abbrev pub Tries : Meaning → Limited → ℕ → Shrunk → Type 0
 Tries m kept number (Just j) =
     (j.limit ≡ kept.limit)

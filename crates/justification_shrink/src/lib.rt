@@ -1,12 +1,12 @@
 //! One smallest yes-set inside a given yes-set: a justification, where yes-sets are the sets of axioms that entail a
 //! statement.
 //!
-//! The numbers are taken out one at a time, and one stays out where the answer is still yes. Minimality in this sense is
-//! that of delta debugging (Andreas Zeller, "Yesterday, My Program Worked. Today, It Does Not. Why?", ESEC/FSE 1999) and
-//! of QuickXplain (Ulrich Junker, "QUICKXPLAIN: Preferred Explanations and Relaxations for Over-Constrained Problems",
-//! AAAI 2004), which take out blocks of numbers. Here each answer yes names a part of the asked set that suffices, as a
-//! refutation names the axioms that it uses, and the search goes on inside that part; so blocks come for nothing, and
-//! there are never more asks than the given set has members.
+//! The numbers are taken out one at a time, and one stays out where the answer is still yes. Minimality in this sense
+//! is that of delta debugging (Andreas Zeller, "Yesterday, My Program Worked. Today, It Does Not. Why?", ESEC/FSE 1999)
+//! and of QuickXplain (Ulrich Junker, "QUICKXPLAIN: Preferred Explanations and Relaxations for Over-Constrained
+//! Problems", AAAI 2004), which take out blocks of numbers. Here each answer yes names a part of the asked set that
+//! suffices, as a refutation names the axioms that it uses, and the search goes on inside that part; so blocks come for
+//! nothing, and there are never more asks than the given set has members.
 #![tactic(auto)]
 
 ghost use Rattle.std.specs.Prelude.{◌≡◌, ◌+◌, ◌<◌, ◌≤◌, IfOk, cond, length};

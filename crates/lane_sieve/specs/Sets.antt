@@ -35,8 +35,8 @@ IsPart s t = (k : ℕ) → set.contains s k ≡ true → set.contains t k ≡ tr
 abbrev pub DoMeet : NumberSet → NumberSet → Type 0
 DoMeet s t = (k : ℕ) × (set.contains s k ≡ true) × (set.contains t k ≡ true)
 
--- the order of the sets of two lists of words: the lexicographic order of their ascending lists, in which a proper prefix
--- comes first
+-- the order of the sets of two lists of words: the lexicographic order of their ascending lists, in which a proper
+-- prefix comes first
 abbrev pub words_cmp : List ℕ → List ℕ → Ordering
 words_cmp xs ys = slice_cmp nat_cmp (members_below (number_set xs) (64 * length xs)) (members_below (number_set ys) (64 * length ys))
 
@@ -56,6 +56,7 @@ LacksGreater s n = (k : ℕ) → n < k → set.contains s k ≡ false
 abbrev pub HasGreater : NumberSet → ℕ → ℕ → Type 0
 HasGreater s bound n = (k : ℕ) × (n < k) × (k < bound) × (set.contains s k ≡ true)
 
--- where one of two sets alone has the number, below which both are the same: the order by which it comes first exactly where it goes on
+-- where one of two sets alone has the number, below which both are the same: the order by which it comes first exactly
+-- where it goes on
 abbrev pub GoesOnAsOrdered : NumberSet → ℕ → ℕ → Ordering → Type 0
 GoesOnAsOrdered s bound n order = MatchOrdering order (HasGreater s bound n) ⊥ (LacksGreater s n)

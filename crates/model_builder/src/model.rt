@@ -24,12 +24,12 @@ use shq_nnf::Concepts;
 use shq_terms::Query;
 use std::alloc::{Allocator, Global};
 
-/// The finite interpretation of a saturated tree: it meets the axioms of the rules, and its first element is in the left
-/// side of the query and not in its right side.
+/// The finite interpretation of a saturated tree: it meets the axioms of the rules, and its first element is in the
+/// left side of the query and not in its right side.
 ///
-/// The tree's trail is one that a search over these rules for the query reaches, and is saturated; `prints` has its blocks.
-/// The interpretation is exactly that of the trail, and uses listed names alone. It costs what the labels and the edges of
-/// the elements cost, and the pairs of transitive roles.
+/// The tree's trail is one that a search over these rules for the query reaches, and is saturated; `prints` has its
+/// blocks. The interpretation is exactly that of the trail, and uses listed names alone. It costs what the labels and
+/// the edges of the elements cost, and the pairs of transitive roles.
 ///
 /// # Errors
 ///
@@ -56,9 +56,9 @@ pub fn build<A: Allocator + Copy>(
     Ok(model)
 }
 
-/// The interpretation of a tree's elements: representatives that are not under a block, in the order of their nodes. A class
-/// has the elements whose node, or what blocks it, has its name; a role below `count` has the edges of these nodes by roles
-/// below it, and the chains of transitive roles below it.
+/// The interpretation of a tree's elements: representatives that are not under a block, in the order of their nodes. A
+/// class has the elements whose node, or what blocks it, has its name; a role below `count` has the edges of these
+/// nodes by roles below it, and the chains of transitive roles below it.
 ///
 /// # Errors
 ///

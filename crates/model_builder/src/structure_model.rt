@@ -41,8 +41,9 @@ pub struct Edge {
 }
 
 /// The interpretation of that many elements, at least one, in which a class has its members, and a role below
-/// `role_count` the edges by the roles below it and the chains of the transitive roles below it. The elements of members
-/// and edges are below `size`. Roles from `role_count` on are empty, and no transitive role among them has chains.
+/// `role_count` the edges by the roles below it and the chains of the transitive roles below it. The elements of
+/// members and edges are below `size`. Roles from `role_count` on are empty, and no transitive role among them has
+/// chains.
 ///
 /// # Errors
 /// Where memory is refused.

@@ -15,7 +15,8 @@ use Rattle.module_extract.specs.declared.marks.Marks.{Marks}
 use Rattle.module_extract.specs.Marks.{is_marked, has_place, unmarked, HasMarked}
 use Rattle.module_extract.specs.declared.growth.Growth.{Growth}
 
--- the axiom at a place needs no other look: it is in the module, or local for the names that came in, or has a name that waits
+-- the axiom at a place needs no other look: it is in the module, or local for the names that came in, or has a name
+-- that waits
 abbrev pub is_settled : Growth → ℕ → Axiom → Bool
 is_settled g place a = set.contains g.members.members (place + 1) || is_local (is_marked g.marks) a || list_any (is_among g.pending.items) (axiom_names a)
 

@@ -8,9 +8,9 @@ use axiom_sets::AxiomSet;
 use shq_terms::{NoMemory, Ontology, Query};
 use std::alloc::Global;
 
-/// The local module of the query: the least set of axioms of the ontology such that each axiom that is not local for the names
-/// of the query and of the set is in the set. Its limit is the count of axioms, and it holds each justification of the query
-/// (`pinpointing_specs::modules_hold_justifications`). The query may have any names.
+/// The local module of the query: the least set of axioms of the ontology such that each axiom that is not local for
+/// the names of the query and of the set is in the set. Its limit is the count of axioms, and it holds each
+/// justification of the query (`pinpointing_specs::modules_hold_justifications`). The query may have any names.
 ///
 /// # Errors
 ///

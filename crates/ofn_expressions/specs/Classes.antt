@@ -36,7 +36,8 @@ fits Complement n = nat_eq n 1
 fits (Restriction q) n = nat_eq n 2
 fits (Cardinality b) n = nat_eq n 2 || nat_eq n 3
 
--- By how many nodes a group raises the count. A cardinality of two items has the filler `owl:Thing`, which is a node too.
+-- By how many nodes a group raises the count. A cardinality of two items has the filler `owl:Thing`, which is a node
+-- too.
 abbrev pub node_count : ClassKeyword → ℕ → ℕ
 node_count (Cardinality b) n = if nat_eq n 2 then 2 else 1
 node_count _ n = 1
@@ -125,8 +126,8 @@ abbrev pub joined : List (List Test) → List Test
 joined [] = []
 joined (ts ∷ rest) = ts ++ joined rest
 
--- The items of a group, from the tests of each item as a class expression. Where they are fewer or more than the keyword
--- asks, a test before them fails.
+-- The items of a group, from the tests of each item as a class expression. Where they are fewer or more than the
+-- keyword asks, a test before them fails.
 abbrev pub operand_tests : List Prefix → ClassKeyword → Items → List (List Test) → List Test
 operand_tests ps (Restriction q) (item r is) each = role_tests ps r ++ joined (drop 1 each)
 operand_tests ps (Cardinality b) (item n (item r is)) each = number_tests n ++ (role_tests ps r ++ joined (drop 2 each))
@@ -287,7 +288,8 @@ MeanAll ps s is cs = (later : Counts) → Keeps s later → (concepts_of ps late
 abbrev pub MeansGroup : List Prefix → Counts → Keyword → List Item → Concept → Type 0
 MeansGroup ps s k is c = MeansClass s (λ later. made ps later k (items_of is) (concepts_of ps later (items_of is))) c
 
--- the same by its parts: a quantifier, a role and a filler, or a bound, a number, a role and the filler that there may be
+-- the same by its parts: a quantifier, a role and a filler, or a bound, a number, a role and the filler that there may
+-- be
 abbrev pub MeansRestriction : List Prefix → Counts → Quantifier → Item → Item → Concept → Type 0
 MeansRestriction ps s q r filler c = MeansClass s (λ later. quantified q (role_of ps later r) (concept_of ps later filler)) c
 

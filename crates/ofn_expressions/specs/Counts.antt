@@ -47,8 +47,8 @@ ClassesAreFull s w = (20000 ≤ length s.classes) × (position (bytes_eq w) s.cl
 abbrev pub RolesAreFull : Counts → List ℕ → Type 0
 RolesAreFull s w = (1000 ≤ length s.roles) × (position (bytes_eq w) s.roles ≡ None)
 
--- What stands after expressions or declarations were read, also where they are refused: the names that were listed stand
--- first, and names and nodes may have come, but no axiom was begun or read whole.
+-- What stands after expressions or declarations were read, also where they are refused: the names that were listed
+-- stand first, and names and nodes may have come, but no axiom was begun or read whole.
 pub record Grows (old new : State) : Type 0 where
   pub axioms : new.counts.axioms ≡ old.counts.axioms
   pub parts : new.counts.parts ≡ old.counts.parts

@@ -10,10 +10,10 @@ use Rattle.ofn_expressions.specs.declared.refusal.Refusal.TheVariants.{BadShape,
 use Rattle.ofn_expressions.specs.declared.refusal.Which.{Which}
 use Rattle.ofn_expressions.specs.declared.refusal.Which.TheVariants.{Axioms, Classes, Roles, Nodes, Number, Parts}
 
--- Each has its line: that an item has the shape which is asked; that a prefix name is declared; that it is not declared with
--- another IRI; that no construct outside of the profile stands there; that one more numbered axiom is within the limit; that
--- so many more parts of axioms are; that so many more nodes are; that a class, or a role, which is listed here is; that a
--- cardinality is; that the roles which are counted are simple.
+-- Each has its line: that an item has the shape which is asked; that a prefix name is declared; that it is not declared
+-- with another IRI; that no construct outside of the profile stands there; that one more numbered axiom is within the
+-- limit; that so many more parts of axioms are; that so many more nodes are; that a class, or a role, which is listed
+-- here is; that a cardinality is; that the roles which are counted are simple.
 pub data Test : Type 0 where
   shape : ℕ → Bool → Test
   prefix : ℕ → Bool → Test

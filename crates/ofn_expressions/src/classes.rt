@@ -20,8 +20,8 @@ use std::alloc::Global;
 ///
 /// # Errors
 ///
-/// What is wrong first, in the order of the tests, and `NoMemory`. What was counted and listed before stays in `state`: the
-/// names that were met first, and the nodes. No axiom is added.
+/// What is wrong first, in the order of the tests, and `NoMemory`. What was counted and listed before stays in `state`:
+/// the names that were met first, and the nodes. No axiom is added.
 #[cycle(classes)]
 #[tactic(auto, using(crate::proofs::Growing::grows_grows, crate::proofs::Growing::grows_same))]
 pub fn read_class(
@@ -50,8 +50,8 @@ pub fn read_class(
 ///
 /// # Errors
 ///
-/// What is wrong first, in the order of the tests, and `NoMemory`. What was counted and listed before stays in `state`: the
-/// names that were met first, and the nodes. No axiom is added.
+/// What is wrong first, in the order of the tests, and `NoMemory`. What was counted and listed before stays in `state`:
+/// the names that were met first, and the nodes. No axiom is added.
 #[tactic(auto, using(crate::proofs::Walks::walked_append, crate::proofs::Growing::grows_grows, crate::proofs::Growing::grows_same))]
 pub fn read_class_name(
     alloc: Global,
@@ -91,8 +91,8 @@ fn list_class(iri: &str, line: u32, state: &mut Reading) -> Result<Concept, Refu
 ///
 /// # Errors
 ///
-/// What is wrong first, in the order of the tests, and `NoMemory`. What was counted and listed before stays in `state`: the
-/// names that were met first, and the nodes. No axiom is added.
+/// What is wrong first, in the order of the tests, and `NoMemory`. What was counted and listed before stays in `state`:
+/// the names that were met first, and the nodes. No axiom is added.
 #[tactic(auto, using(crate::proofs::Walks::walked_append, crate::proofs::Growing::grows_grows, crate::proofs::Growing::grows_same))]
 pub fn declare_class(
     alloc: Global,
@@ -341,8 +341,8 @@ fn push_concept(concepts: &mut Vec<Concept>, concept: Concept) -> Result<(), NoM
 ///
 /// # Errors
 ///
-/// What is wrong first, in the order of the tests, and `NoMemory`. What was counted and listed before stays in `state`: the
-/// names that were met first, and the nodes. No axiom is added.
+/// What is wrong first, in the order of the tests, and `NoMemory`. What was counted and listed before stays in `state`:
+/// the names that were met first, and the nodes. No axiom is added.
 #[tactic(auto, using(crate::proofs::Growing::grows_grows, crate::proofs::Growing::grows_same))]
 pub fn read_classes(
     alloc: Global,

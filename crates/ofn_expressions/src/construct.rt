@@ -2,8 +2,8 @@
 ghost use Rattle.std.specs.Prelude.{◌≡◌};
 ghost use Rattle.ofn_expressions.specs.Constructs.{spelling, excluded_axiom, excluded_class, excluded_role, excluded_role_name};
 
-/// A construct that is left out, named as the OWL 2 functional-style syntax spells it (sections 6 to 9 of the Structural
-/// Specification).
+/// A construct that is left out, named as the OWL 2 functional-style syntax spells it (sections 6 to 9 of the
+/// Structural Specification).
 #[derive(Clone, Copy, Debug, PartialEq, Eq)]
 pub enum Construct {
     Import,

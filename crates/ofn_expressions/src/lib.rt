@@ -1,10 +1,11 @@
 //! Names, roles and class expressions of a document in the functional-style syntax of OWL 2 (Structural Specification,
 //! sections 2, 5 and 8), for the description logic SHQ.
 //!
-//! What is read has two definitions. One lists the tests that a text has to pass, in the order of the text: the shapes of
-//! its items, declared prefixes, constructs outside of the profile, and limits, each of which is judged by what the tests
-//! before it counted. The other says which expression an item stands for, by the names that were listed in the end. Each
-//! reader is proved to be refused for the first test that fails, or to give that expression, whatever names come later.
+//! What is read has two definitions. One lists the tests that a text has to pass, in the order of the text: the shapes
+//! of its items, declared prefixes, constructs outside of the profile, and limits, each of which is judged by what the
+//! tests before it counted. The other says which expression an item stands for, by the names that were listed in the
+//! end. Each reader is proved to be refused for the first test that fails, or to give that expression, whatever names
+//! come later.
 #![tactic(auto)]
 
 mod classes;

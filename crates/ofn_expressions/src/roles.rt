@@ -17,8 +17,8 @@ use std::alloc::Global;
 ///
 /// # Errors
 ///
-/// What is wrong first, in the order of the tests, and `NoMemory`. The roles that were met before stay listed in `state`. No
-/// axiom is added.
+/// What is wrong first, in the order of the tests, and `NoMemory`. The roles that were met before stay listed in
+/// `state`. No axiom is added.
 #[tactic(auto, using(crate::proofs::Groups::role_group_refused, crate::proofs::Growing::grows_grows, crate::proofs::Growing::grows_same))]
 pub fn read_role(
     alloc: Global,
@@ -80,8 +80,8 @@ fn list_role(iri: &str, line: u32, state: &mut Reading) -> Result<u32, Refusal>
 ///
 /// # Errors
 ///
-/// What is wrong first, in the order of the tests, and `NoMemory`. The roles that were met before stay listed in `state`. No
-/// axiom is added.
+/// What is wrong first, in the order of the tests, and `NoMemory`. The roles that were met before stay listed in
+/// `state`. No axiom is added.
 #[tactic(auto, using(crate::proofs::Walks::walked_append, crate::proofs::Growing::grows_grows, crate::proofs::Growing::grows_same))]
 pub fn declare_role(
     alloc: Global,
@@ -114,8 +114,8 @@ fn list_declared(iri: &str, line: u32, state: &mut Reading) -> Result<(), Refusa
 ///
 /// # Errors
 ///
-/// What is wrong first, in the order of the tests, and `NoMemory`. The roles that were met before stay listed in `state`. No
-/// axiom is added.
+/// What is wrong first, in the order of the tests, and `NoMemory`. The roles that were met before stay listed in
+/// `state`. No axiom is added.
 #[tactic(auto, using(crate::proofs::Growing::grows_grows, crate::proofs::Growing::grows_same))]
 pub fn read_roles(
     alloc: Global,

@@ -34,11 +34,11 @@ axiom_fits K.Transitive n = nat_eq n 1
 abbrev pub pair_count : ℕ → ℕ
 pair_count n = n * (n - 1) / 2
 
--- How many parts an axiom will have, told by its kind and the number of its items, before they are read. The parts of an
--- axiom are the inclusions and ranges of which a search makes rows; a law of a crate above says that an axiom that is made
--- of so many items has exactly so many. Equivalent classes are each in the next, and the last in the first; disjoint classes
--- are each in the complement of each later one; of a disjoint union, its first class is in the union of the others, each of
--- them is in the first, and they are disjoint.
+-- How many parts an axiom will have, told by its kind and the number of its items, before they are read. The parts of
+-- an axiom are the inclusions and ranges of which a search makes rows; a law of a crate above says that an axiom that
+-- is made of so many items has exactly so many. Equivalent classes are each in the next, and the last in the first;
+-- disjoint classes are each in the complement of each later one; of a disjoint union, its first class is in the union
+-- of the others, each of them is in the first, and they are disjoint.
 abbrev pub parts_by_item_count : AxiomKind → ℕ → ℕ
 parts_by_item_count K.SubClassOf n = 1
 parts_by_item_count K.EquivalentClasses n = n

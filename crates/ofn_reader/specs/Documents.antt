@@ -73,8 +73,8 @@ DocumentIsRead tests is o kept =
     × (o ≡ record { axioms = document_axioms predeclared behind is; classes = behind.classes; roles = behind.roles })
     × (kept ≡ record { prefixes = document_prefixes predeclared is; nodes = behind.nodes })
 
--- The text up to the end is a document, no test of which fails. It lists the axioms and names of o. A query on it takes over
--- its prefixes, and the count of the nodes of its expressions.
+-- The text up to the end is a document, no test of which fails. It lists the axioms and names of o. A query on it takes
+-- over its prefixes, and the count of the nodes of its expressions.
 pub record IsDocument (text : List ℕ) (o : Listed) (kept : DocumentContext) (end : ℕ) : Type 0 where
   pub items : List Item
   pub made : HasItems text items end

@@ -23,8 +23,8 @@ use Rattle.ofn_reader.specs.declared.keywords.AxiomKind.TheVariants as K
 use Rattle.ofn_reader.specs.declared.keywords.AxiomKeyword.{AxiomKeyword}
 use Rattle.ofn_reader.specs.declared.keywords.AxiomKeyword.TheVariants as W
 
--- A query is an axiom `SubClassOf`, which is not numbered and has no parts. One that is left out is outside; each other is
--- no query.
+-- A query is an axiom `SubClassOf`, which is not numbered and has no parts. One that is left out is outside; each other
+-- is no query.
 abbrev pub query_group_tests : List Prefix → AxiomKeyword → ℕ → Items → List Test
 query_group_tests ps (W.Numbered K.SubClassOf) line is = shape line (nat_eq (item_count is) 2) ∷ joined (each_class ps is)
 query_group_tests ps (W.Excluded c) line is = outside line c ∷ []
@@ -193,8 +193,8 @@ abbrev pub ClassIsRead : List Prefix → ℕ → Listed → ℕ → List Item �
 ClassIsRead ps nodes old end is new c =
     (behind : Counts) × (class_walk ps nodes old end is ≡ Ok behind) × (first_class ps behind is ≡ c ∷ []) × IsListed behind c × (new ≡ record old { classes = behind.classes; roles = behind.roles })
 
--- The text is a query on a document, with the names and axioms of the old ontology. Its names are listed in the new one,
--- which else is the old one.
+-- The text is a query on a document, with the names and axioms of the old ontology. Its names are listed in the new
+-- one, which else is the old one.
 abbrev pub IsQueryOn : DocumentContext → Listed → List ℕ → Listed → Query → Type 0
 IsQueryOn kept old text new q =
     (behind : Counts) × IsQuery kept.prefixes old.axioms (query_start old kept.nodes) text behind q × AreBothListed behind q × (new ≡ record old { classes = behind.classes; roles = behind.roles })

@@ -167,8 +167,9 @@ fn read_from_items(
 ///
 /// # Errors
 ///
-/// The first fault of the text, else what is wrong first in the order of the text, else `NotSimple` at the line of the least
-/// numbered axiom with a number restriction over a role that is not simple, or with such a functional role; and `NoMemory`.
+/// The first fault of the text, else what is wrong first in the order of the text, else `NotSimple` at the line of the
+/// least numbered axiom with a number restriction over a role that is not simple, or with such a functional role; and
+/// `NoMemory`.
 pub fn read_ontology(alloc: Global, text: &[u8]) -> Result<(Ontology, Context, usize), Refusal>
     requires { length text.now ≤ MAX_BYTES }
     ensures document { IfOk result (λ r. IsDocument text.now r.0 r.1 r.2) }

@@ -1,12 +1,13 @@
 //! Documents in the functional-style syntax of OWL 2, and queries on them.
 //!
-//! The groups of a text are read as axioms (OWL 2 Structural Specification, sections 3.7, 5 and 9), in one pass and with no
-//! tree of axioms in between. What a text says is defined apart from that pass: a document has a list of tests in the order
-//! of its text, of shapes, prefixes, excluded constructs and limits, and after these the tests for simple roles, on which
-//! the decidability of SHQ rests (Horrocks, Sattler and Tobies, 1999). A document is refused for the first test that fails.
+//! The groups of a text are read as axioms (OWL 2 Structural Specification, sections 3.7, 5 and 9), in one pass and
+//! with no tree of axioms in between. What a text says is defined apart from that pass: a document has a list of tests
+//! in the order of its text, of shapes, prefixes, excluded constructs and limits, and after these the tests for simple
+//! roles, on which the decidability of SHQ rests (Horrocks, Sattler and Tobies, 1999). A document is refused for the
+//! first test that fails.
 //!
-//! A text says one thing at most, has one reason at most to be refused, and not both. A query on a document goes on from the
-//! document's counts of names and nodes, and leaves the ontology as it was where it is refused.
+//! A text says one thing at most, has one reason at most to be refused, and not both. A query on a document goes on
+//! from the document's counts of names and nodes, and leaves the ontology as it was where it is refused.
 #![tactic(auto)]
 
 mod axioms;

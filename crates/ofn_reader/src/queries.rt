@@ -265,14 +265,15 @@ fn read_class_on(
     class
 }
 
-/// Reads a query on a document: one axiom `SubClassOf` of two class expressions, which may begin with annotations and uses
-/// the document's prefixes. New names are listed last, and the counts of names and nodes go on from those of the document.
+/// Reads a query on a document: one axiom `SubClassOf` of two class expressions, which may begin with annotations and
+/// uses the document's prefixes. New names are listed last, and the counts of names and nodes go on from those of the
+/// document.
 ///
 /// # Errors
 ///
-/// `Limit` of the text where it has more than 16,777,216 bytes; the first fault of the text, else what is wrong first in
-/// the order of the text; `NotSimple` where a number restriction is over a role that is not simple in the document; and
-/// `NoMemory`. The ontology is then as before.
+/// `Limit` of the text where it has more than 16,777,216 bytes; the first fault of the text, else what is wrong first
+/// in the order of the text; `NotSimple` where a number restriction is over a role that is not simple in the document;
+/// and `NoMemory`. The ontology is then as before.
 pub fn read_query(
     alloc: Global,
     text: &str,
@@ -295,14 +296,14 @@ pub fn read_query(
     )
 }
 
-/// Reads a class expression that is asked about on a document, with the document's prefixes. New names are listed last, and
-/// the counts of names and nodes go on from those of the document.
+/// Reads a class expression that is asked about on a document, with the document's prefixes. New names are listed last,
+/// and the counts of names and nodes go on from those of the document.
 ///
 /// # Errors
 ///
-/// `Limit` of the text where it has more than 16,777,216 bytes; the first fault of the text, else what is wrong first in
-/// the order of the text; `NotSimple` where a number restriction is over a role that is not simple in the document; and
-/// `NoMemory`. The ontology is then as before.
+/// `Limit` of the text where it has more than 16,777,216 bytes; the first fault of the text, else what is wrong first
+/// in the order of the text; `NotSimple` where a number restriction is over a role that is not simple in the document;
+/// and `NoMemory`. The ontology is then as before.
 pub fn read_class(
     alloc: Global,
     text: &str,

@@ -9,8 +9,8 @@ use Rattle.ofn_tree.specs.declared.lexer.Latest.TheVariants.{DocumentName, Quote
 use Rattle.ofn_tree.specs.Token.{PlainToken, is_close}
 use Rattle.ofn_tree.specs.Lexemes.{Piece, whole, faulty, pieces}
 
--- what was met: how many brackets are open, whether the outermost of them opened the document's group, and what the last
--- tokens were
+-- what was met: how many brackets are open, whether the outermost of them opened the document's group, and what the
+-- last tokens were
 pub record Met : Type 0 where
   pub depth : ℕ
   pub document : Bool

@@ -170,8 +170,8 @@ pieces_with end (token x) place line rest = whole (token_of place line x) (place
 pieces_with end wrong place line rest = faulty (BadToken line) ∷ []
 pieces_with end unended place line rest = faulty (unended_fault end line) ∷ []
 
--- the pieces of bytes that stand at a place on a line, of which the first k are skipped, in a text that ends so; a fault
--- is the last
+-- the pieces of bytes that stand at a place on a line, of which the first k are skipped, in a text that ends so; a
+-- fault is the last
 abbrev pub pieces_from : Option ℕ → ℕ → ℕ → ℕ → List ℕ → List Piece
 pieces_from end k place line [] = end_pieces end
 pieces_from end (suc k) place line (b ∷ bs) = pieces_from end k (place + 1) (line_behind b line) bs

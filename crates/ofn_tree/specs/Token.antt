@@ -4,8 +4,8 @@ use Rattle.ofn_tree.specs.declared.token.Kind.{Kind}
 use Rattle.ofn_tree.specs.declared.token.Kind.TheVariants.{OpenBracket, CloseBracket, Iri, String, Tag, Carets, Name}
 use Rattle.ofn_tree.specs.declared.token.Token.{Token}
 
--- a token with its own bytes, those of an IRI without its `<` and `>` and those of a string without its quotation marks;
--- the place of its first byte; and its line
+-- a token with its own bytes, those of an IRI without its `<` and `>` and those of a string without its quotation
+-- marks; the place of its first byte; and its line
 pub record PlainToken : Type 0 where
   pub kind : Kind
   pub text : List ℕ

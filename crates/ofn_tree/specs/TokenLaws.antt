@@ -30,8 +30,8 @@ abbrev pub HaveGaps : List ℕ → ℕ → List PlainToken → ℕ → Type 0
 HaveGaps text start [] end = IsGap true (bytes_between text start end)
 HaveGaps text start (t ∷ ts) end = IsGap false (bytes_between text start t.start) × HaveGaps text (t.start + width t) ts end
 
--- Up to the place after the last byte that was read there are only whitespace and comments round the tokens of an input,
--- but for a byte order mark at its start.
+-- Up to the place after the last byte that was read there are only whitespace and comments round the tokens of an
+-- input, but for a byte order mark at its start.
 abbrev pub HaveOnlyGaps : List ℕ → DocumentTokens → Type 0
 HaveOnlyGaps input r = HaveGaps (utf8_front input) (mark_len (utf8_front input)) r.tokens r.place_behind
 

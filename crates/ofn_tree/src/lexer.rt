@@ -185,22 +185,22 @@ fn unended_fault(bad_line: Option<u32>, line: u32) -> TextFault
     }
 }
 
-/// The tokens of the document that the text begins with, in order, and the place after the last byte that was read:
-/// up to the bracket that closes the document's group, or to the end of the text. What follows is not looked at. The
+/// The tokens of the document that the text begins with, in order, and the place after the last byte that was read: up
+/// to the bracket that closes the document's group, or to the end of the text. What follows is not looked at. The
 /// document's group is the first with exactly the name `Ontology` that begins where no bracket is open.
 ///
-/// Tokens are those of the functional-style syntax (OWL 2 Structural Specification, sections 2 and 3.7), with these choices:
-/// whitespace is blank, tab, line feed and carriage return; a comment runs from `#` to before the next line feed or
-/// carriage return; a name is the longest run of characters other than whitespace, control characters and
-/// `( ) = < > " # @ ^`; control characters stand in comments and strings alone. A byte order mark at the start of the
-/// text is skipped. The line of a token is 1 plus the number of line feeds before it.
+/// Tokens are those of the functional-style syntax (OWL 2 Structural Specification, sections 2 and 3.7), with these
+/// choices: whitespace is blank, tab, line feed and carriage return; a comment runs from `#` to before the next line
+/// feed or carriage return; a name is the longest run of characters other than whitespace, control characters and `( )
+/// = < > " # @ ^`; control characters stand in comments and strings alone. A byte order mark at the start of the text
+/// is skipped. The line of a token is 1 plus the number of line feeds before it.
 ///
 /// # Errors
 ///
-/// The fault before that place that is met first, from left to right. `BadUtf8` with the line of a byte that is not part
-/// of UTF-8, in comments and strings too, also where that byte cuts off a token. `BadToken` with the line of a character
-/// that begins no token, or of the first character of a token that another one breaks or the text's end cuts off. And
-/// `NoMemory`.
+/// The fault before that place that is met first, from left to right. `BadUtf8` with the line of a byte that is not
+/// part of UTF-8, in comments and strings too, also where that byte cuts off a token. `BadToken` with the line of a
+/// character that begins no token, or of the first character of a token that another one breaks or the text's end cuts
+/// off. And `NoMemory`.
 pub fn tokens(alloc: Global, text: &[u8]) -> Result<(Vec<Token<'_>>, usize), TextFault>
     requires { length text.now ≤ MAX_BYTES }
     ensures ok { IfOk result (λ r. reading text.now ≡ Some (reading_of r.0.items r.1)) }
@@ -256,8 +256,8 @@ pub fn only_gaps_stand_between_tokens()
     ensures { (input : List ℕ) (r : DocumentTokens) → reading input ≡ Some r → HaveOnlyGaps input r }
 {}
 
-/// Each token that is read has the form of its kind and stands at its place in the text, and no longer token of its kind
-/// stands there.
+/// Each token that is read has the form of its kind and stands at its place in the text, and no longer token of its
+/// kind stands there.
 pub fn tokens_are_longest()
     ensures { (input : List ℕ) (r : DocumentTokens) → reading input ≡ Some r → AreLongest (utf8_front input) r.tokens }
 {}

@@ -186,8 +186,8 @@ pub(crate) fn put_spaced(
 
 /// Appends the text of a class expression, whose classes and roles are listed.
 ///
-/// Names are written as full IRIs between `<` and `>`, but for `owl:Thing` and `owl:Nothing`. One blank stands between two
-/// items of a group, and the filler of a cardinality is always written.
+/// Names are written as full IRIs between `<` and `>`, but for `owl:Thing` and `owl:Nothing`. One blank stands between
+/// two items of a group, and the filler of a cardinality is always written.
 ///
 /// # Errors
 ///

@@ -1,5 +1,5 @@
-//! The program: its words ask for a job, standard input is the document, and standard output the answer. The exit status
-//! says how the job ended.
+//! The program: its words ask for a job, standard input is the document, and standard output the answer. The exit
+//! status says how the job ended.
 #![tactic(auto)]
 
 mod exit;

@@ -8,8 +8,8 @@ ghost use Rattle.ontology_cli.specs.Words.{IsRestAfterFirst, AreWordsOf};
 use std::alloc::{AllocError, Global};
 use std::io;
 
-/// The words among the program's arguments: all of them, each whole, but for the first, which is the program's name. Where some
-/// argument is no text there are none, and so no job.
+/// The words among the program's arguments: all of them, each whole, but for the first, which is the program's name.
+/// Where some argument is no text there are none, and so no job.
 ///
 /// # Errors
 ///

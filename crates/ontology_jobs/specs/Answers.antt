@@ -96,7 +96,8 @@ ReadsNothing None = Unit {0}
 ReadsNothing (Some (on_input job)) = ⊥
 ReadsNothing (Some (generated number budget)) = Unit {0}
 
--- what a job leaves of the input: nothing, or what comes after one byte more than the limit; where nothing is read, all of it
+-- what a job leaves of the input: nothing, or what comes after one byte more than the limit; where nothing is read, all
+-- of it
 abbrev pub left_by : Option Request → List ℕ → List ℕ
 left_by None bytes = bytes
 left_by (Some (on_input job)) bytes = if nat_lt (2 ^ 24) (length bytes) then drop (2 ^ 24 + 1) bytes else []

@@ -45,7 +45,8 @@ pub record IsReadable (job : Job) (bytes : List ℕ) : Type 0 where
 
 -- ---- what is left
 
--- something of the budget is left; where all of it goes to tests, it is enough that none of them ended with the budget spent
+-- something of the budget is left; where all of it goes to tests, it is enough that none of them ended with the budget
+-- spent
 abbrev pub HasLeft : Request → List Entry → Type 0
 HasLeft (on_input (check query)) log = Unit {0}
 HasLeft (on_input (audit query)) log = Unit {0}
@@ -103,7 +104,8 @@ abbrev pub WorkloadsAreDone : Type 0
 WorkloadsAreDone = (number budget : ℕ) (bytes out : List ℕ) (s : Status) (log : List Entry) → HasLeft (generated number budget) log → IsFaultless s → AnswersRequest (generated number budget) bytes out s log
     → EndsWell (generated number budget) s
 
--- Of a run: what it answers where nothing failed and memory was not refused. Of an input it says so where the source tells it.
+-- Of a run: what it answers where nothing failed and memory was not refused. Of an input it says so where the source
+-- tells it.
 abbrev pub IsComplete : Option Request → Option (List ℕ) → Status → List Entry → Type 0
 IsComplete None held s log = Unit {0}
 IsComplete (Some (generated number budget)) held s log = HasLeft (generated number budget) log → IsFaultless s → IsDone s

@@ -1,5 +1,5 @@
--- The words and the input decide the answer, unless something fails, memory is refused or a search is asked for; and what is
--- accepted is true.
+-- The words and the input decide the answer, unless something fails, memory is refused or a search is asked for; and
+-- what is accepted is true.
 use Rattle.std.specs.Prelude.{◌≡◌, ℕ, [], List, map, codes, Option, Some, None, Ok}
 use Rattle.shq_terms.specs.declared.axioms.Axiom.{Axiom}
 use Rattle.shq_terms.specs.Listed.{Listed}
@@ -133,8 +133,8 @@ AcceptedQueriesFollow = (query bytes : List ℕ) (log : List Entry) → AnswersJ
 abbrev pub AcceptedQueriesDoNotFollow : Type 0
 AcceptedQueriesDoNotFollow = (query bytes : List ℕ) (log : List Entry) → AnswersJob (check query) bytes (line (codes "accepted not entailed")) Done log → HaveRead (λ axioms q. Entails axioms q → ⊥) query bytes
 
--- The document, the query on it and the audit behind it that texts are, over the names of document and query; and the lists
--- of the audit are exactly all justifications of the query and all its repairs.
+-- The document, the query on it and the audit behind it that texts are, over the names of document and query; and the
+-- lists of the audit are exactly all justifications of the query and all its repairs.
 pub record HaveAudited (query bytes : List ℕ) : Type 0 where
   pub both : Listed
   pub asked : Asked

@@ -108,8 +108,8 @@ longer_request (w ∷ a ∷ []) = None
 longer_request (w ∷ b ∷ n ∷ []) = budgeted_alone w b n
 longer_request (w ∷ a ∷ b ∷ n ∷ rest) = longest_request (w ∷ a ∷ b ∷ n ∷ rest)
 
--- `check AXIOM` and `audit AXIOM`, and the jobs that search, each of which may have `budget B` after it; every other list
--- of words asks for nothing
+-- `check AXIOM` and `audit AXIOM`, and the jobs that search, each of which may have `budget B` after it; every other
+-- list of words asks for nothing
 abbrev pub request_of : List (List ℕ) → Option Request
 request_of [] = None
 request_of (w ∷ []) = alone_request w default_budget

@@ -32,16 +32,16 @@ pub fn run<S: Source, K: Sink>(
 ) -> Status
     requires { log.old ≡ [] }
 
-    // The answer that belongs to the words and to the bytes that are read, with the log of how it was found. The bytes are all that
-    // the source held, where it tells them, and of these is told what is left.
+    // The answer that belongs to the words and to the bytes that are read, with the log of how it was found. The bytes
+    // are all that the source held, where it tells them, and of these is told what is left.
     ensures answer { AnsweredAll (S.left source.old) (K.taken sink.old) (K.taken sink.new) (texts_of words.now) result log.new }
     ensures leaves { Leaves (texts_of words.now) (S.left source.old) (S.left source.new) result }
 
     // Where it is undecided, the whole budget was spent on what the log says.
     ensures undecided { result ≡ Status.Undecided → HasSpentAll (request_of (texts_of words.now)) log.new }
 
-    // A run whose document and question are read, and which has something of its budget left, is done, but for faults and out of
-    // memory.
+    // A run whose document and question are read, and which has something of its budget left, is done, but for faults
+    // and out of memory.
     ensures complete { IsComplete (request_of (texts_of words.now)) (S.left source.old) result log.new }
 
     ensures read_fault { result ≡ Status.ReadFault → Rose (S.faults source.old) (S.faults source.new) }

@@ -12,27 +12,27 @@ pub fn bad_words_ask_for_nothing()
     ensures { BadWordsAskForNothing }
 {}
 
-/// Where a document or a question is refused, each run on the same words and input refuses it alike, unless something fails or
-/// memory is refused: so it is refused exactly where a run says so, whatever the job and the budget.
+/// Where a document or a question is refused, each run on the same words and input refuses it alike, unless something
+/// fails or memory is refused: so it is refused exactly where a run says so, whatever the job and the budget.
 pub fn refusals_are_answered_alike()
     ensures { RefusalsAreAnsweredAlike }
 {}
 
-/// A run whose document and question are read, and which has something of its budget left, is done, unless something fails or
-/// memory is refused; a verification is judged. A workload reads nothing.
+/// A run whose document and question are read, and which has something of its budget left, is done, unless something
+/// fails or memory is refused; a verification is judged. A workload reads nothing.
 pub fn runs_are_complete()
     ensures jobs { JobsAreDone }
     ensures workloads { WorkloadsAreDone }
 {}
 
-/// An answer is undecided only where the whole budget was spent, on what the log says. So a run that spent less, and whose document
-/// and question are read, is done, but for faults and out of memory.
+/// An answer is undecided only where the whole budget was spent, on what the log says. So a run that spent less, and
+/// whose document and question are read, is done, but for faults and out of memory.
 pub fn undecided_spends_all()
     ensures { UndecidedSpendsAll }
 {}
 
-/// What is answered by `accepted not entailed` is a query on a document that does not follow from its axioms in all finite
-/// interpretations.
+/// What is answered by `accepted not entailed` is a query on a document that does not follow from its axioms in all
+/// finite interpretations.
 pub fn accepted_queries_do_not_follow()
     ensures { AcceptedQueriesDoNotFollow }
 {}
@@ -43,8 +43,8 @@ pub fn accepted_queries_follow()
     ensures { AcceptedQueriesFollow }
 {}
 
-/// What is answered by `accepted audit` is an audit whose lists are exactly all justifications of the query, the smallest
-/// sets of axioms from which it follows, and all its repairs, the smallest ones without which it does not.
+/// What is answered by `accepted audit` is an audit whose lists are exactly all justifications of the query, the
+/// smallest sets of axioms from which it follows, and all its repairs, the smallest ones without which it does not.
 pub fn accepted_audits_list_all()
     ensures { AcceptedAuditsListAll }
 {}

@@ -1,12 +1,12 @@
 //! The jobs on an ontology, each from the words that ask for it to the answer that is written.
 //!
-//! A certifying program gives with each answer a certificate that can be checked without trust in the program (McConnell,
-//! Mehlhorn, Näher and Schweitzer, "Certifying algorithms", Computer Science Review 5, 2011). The jobs `sat` and `entails`
-//! find such certificates, finite counter-models and refutations, and the job `check` verifies them; `evidence` finds
-//! the reasons and repairs of a query with what shows each, and `audit` verifies these, and that they are all;
-//! `classify`, `explain` and `repair` rest on many such tests, which the log shows. All of it is itself proved: the
-//! clause `answer` of `run` says for any words and input which text is written, with which status, and what the log then
-//! has.
+//! A certifying program gives with each answer a certificate that can be checked without trust in the program
+//! (McConnell, Mehlhorn, Näher and Schweitzer, "Certifying algorithms", Computer Science Review 5, 2011). The jobs
+//! `sat` and `entails` find such certificates, finite counter-models and refutations, and the job `check` verifies
+//! them; `evidence` finds the reasons and repairs of a query with what shows each, and `audit` verifies these, and that
+//! they are all; `classify`, `explain` and `repair` rest on many such tests, which the log shows. All of it is itself
+//! proved: the clause `answer` of `run` says for any words and input which text is written, with which status, and what
+//! the log then has.
 #![tactic(auto)]
 
 mod jobs;

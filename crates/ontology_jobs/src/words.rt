@@ -12,7 +12,8 @@ use pinpointing_jobs::Wanted;
 pub enum Command<'a> {
     /// A job on the input.
     OnInput(Job<'a>),
-    /// `workload N`: the pinpointing job on the ontology of this number, by at most so many steps and nodes. Nothing is read.
+    /// `workload N`: the pinpointing job on the ontology of this number, by at most so many steps and nodes. Nothing is
+    /// read.
     Workload(WorkloadNumber, u32),
 }
 
@@ -27,7 +28,8 @@ pub enum Job<'a> {
     Decide(Question<'a>, u32),
     /// `classify`: which class is part of which.
     Classify(u32),
-    /// `explain AXIOM` or `repair AXIOM`: all smallest sets of axioms from which the axiom follows, or whose removal ends that.
+    /// `explain AXIOM` or `repair AXIOM`: all smallest sets of axioms from which the axiom follows, or whose removal
+    /// ends that.
     Pinpoint(Wanted, &'a str, u32),
     /// `evidence AXIOM`: these sets as an audit, each with what shows it.
     Evidence(&'a str, u32),

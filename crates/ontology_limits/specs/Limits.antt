@@ -1,4 +1,5 @@
--- The limits of an ontology and of a query on it, together: what is read is within them, and each later call asks for them.
+-- The limits of an ontology and of a query on it, together: what is read is within them, and each later call asks for
+-- them.
 use Rattle.std.specs.Prelude.{◌≡◌, ℕ, ◌+◌, ◌≤◌, Bool, true, ◌&&◌, List, [], ◌∷◌, length, nat_le}
 use Rattle.std.specs.List.{list_all}
 use Rattle.role_box.specs.Concept.{Concept, top, bottom, name, complement, intersection, union, some_of, all_of, at_least, at_most, exactly, Parts, no_parts, part, parts_of, part_list}
@@ -54,8 +55,8 @@ abbrev pub part_count : List Numbered → ℕ
 part_count [] = 0
 part_count (a ∷ as_) = length (axiom_parts a.axiom) + part_count as_
 
--- The names of an ontology's axioms are listed, their groups have as many items as they need, no cardinality is above 100,
--- each role that is counted is simple, and there are not too many axioms, names and parts.
+-- The names of an ontology's axioms are listed, their groups have as many items as they need, no cardinality is above
+-- 100, each role that is counted is simple, and there are not too many axioms, names and parts.
 pub record IsOntologyInLimit (o : Listed) : Type 0 where
   pub listed : all_use_listed (length o.classes) (length o.roles) o.axioms ≡ true
   pub items : list_all (λ (a : Numbered). has_enough_items a.axiom) o.axioms ≡ true

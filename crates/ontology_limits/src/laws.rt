@@ -1,8 +1,8 @@
 // What follows from the limits.
 ghost use Rattle.ontology_limits.specs.Laws.{SimpleRolesStaySimple, CountsStaySimple, QueryCountsStaySimple, EachAxiomIsInLimit};
 
-/// A role that is simple by all axioms of an ontology (OWL 2 Structural Specification, section 11.2) is simple by any of
-/// them: fewer axioms lead from fewer transitive roles to it.
+/// A role that is simple by all axioms of an ontology (OWL 2 Structural Specification, section 11.2) is simple by any
+/// of them: fewer axioms lead from fewer transitive roles to it.
 pub fn simple_roles_stay_simple()
     ensures { SimpleRolesStaySimple }
 {}

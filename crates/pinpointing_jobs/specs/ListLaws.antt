@@ -29,8 +29,8 @@ abbrev pub CountsAreRight : Type 0
 CountsAreRight = (number : ℕ) (o : Listed) (q : Asked) (budget : ℕ) (log : List Entry) (f : Found) (s : Status) (out : List ℕ)
     → IsSearched o q budget log f → IsToldCount number o f s out → IsCounted number o q budget log s out
 
--- the log shows that nothing is lacking: each justification, and in each set that meets all of them a node without whose
--- axioms the query does not follow
+-- the log shows that nothing is lacking: each justification, and in each set that meets all of them a node without
+-- whose axioms the query does not follow
 pub record ShowsWhole (o : Listed) (q : Asked) (m : NumberSet) (log : List Entry) : Type 0 where
   pub justifications : (j : NumberSet) → IsJustification o.axioms q j → IsShownJustification log q m j
   pub leaves : (t : NumberSet) → ((j : NumberSet) → IsJustification o.axioms q j → DoMeet j t)

@@ -29,7 +29,8 @@ pub record IsSearched (o : Listed) (q : Asked) (budget : ℕ) (log : List Entry)
   pub justifications : (j : Limited) → Contains f.justifications.items j → IsJustificationSet o q j
   pub leaves : (l : Limited) → Contains f.leaves.items l → IsLeaf o q l
   pub limits : HaveOneLimit (f.justifications.items ++ f.leaves.items)
-  -- the nodes of the log are those of a hitting-set tree with these labels, and settled, the last one apart where the budget was spent
+  -- the nodes of the log are those of a hitting-set tree with these labels, and settled, the last one apart where the
+  -- budget was spent
   pub nodes : AreNodes f.justifications.items (nodes_of log)
   pub leaf_taken : (l : Limited) → Contains f.leaves.items l → Contains (nodes_of log) l
   pub settled : AreSettled f.justifications.items f.leaves.items (nodes_of log) (cond f.finished (length (nodes_of log)) (length (nodes_of log) - 1))

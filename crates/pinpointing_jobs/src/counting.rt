@@ -12,8 +12,8 @@ use repair_list::repairs;
 use shq_terms::Ontology;
 use std::alloc::Global;
 
-/// The numbers of axioms, justifications and repairs of a workload, where these were found of the axioms of its ontology: how the run
-/// ends, and the text. Where the search was not finished, the text is `undecided` alone.
+/// The numbers of axioms, justifications and repairs of a workload, where these were found of the axioms of its
+/// ontology: how the run ends, and the text. Where the search was not finished, the text is `undecided` alone.
 ///
 /// # Errors
 ///

@@ -6,7 +6,8 @@ pub fn lists_are_unique()
     ensures { ListsAreUnique }
 {}
 
-/// The text of a workload is a document with nothing behind it, and the query of workloads is one on it: neither is refused.
+/// The text of a workload is a document with nothing behind it, and the query of workloads is one on it: neither is
+/// refused.
 pub fn workloads_are_questions()
     ensures { WorkloadsAreQuestions }
 {}

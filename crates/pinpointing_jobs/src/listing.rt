@@ -1,9 +1,10 @@
-//! What is answered of the sets that a search found: a list of all justifications or of all repairs, or the numbers of both.
+//! What is answered of the sets that a search found: a list of all justifications or of all repairs, or the numbers of
+//! both.
 //!
-//! A justification is a smallest set of axioms from which a query follows; a repair is a smallest set without which it does not
-//! follow any more. A hitting-set tree finds the justifications, and leaves among which the repairs are (Raymond Reiter, "A Theory
-//! of Diagnosis from First Principles", Artificial Intelligence 32, 1987). Where the search was finished, all are listed, and else
-//! those that its nodes make known.
+//! A justification is a smallest set of axioms from which a query follows; a repair is a smallest set without which it
+//! does not follow any more. A hitting-set tree finds the justifications, and leaves among which the repairs are
+//! (Raymond Reiter, "A Theory of Diagnosis from First Principles", Artificial Intelligence 32, 1987). Where the search
+//! was finished, all are listed, and else those that its nodes make known.
 // The list of the sets that are wanted.
 ghost use Rattle.std.specs.Prelude.{◌≡◌, ◌++◌, ◌∷◌, [], length, IfOk, OnOk};
 ghost use Rattle.std.specs.List.{All};
@@ -20,8 +21,8 @@ use repair_list::repairs;
 use shq_terms::Ontology;
 use std::alloc::Global;
 
-/// The list of the wanted sets among those that were found of the axioms of an ontology: how the run ends, and the text. Where the
-/// search was not finished, the heading says that the list is a part, and the last line is `undecided`.
+/// The list of the wanted sets among those that were found of the axioms of an ontology: how the run ends, and the
+/// text. Where the search was not finished, the heading says that the list is a part, and the last line is `undecided`.
 ///
 /// # Errors
 ///

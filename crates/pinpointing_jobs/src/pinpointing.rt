@@ -17,11 +17,11 @@ use run_log::RunLog;
 use shq_terms::{NoMemory, Ontology, Query};
 use std::alloc::Global;
 
-/// All justifications or all repairs of an inclusion on the document that the bytes are: how the run ends, and the list as text. The
-/// log gets what was asked.
+/// All justifications or all repairs of an inclusion on the document that the bytes are: how the run ends, and the list
+/// as text. The log gets what was asked.
 ///
-/// `inclusion` is the text of a `SubClassOf`, and `budget` the number of steps and nodes that the search may take. Where it does
-/// not suffice, the list has what was found, and the run ends `Undecided`.
+/// `inclusion` is the text of a `SubClassOf`, and `budget` the number of steps and nodes that the search may take.
+/// Where it does not suffice, the list has what was found, and the run ends `Undecided`.
 pub fn pinpoint(
     alloc: Global,
     wanted: Wanted,

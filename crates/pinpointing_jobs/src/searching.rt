@@ -12,8 +12,8 @@ use shq_terms::{NoMemory, Ontology, Query};
 use std::alloc::Global;
 use std::mem;
 
-/// Searches for the justifications of a query and for leaves among which its repairs are, within a budget of steps and nodes. The
-/// log gets what was asked, also where memory is refused.
+/// Searches for the justifications of a query and for leaves among which its repairs are, within a budget of steps and
+/// nodes. The log gets what was asked, also where memory is refused.
 ///
 /// # Errors
 ///

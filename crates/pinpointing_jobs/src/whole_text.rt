@@ -1,8 +1,8 @@
 //! Lists of sets of axioms as text: what a job prints of justifications and of repairs.
 //!
-//! The first line has a heading and the number of sets. Then there is one line for each set, with the numbers of its axioms, and one
-//! for each axiom that is in one of the sets: its number, the line of the document on which it stands, and its canonical text. So
-//! the list can be read without the document beside it, and each axiom is found there again.
+//! The first line has a heading and the number of sets. Then there is one line for each set, with the numbers of its
+//! axioms, and one for each axiom that is in one of the sets: its number, the line of the document on which it stands,
+//! and its canonical text. So the list can be read without the document beside it, and each axiom is found there again.
 // The text of a list of sets.
 ghost use Rattle.std.specs.Prelude.{◌≡◌, ◌++◌, IfOk, OnOk, OnErr, length};
 ghost use Rattle.std.specs.List.{All};
@@ -16,10 +16,10 @@ use axiom_sets::AxiomSet;
 use shq_terms::Ontology;
 use std::alloc::Global;
 
-/// Appends the text of a list of sets of the ontology's axioms, or nothing. Its lines are the heading with the number of sets;
-/// the numbers of each set, ascending, with one blank between, where the empty set is the word `empty`; and `axiom K line L
-/// TEXT` for each axiom that is in one of the sets, by its number, ascending, with its line in the document and its canonical
-/// text. Each line ends with a line feed.
+/// Appends the text of a list of sets of the ontology's axioms, or nothing. Its lines are the heading with the number
+/// of sets; the numbers of each set, ascending, with one blank between, where the empty set is the word `empty`; and
+/// `axiom K line L TEXT` for each axiom that is in one of the sets, by its number, ascending, with its line in the
+/// document and its canonical text. Each line ends with a line feed.
 ///
 /// # Errors
 ///

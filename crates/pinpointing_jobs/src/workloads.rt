@@ -20,10 +20,11 @@ use shq_terms::{NoMemory, Ontology, Query};
 use std::alloc::Global;
 use workload::{QUERY, generate};
 
-/// The numbers of axioms, justifications and repairs of the workload of a number: how the run ends, and the text. The log gets what
-/// was asked.
+/// The numbers of axioms, justifications and repairs of the workload of a number: how the run ends, and the text. The
+/// log gets what was asked.
 ///
-/// `budget` is the number of steps and nodes that the search may take. Where it does not suffice, the run ends `Undecided`.
+/// `budget` is the number of steps and nodes that the search may take. Where it does not suffice, the run ends
+/// `Undecided`.
 pub fn run_workload(alloc: Global, number: u32, budget: u32, log: &mut RunLog) -> (Status, Text)
     requires least { 1 ≤ number }
     requires most { number ≤ 4000 }

@@ -23,7 +23,8 @@ module _ (axioms : List Numbered) (q : Query) (m : NumberSet) (is_module : IsLoc
   abbrev inside : Name → Bool
   inside = is_among (module_names axioms q m)
 
-  -- an interpretation that meets those of the axioms that are in the module meets all of them when the names outside are emptied
+  -- an interpretation that meets those of the axioms that are in the module meets all of them when the names outside
+  -- are emptied
   all_met : (s : NumberSet) (i : Interpretation) → meets_all i (axioms_in_set (set.intersection s m) axioms) ≡ true → meets_all (emptied inside i) (axioms_in_set s axioms) ≡ true
   all_met s i met =
       all_pass (meets (emptied inside i)) (axioms_in_set s axioms)

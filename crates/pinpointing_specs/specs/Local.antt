@@ -1,6 +1,6 @@
 -- Syntactic locality (B. Cuenca Grau, I. Horrocks, Y. Kazakov and U. Sattler, "Modular Reuse of Ontologies: Theory and
--- Practice", Journal of Artificial Intelligence Research 31, 2008, section 5): whether an axiom is met wherever all names
--- outside a signature are empty, by its form alone. The test `inside` tells which names the signature has.
+-- Practice", Journal of Artificial Intelligence Research 31, 2008, section 5): whether an axiom is met wherever all
+-- names outside a signature are empty, by its form alone. The test `inside` tells which names the signature has.
 use Rattle.std.specs.Prelude.{ℕ, Bool, true, false, not, ◌&&◌, ◌||◌, nat_le, count_by, List}
 use Rattle.std.specs.List.{list_all}
 use Rattle.shq_terms.specs.Concept.{Concept, top, bottom, name, complement, intersection, union, some_of, all_of, at_least, at_most, exactly, Parts, no_parts, part, parts_of}

@@ -11,8 +11,8 @@ use Rattle.pinpointing_specs.specs.LocalModule.{IsLocalModule, FollowsFrom, IsJu
 abbrev pub ModulesAreUnique : Type 0
 ModulesAreUnique = (axioms : List Numbered) (q : Query) (s t : NumberSet) → IsLocalModule axioms q s → IsLocalModule axioms q t → s ≡ t
 
--- what follows from some of the axioms follows from more of them: so what holds of smallest yes-sets and smallest removals holds of
--- justifications and repairs
+-- what follows from some of the axioms follows from more of them: so what holds of smallest yes-sets and smallest
+-- removals holds of justifications and repairs
 abbrev pub FollowingGrows : Type 0
 FollowingGrows = (axioms : List Numbered) (q : Query) → Grows (FollowsFrom axioms q)
 

@@ -10,7 +10,8 @@
 //! set that meets all listed yes-sets contains a leaf, the listed sets are all of the smallest ones, and the leaves in
 //! which each member is hit alone are all of the smallest removals.
 //!
-//! `module_laws` speak of the part of an ontology in which it is enough to look: its local module has every justification.
+//! `module_laws` speak of the part of an ontology in which it is enough to look: its local module has every
+//! justification.
 #![tactic(auto)]
 
 mod module_laws;

@@ -52,7 +52,8 @@ branches_for k fs = map (λ f. branch_with_facts k (f ∷ [])) fs
 abbrev pub waiting_with : Open → Fact ℕ → Open
 waiting_with o f = record { branch = o.branch; waiting = branch_with_facts o.branch (f ∷ []) ∷ o.waiting; closed = o.closed }
 
--- what a line leaves can be put in the place of the branch: only one that knows nothing is started, and new nodes are new
+-- what a line leaves can be put in the place of the branch: only one that knows nothing is started, and new nodes are
+-- new
 abbrev pub IsReady : Branch → Outcome → Type 0
 IsReady k Closed = Unit {0}
 IsReady k (Started c d) = (k.nodes ≡ []) × (k.facts ≡ [])

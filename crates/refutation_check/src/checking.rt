@@ -20,13 +20,13 @@ use std::alloc::Global;
 pub enum Verdict {
     /// It is valid.
     Accepted,
-    /// The place of the first line that breaks the rules, from 1; the number of lines and one more where a branch is left
-    /// open; 0 where an axiom that it names is not in the set.
+    /// The place of the first line that breaks the rules, from 1; the number of lines and one more where a branch is
+    /// left open; 0 where an axiom that it names is not in the set.
     Rejected(u32),
 }
 
-/// Whether the refutation of the query is valid over a set of axioms of the ontology. Whatever axioms the refutation names,
-/// also some that the ontology has not, it gets a verdict.
+/// Whether the refutation of the query is valid over a set of axioms of the ontology. Whatever axioms the refutation
+/// names, also some that the ontology has not, it gets a verdict.
 ///
 /// # Errors
 ///

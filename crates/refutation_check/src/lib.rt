@@ -2,9 +2,9 @@
 //!
 //! A reasoner need not be trusted where what it answers comes with a certificate that a simpler program checks (R. M.
 //! McConnell, K. Mehlhorn, S. Näher and P. Schweitzer, *Certifying Algorithms*, Computer Science Review 5, 2011). The
-//! certificate here is a closed tableau, written line by line in preorder. [`check`] reads the lines once and searches nothing.
-//! It keeps the branch that it is in, and of each branch that waits only a mark and the fact that this one begins with, so
-//! that a branch costs what it adds.
+//! certificate here is a closed tableau, written line by line in preorder. [`check`] reads the lines once and searches
+//! nothing. It keeps the branch that it is in, and of each branch that waits only a mark and the fact that this one
+//! begins with, so that a branch costs what it adds.
 #![tactic(auto)]
 
 mod checking;

@@ -1,4 +1,5 @@
--- Facts over the numbers of a table say the same over a longer table, and what facts over trees say is found by numbers.
+-- Facts over the numbers of a table say the same over a longer table, and what facts over trees say is found by
+-- numbers.
 use Rattle.std.proofs.Common.{◌≡◌, ℕ, ◌≤◌, ◌&&◌, ltb, Bool, true, List, [], ◌∷◌, ◌++◌, length, refl, ap, sym, ◌∙◌, arith}
 use Rattle.std.specs.List.{list_all}
 use Rattle.std.proofs.lemmas.Bool.{ltb-true, lt-ltb, and_parts, and_from}

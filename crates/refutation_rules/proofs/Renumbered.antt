@@ -1,4 +1,5 @@
--- A concept of a refutation with the numbers of a table for its parts is a shape that the table may have, with its tree.
+-- A concept of a refutation with the numbers of a table for its parts is a shape that the table may have, with its
+-- tree.
 use Rattle.std.proofs.Common.{◌≡◌, ℕ, zero, suc, ◌+◌, ◌<◌, ◌≤◌, ltb, leb, Bool, true, false, List, [], ◌∷◌, ◌++◌, map, length, take, get_or, refl, ap, subst, sym, ◌∙◌, inl, inr, arith, length-append}
 use Rattle.std.specs.Prelude.{slice_index}
 use Rattle.std.specs.List.{list_all, All}

@@ -68,7 +68,8 @@ abbrev pub IsHeld : RefutationContext → Branch → ℕ → ℕ → Option Show
 IsHeld f k x c None = (answer : Concept → Option (List Known)) → at_concept (known_of f.table k) x (concept_at f.shapes c) answer ≡ None
 IsHeld f k x c (Some s) = IsHeldShape f k x c (form_of s)
 
--- what is left of the branch, where the premises hold, is that the node y is in the concept of the number, if there is one
+-- what is left of the branch, where the premises hold, is that the node y is in the concept of the number, if there is
+-- one
 abbrev pub AddsConcept : List Shape → Branch → Option (List Known) → ℕ → Option ℕ → Type 0
 AddsConcept table k children y None = children ≡ None
 AddsConcept table k children y (Some n) = (n < length table) × (children ≡ Some (known_of table (branch_with_facts k (Has y n ∷ [])) ∷ []))
@@ -110,8 +111,8 @@ abbrev pub range_used : RefutationContext → Branch → ℕ → ℕ → Option 
 range_used f k x y None = None
 range_used f k x y (Some r) = when (knows (known_of f.table k) x && knows (known_of f.table k) y && has_edge (known_of f.table k).facts (λ q. (theory f).below q r.role) x y) (Some r.concept)
 
--- what is kept for a refutation of a query: the roles are by the axioms that it names, and its concepts, the two sides of
--- the query and bottom have their numbers in the table
+-- what is kept for a refutation of a query: the roles are by the axioms that it names, and its concepts, the two sides
+-- of the query and bottom have their numbers in the table
 pub record IsRefutationContext (rows : CacheState) (shapes : List Shape) (query : Query) (roles : List RoleAxiom) (numbers : List ℕ) (sub not_sup none : ℕ) : Type 0 where
   pub roles_are : roles ≡ role_axioms rows.axioms rows.named
   pub concepts : AreAllNumbered shapes rows.table numbers

@@ -1,12 +1,13 @@
 //! What each rule line of a refutation does to the branch to which it belongs.
 //!
-//! Rule lines are the rules of tableaux for SHIQ without inverse roles (I. Horrocks, U. Sattler and S. Tobies, *Practical
-//! Reasoning for Very Expressive Description Logics*, Logic Journal of the IGPL 8, 2000), written down where they were used,
-//! each with its node and its concept. So no rule is searched for here, and none is blocked. A line is tested, and answered by
-//! an [`Outcome`]: its branch is closed, knows more, or is replaced by one branch for each alternative.
+//! Rule lines are the rules of tableaux for SHIQ without inverse roles (I. Horrocks, U. Sattler and S. Tobies,
+//! *Practical Reasoning for Very Expressive Description Logics*, Logic Journal of the IGPL 8, 2000), written down where
+//! they were used, each with its node and its concept. So no rule is searched for here, and none is blocked. A line is
+//! tested, and answered by an [`Outcome`]: its branch is closed, knows more, or is replaced by one branch for each
+//! alternative.
 //!
-//! [`Rules`] are made for one refutation of one query. They hold a table of concepts by number, in which branches are kept,
-//! the roles by the axioms that the refutation names, and the rows that its lines use.
+//! [`Rules`] are made for one refutation of one query. They hold a table of concepts by number, in which branches are
+//! kept, the roles by the axioms that the refutation names, and the rows that its lines use.
 #![tactic(auto)]
 
 mod concept_lines;

@@ -27,8 +27,8 @@ use shq_terms::{Ontology, Query};
 use std::alloc::Global;
 use std::marker::Model;
 
-/// The rules for the lines of one refutation: the axioms that it names, the roles by these, the query, and the numbers of
-/// its concepts in a table of their own, which keeps the rows that lines use.
+/// The rules for the lines of one refutation: the axioms that it names, the roles by these, the query, and the numbers
+/// of its concepts in a table of their own, which keeps the rows that lines use.
 #[derive(Drop)]
 pub struct Rules<'a> {
     pub(crate) alloc: Global,

@@ -17,8 +17,8 @@ pub record RefutationLists : Type 0 where
   pub shapes : List Shape
   pub lines : List Line
 
--- the numbers of concepts fit 32 bits, the shapes are normal and stand once, and each number of a concept on a rule line
--- is that of a shape
+-- the numbers of concepts fit 32 bits, the shapes are normal and stand once, and each number of a concept on a rule
+-- line is that of a shape
 pub record IsKept (shapes : List Shape) (lines : List Line) : Type 0 where
   pub few : length shapes < 2 ^ 32
   pub are_shapes : AreShapes shapes

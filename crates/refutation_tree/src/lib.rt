@@ -1,10 +1,11 @@
 //! Refutations: closed tableaux as lists of lines, and their text.
 //!
-//! A tableau for SHQ (Horrocks, Sattler and Tobies, Practical Reasoning for Very Expressive Description Logics, Logic Journal
-//! of the IGPL 8(3), 2000) refutes a query when each of its branches ends in a clash. A refutation keeps of it what a checker
-//! needs and nothing of how it was found: the axioms that it uses, the concepts that it names, each once and by number, and
-//! the rules that were applied, in preorder of the tree of branches. There is no blocking in it, since a closed branch is
-//! finite. A refutation without rule lines can be written and read; that it refutes nothing is for its checker to say.
+//! A tableau for SHQ (Horrocks, Sattler and Tobies, Practical Reasoning for Very Expressive Description Logics, Logic
+//! Journal of the IGPL 8(3), 2000) refutes a query when each of its branches ends in a clash. A refutation keeps of it
+//! what a checker needs and nothing of how it was found: the axioms that it uses, the concepts that it names, each once
+//! and by number, and the rules that were applied, in preorder of the tree of branches. There is no blocking in it,
+//! since a closed branch is finite. A refutation without rule lines can be written and read; that it refutes nothing is
+//! for its checker to say.
 #![tactic(auto)]
 
 mod concept_lines;

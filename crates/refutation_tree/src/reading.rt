@@ -20,14 +20,15 @@ use shq_nnf::OwnedShape;
 use shq_terms::Ontology;
 use std::alloc::Global;
 
-/// The refutation whose text these lines are: `refutation`, `axioms K ..`, concept lines, rule lines, the line `end`, and
-/// blank lines.
+/// The refutation whose text these lines are: `refutation`, `axioms K ..`, concept lines, rule lines, the line `end`,
+/// and blank lines.
 ///
 /// The numbers of axioms are those of the ontology and ascend strictly. Concept lines are numbered from 1. Each is
-/// `concept K` and then `top`, `bottom`, `name NAME`, `not NAME`, `and I J ..`, `or I J ..`, `some ROLE I`, `all ROLE I`,
-/// `least N ROLE I` or `most N ROLE I`, in normal form, with parts of smaller numbers, and none stands twice. A name is the
-/// full IRI of a listed class or role between `<` and `>`. A number of a concept on a rule line is that of a concept line.
-/// There may be no axioms, no concept lines and no rule lines: whether the lines refute anything is no matter of the format.
+/// `concept K` and then `top`, `bottom`, `name NAME`, `not NAME`, `and I J ..`, `or I J ..`, `some ROLE I`, `all ROLE
+/// I`, `least N ROLE I` or `most N ROLE I`, in normal form, with parts of smaller numbers, and none stands twice. A
+/// name is the full IRI of a listed class or role between `<` and `>`. A number of a concept on a rule line is that of
+/// a concept line. There may be no axioms, no concept lines and no rule lines: whether the lines refute anything is no
+/// matter of the format.
 ///
 /// # Errors
 ///

@@ -13,9 +13,9 @@ use shq_terms::Ontology;
 use std::alloc::Global;
 
 impl Refutation {
-    /// Appends the text of the refutation, or nothing: `refutation`, `axioms K ..` with its axioms, a line `concept K ..`
-    /// for each concept, its lines in order, and `end`, each with a line feed after it. The classes and roles that it names
-    /// are listed. The memory is `alloc`'s.
+    /// Appends the text of the refutation, or nothing: `refutation`, `axioms K ..` with its axioms, a line `concept K
+    /// ..` for each concept, its lines in order, and `end`, each with a line feed after it. The classes and roles that
+    /// it names are listed. The memory is `alloc`'s.
     ///
     /// # Errors
     ///

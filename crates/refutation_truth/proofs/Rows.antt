@@ -19,8 +19,8 @@ module _ (i : Interpretation) (v : ℕ) (d : Concept) (positions : List ℕ) whe
   others-not : (c : Concept) (cs : List Concept) (first : ℕ) → is_among positions first ≡ false → one_of (others_from first positions (c ∷ cs)) ≡ (holds i (negated_form c) v || one_of (others_from (first + 1) positions cs))
   others-not c cs first h = ap (λ (b : Bool). one_of (cond b (others_from (first + 1) positions cs) (c ∷ others_from (first + 1) positions cs))) h
 
-  -- one that is in the conjuncts at the positions is in the complement of another one or in the right side, if it is in that
-  -- where it is in all
+  -- one that is in the conjuncts at the positions is in the complement of another one or in the right side, if it is in
+  -- that where it is in all
   one_holds : (cs : List Concept) (first : ℕ) → ((j : ℕ) → j < length cs → is_among positions (first + j) ≡ true → holds i (get_or cs j top) v ≡ true)
       → (list_all (λ c. holds i c v) cs ≡ true → holds i d v ≡ true) → one_of (others_from first positions cs) ≡ true
   one_holds [] first given right = or_left (holds i d v) false (right refl)

@@ -20,8 +20,8 @@ PartsAreNumbered = (axioms : List Numbered) (ks : List ℕ) (a p : ℕ) → part
 abbrev pub TheoriesHaveRoles : Type 0
 TheoriesHaveRoles = (axioms : List Numbered) (ks : List ℕ) → HasRoles (theory_of axioms ks) (Leads (role_axioms axioms ks)) (IsTransitive (role_axioms axioms ks))
 
--- where lines refute, over the named axioms, that something is in `sub` and not in `sup`, the named axioms entail that what
--- is in `sub` is in `sup`
+-- where lines refute, over the named axioms, that something is in `sub` and not in `sup`, the named axioms entail that
+-- what is in `sub` is in `sup`
 abbrev pub RefutationsEntail : Type 0
 RefutationsEntail = (axioms : List Numbered) (ks : List ℕ) (sub sup : Concept) (shapes : List Shape) (lines : List Line)
     → IsRefutation (theory_of axioms ks) sub sup shapes lines → Entails (named_axioms axioms ks) (record { sub = sub; sup = sup })

@@ -1,9 +1,9 @@
 //! What a refutation proves: where its lines are valid, the axioms that it names entail its query.
 //!
 //! This is the soundness of the tableau's rules (I. Horrocks, U. Sattler and S. Tobies, *Practical Reasoning for Very
-//! Expressive Description Logics*, Logic Journal of the IGPL 8, 2000), over the theory of those axioms: their parts and their
-//! roles. A finite interpretation that meets the axioms and has an element in the one class and not in the other would be a
-//! model of some branch after each line, and a closed branch has none.
+//! Expressive Description Logics*, Logic Journal of the IGPL 8, 2000), over the theory of those axioms: their parts and
+//! their roles. A finite interpretation that meets the axioms and has an element in the one class and not in the other
+//! would be a model of some branch after each line, and a closed branch has none.
 #![tactic(auto)]
 
 ghost use Rattle.refutation_truth.specs.Laws.{PartsAreNumbered, TheoriesHaveRoles, RefutationsEntail, RefutationsEntailByAll};
@@ -13,8 +13,8 @@ pub fn parts_are_numbered()
     ensures { PartsAreNumbered }
 {}
 
-/// One role is below another exactly where a chain of the named role axioms leads from the one to the other, and a role is
-/// transitive exactly where one of them says so.
+/// One role is below another exactly where a chain of the named role axioms leads from the one to the other, and a role
+/// is transitive exactly where one of them says so.
 pub fn theories_have_roles()
     ensures { TheoriesHaveRoles }
 {}

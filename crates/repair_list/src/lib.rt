@@ -1,9 +1,9 @@
 //! Repairs: the smallest sets whose removal leaves no yes-set.
 //!
 //! A hitting-set tree ends in leaves whose rests are no yes-sets, but not every leaf is a smallest one (the remark of
-//! Russell Greiner, Barbara Smith and Ralph Wilkerson on Reiter's algorithm, Artificial Intelligence 41, 1989). A leaf is
-//! one exactly where each of its members is the only one that it shares with some listed yes-set; that is told from the
-//! two lists, without an ask.
+//! Russell Greiner, Barbara Smith and Ralph Wilkerson on Reiter's algorithm, Artificial Intelligence 41, 1989). A leaf
+//! is one exactly where each of its members is the only one that it shares with some listed yes-set; that is told from
+//! the two lists, without an ask.
 #![tactic(auto)]
 
 ghost use Rattle.std.specs.Prelude.{◌≡◌, ◌≤◌, ◌↔◌, ◌++◌, IfOk, OnOk, IsTrue};
@@ -19,8 +19,8 @@ use lane_sieve::NoMemory;
 use set_questions::{Entail, put_in_order};
 use std::alloc::Global;
 
-/// The leaves in which each member is hit alone, in the order of sets, each once. Where the lists were finished, these are
-/// exactly the smallest sets whose removal leaves no yes-set, by [`finished_repairs_are_all`].
+/// The leaves in which each member is hit alone, in the order of sets, each once. Where the lists were finished, these
+/// are exactly the smallest sets whose removal leaves no yes-set, by [`finished_repairs_are_all`].
 ///
 /// # Errors
 /// Where memory is refused.

@@ -1,13 +1,13 @@
 //! The role box: which roles are below others by the role axioms of a set, which are transitive, and which are simple.
 //!
-//! Inclusions and equivalences lead from a role to those above it, and a role is below another where a chain of such steps
-//! leads there. A role is simple where no transitive role is below it; number restrictions over other roles would make
-//! reasoning undecidable (Horrocks, Sattler and Tobies, Practical Reasoning for Expressive Description Logics, 1999), so
-//! OWL 2 rules them out (Structural Specification, section 11).
+//! Inclusions and equivalences lead from a role to those above it, and a role is below another where a chain of such
+//! steps leads there. A role is simple where no transitive role is below it; number restrictions over other roles would
+//! make reasoning undecidable (Horrocks, Sattler and Tobies, Practical Reasoning for Expressive Description Logics,
+//! 1999), so OWL 2 rules them out (Structural Specification, section 11).
 //!
-//! A box keeps for each role the set of the roles above it, closed by Warshall's algorithm over words of 64 bits, so that
-//! each test is a look at one bit. It is made of the axioms with given numbers, so that a refutation can be checked by the
-//! role axioms that it names alone.
+//! A box keeps for each role the set of the roles above it, closed by Warshall's algorithm over words of 64 bits, so
+//! that each test is a look at one bit. It is made of the axioms with given numbers, so that a refutation can be
+//! checked by the role axioms that it names alone.
 #![tactic(auto)]
 
 mod closure;

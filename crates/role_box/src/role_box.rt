@@ -39,8 +39,8 @@ impl Model for RoleBox {
 }
 
 impl RoleBox {
-    /// The tests by the role axioms among the axioms of these numbers, which count from 1. Axioms of other kinds are passed
-    /// over.
+    /// The tests by the role axioms among the axioms of these numbers, which count from 1. Axioms of other kinds are
+    /// passed over.
     ///
     /// # Errors
     ///

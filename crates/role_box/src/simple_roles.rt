@@ -69,8 +69,8 @@ fn find_not_simple(axioms: &[Numbered], roles: &RoleBox) -> Option<u32>
     None
 }
 
-/// The line of the least numbered axiom that counts a role which is not simple by all axioms of the ontology: by a number
-/// restriction, at any depth, or as a functional role.
+/// The line of the least numbered axiom that counts a role which is not simple by all axioms of the ontology: by a
+/// number restriction, at any depth, or as a functional role.
 ///
 /// # Errors
 ///

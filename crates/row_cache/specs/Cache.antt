@@ -13,8 +13,8 @@ use Rattle.row_cache.specs.declared.cached_row.CachedRow.{CachedRow}
 use Rattle.row_cache.specs.declared.cached_row.CachedRange.{CachedRange}
 use Rattle.row_cache.specs.declared.cache_entry.CacheEntry.{CacheEntry}
 
--- the axioms, the numbers of those that are named, the table whose numbers rows are made of, and the rows that are cached: of
--- parts, by the numbers of their axioms and themselves, and of range axioms
+-- the axioms, the numbers of those that are named, the table whose numbers rows are made of, and the rows that are
+-- cached: of parts, by the numbers of their axioms and themselves, and of range axioms
 pub record CacheState : Type 0 where
   pub axioms : List Numbered
   pub named : List ℕ

@@ -72,7 +72,8 @@ IsPartFound table _ _ = ⊥
 abbrev pub IsPartIn : List Shape → List Numbered → Limited → ℕ → ℕ → Option PartByNumber → Type 0
 IsPartIn table axioms named a p found = IsPartFound table (part_in_set axioms named a p) found
 
--- the row of an inclusion whose conjuncts and right side are numbers of the table, and the number of its concept in a later one
+-- the row of an inclusion whose conjuncts and right side are numbers of the table, and the number of its concept in a
+-- later one
 abbrev pub row_at : List Shape → List ℕ → ℕ → List ℕ → Option PlainRow
 row_at table conjuncts right positions = row_for (Some (inclusion (trees_at table conjuncts) (tree_of table right))) positions
 

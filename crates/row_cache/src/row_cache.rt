@@ -19,8 +19,8 @@ use shq_terms::Ontology;
 use std::alloc::Global;
 use std::marker::Model;
 
-/// A table of concepts, with rows of the axioms that are named. A row is made once for its part, and anew only where it is
-/// asked for at other positions than last time.
+/// A table of concepts, with rows of the axioms that are named. A row is made once for its part, and anew only where it
+/// is asked for at other positions than last time.
 #[derive(Drop)]
 pub struct RowCache<'a> {
     alloc: Global,
@@ -109,9 +109,9 @@ impl<'a> RowCache<'a> {
         self.concepts.negated(number)
     }
 
-    /// The row of a part of a named axiom for the name conjuncts at these positions, from 1. `None` where the axiom is not
-    /// named or has no such part, where the part is a range, and where the positions do not ascend or one of them is not
-    /// that of a name.
+    /// The row of a part of a named axiom for the name conjuncts at these positions, from 1. `None` where the axiom is
+    /// not named or has no such part, where the part is a range, and where the positions do not ascend or one of them
+    /// is not that of a name.
     ///
     /// # Errors
     ///

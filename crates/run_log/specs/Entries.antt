@@ -45,8 +45,8 @@ is_spent (Node s) = false
 
 -- ---- answers
 
--- a test of a set answers whether a query follows from the asked set: it found axioms of the asked set from which it follows,
--- or that it does not follow from more than the asked set
+-- a test of a set answers whether a query follows from the asked set: it found axioms of the asked set from which it
+-- follows, or that it does not follow from more than the asked set
 abbrev pub EndAnswers : Limited → TestEnd → Limited → Type 0
 EndAnswers s (Yes u) asked = IsPart u.members asked.members
 EndAnswers s No asked = IsPart asked.members s.members

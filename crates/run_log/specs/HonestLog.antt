@@ -131,7 +131,8 @@ abbrev pub AsksNothingTwice : List Entry → Type 0
 AsksNothingTwice log = (i j : ℕ) (s t : Limited) (p q : Query) (m n : ℕ) (e f : TestEnd)
     → i < j → slice_get log i ≡ Some (Test s p m e) → slice_get log j ≡ Some (Test t q n f) → ¬ (p ≡ q)
 
--- one step from a class to one of which it is part: a test found so, or the latter has all things, or the former has none
+-- one step from a class to one of which it is part: a test found so, or the latter has all things, or the former has
+-- none
 pub data IsStep (log : List Entry) : Concept → Concept → Type 0 where
   by_test : (s : Limited) (q : Query) (steps : ℕ) (u : Limited) → Contains log (Test s q steps (Yes u)) → IsStep log q.sub q.sup
   in_top : (x : Concept) → IsStep log x top
@@ -167,8 +168,8 @@ pub record IsJustificationSet (o : Listed) (q : Query) (j : Limited) : Type 0 wh
   pub limit_is : j.limit ≡ length o.axioms
   pub is_one : IsJustification o.axioms q j.members
 
--- the nodes are those of a hitting-set tree: the first is empty, each other one is an earlier one with one member more, of a
--- justification that is apart from the earlier one, and none stands twice
+-- the nodes are those of a hitting-set tree: the first is empty, each other one is an earlier one with one member more,
+-- of a justification that is apart from the earlier one, and none stands twice
 pub record AreTreeNodes (o : Listed) (q : Query) (log : List Entry) : Type 0 where
   pub labels : List Limited
   pub justifications : All (IsJustificationSet o q) labels
@@ -190,7 +191,8 @@ pub record StaysInModule (o : Listed) (q : Query) (log : List Entry) : Type 0 wh
 
 -- ---- the whole
 
--- what a log belongs to: the question whether a query follows, a classification, or the search for justifications and repairs
+-- what a log belongs to: the question whether a query follows, a classification, or the search for justifications and
+-- repairs
 pub data Purpose : Type 0 where
   decision : Query → Purpose
   classification : Purpose

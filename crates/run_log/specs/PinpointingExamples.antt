@@ -1,5 +1,5 @@
--- Worked logs of the search for justifications and repairs: for each thing that an honest log has to be, one that is so and
--- one that is not.
+-- Worked logs of the search for justifications and repairs: for each thing that an honest log has to be, one that is so
+-- and one that is not.
 use Rattle.std.specs.Prelude.{◌≡◌, ℕ, zero, suc, ◌<◌, Bool, true, false, not, ◌&&◌, nat_eq, List, [], ◌∷◌, ◌++◌, slice_index_or, Contains, if◌then◌else◌, refl}
 use Rattle.std.proofs.Common.{lit<, ap, sym, subst, ◌∙◌, arith}
 use Rattle.std.proofs.lemmas.Bool.Decides.{nat_tests}

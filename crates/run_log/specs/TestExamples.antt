@@ -44,8 +44,8 @@ use Rattle.run_log.specs.HonestLog.{IsAxiomSet, FollowsIn, CostsSteps, IsHonestY
 use Rattle.run_log.specs.HonestLog.Purpose.{decision}
 use Rattle.run_log.specs.LogExamples.{bare, no_axioms, no_axioms_are_whole}
 
--- Whether class 0 is part of itself, which follows from no axioms; whether all things are in no class, which does not; and
--- whether nothing is in both of two classes.
+-- Whether class 0 is part of itself, which follows from no axioms; whether all things are in no class, which does not;
+-- and whether nothing is in both of two classes.
 abbrev itself : Query
 itself = record { sub = name 0; sup = name 0 }
 

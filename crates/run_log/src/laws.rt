@@ -22,7 +22,8 @@ pub fn answers_are_true()
     ensures { AnswersAreTrue }
 {}
 
-/// Where steps of an honest classification lead from one class to another, the former is part of the latter by all axioms.
+/// Where steps of an honest classification lead from one class to another, the former is part of the latter by all
+/// axioms.
 pub fn chains_are_true()
     ensures { ChainsAreTrue }
 {}

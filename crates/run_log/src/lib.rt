@@ -1,13 +1,13 @@
 //! What a run writes down of its work, and what it is for such a log to be honest.
 //!
-//! A job asks whether axioms entail queries. Each question is one test: a search of some legal steps that ends with a yes, with a
-//! no, or with its budget spent. A job that looks for justifications takes nodes of a hitting-set tree besides. The log has
-//! these tests and nodes in their order, so that it shows on which work an answer rests. Where a test spent the budget, the
-//! log keeps the trail that its search had reached.
+//! A job asks whether axioms entail queries. Each question is one test: a search of some legal steps that ends with a
+//! yes, with a no, or with its budget spent. A job that looks for justifications takes nodes of a hitting-set tree
+//! besides. The log has these tests and nodes in their order, so that it shows on which work an answer rests. Where a
+//! test spent the budget, the log keeps the trail that its search had reached.
 //!
 //! What an honest log is, is said by definitions over the log alone, for each kind of job: no more was spent than the
-//! budget; each test found what is so, by as many legal steps as it says; and no question was asked whose answer an earlier
-//! entry gives.
+//! budget; each test found what is so, by as many legal steps as it says; and no question was asked whose answer an
+//! earlier entry gives.
 #![tactic(auto)]
 
 mod entry;

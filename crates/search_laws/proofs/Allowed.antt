@@ -1,5 +1,5 @@
--- A concept is allowed where its names are listed and it counts roles of a kind alone. So are the normal forms of it and of its
--- complement.
+-- A concept is allowed where its names are listed and it counts roles of a kind alone. So are the normal forms of it
+-- and of its complement.
 use Rattle.std.proofs.Common.{◌≡◌, ℕ, zero, suc, not, ltb, Bool, true, false, cond, List, [], ◌∷◌, ◌++◌, filter, refl, ◌∙◌, sym}
 use Rattle.std.specs.List.{list_any, list_all, flat_map}
 use Rattle.std.proofs.lemmas.Bool.{and_parts, and_from}

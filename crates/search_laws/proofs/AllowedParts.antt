@@ -1,5 +1,5 @@
--- What axioms within the limits give to a search is allowed, and the rules keep it so: their parts and the rows of these, and
--- the roles above those that are listed.
+-- What axioms within the limits give to a search is allowed, and the rules keep it so: their parts and the rows of
+-- these, and the roles above those that are listed.
 use Rattle.std.proofs.Common.{◌≡◌, ℕ, zero, suc, ◌+◌, ◌-◌, ◌<◌, ◌&&◌, eqb, ltb, Bool, true, false, cond, List, [], ◌∷◌, ◌++◌, map, Some, None, refl, ap, ◌∙◌, sym, subst, arith, inl, inr}
 use Rattle.std.specs.List.{list_any, list_all, find, slice_get, Contains}
 use Rattle.std.specs.Option.{option_map}
@@ -198,7 +198,8 @@ module _ (classes roles : ℕ) (p : ℕ → Bool) where
   transitive_listed (EquivalentRoles rs) t h l = cc
   transitive_listed _ t h l = cc
 
-  -- what follows from each axiom with listed names that says something of roles, follows where some of the axioms say it
+  -- what follows from each axiom with listed names that says something of roles, follows where some of the axioms say
+  -- it
   module _ (says : RoleAxiom → Bool) (Q : Type 0) (one : (a : Axiom) → axiom_uses_listed classes roles a ≡ true → list_any says (role_part a) ≡ true → Q) where
     by_one : (axioms : List Numbered) (n : ℕ) → all_use_listed classes roles axioms ≡ true → list_any says (role_part_at (slice_get axioms n)) ≡ true → Q
     by_one [] n h l = absurd (false≢true l)

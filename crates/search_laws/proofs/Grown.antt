@@ -1,5 +1,5 @@
--- The steps that a trail keeps: those that were not taken back. Each stands for a number, that of the alternative that its
--- mark has, or 1 where it has no mark.
+-- The steps that a trail keeps: those that were not taken back. Each stands for a number, that of the alternative that
+-- its mark has, or 1 where it has no mark.
 use Rattle.std.proofs.Common.{◌≡◌, ℕ, zero, suc, ◌<◌, ◌⊎◌, false, List, [], ◌∷◌, ◌++◌, take, Some, refl, ap, ◌∙◌, sym, subst, arith, inl, inr, append_assoc}
 use Rattle.std.specs.List.{slice_get}
 use Rattle.std.proofs.lemmas.List.{append-nil}

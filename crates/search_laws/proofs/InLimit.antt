@@ -1,4 +1,5 @@
--- What the limits of an ontology give to a search over some of its axioms: labels count simple roles alone, and names are listed.
+-- What the limits of an ontology give to a search over some of its axioms: labels count simple roles alone, and names
+-- are listed.
 use Rattle.std.proofs.Common.{◌≡◌, ℕ, ltb, Bool, true, false, List, length, ap, ◌∙◌, sym, subst}
 use Rattle.std.specs.List.{list_all}
 use Rattle.std.proofs.lemmas.Bool.{and_parts, ltb-true, false_from_ne_true}

@@ -1,5 +1,5 @@
--- Numbers that a trail's steps raise: of the concepts given to nodes, of the nodes that were joined to a lesser one, and of
--- the pairs of nodes that were set apart.
+-- Numbers that a trail's steps raise: of the concepts given to nodes, of the nodes that were joined to a lesser one,
+-- and of the pairs of nodes that were set apart.
 use Rattle.std.proofs.Common.{◌≡◌, ℕ, ◌+◌, ◌*◌, ◌<◌, ◌≤◌, ◌&&◌, ◌⊎◌, not, Bool, true, false, eqb, List, [], ◌∷◌, ◌++◌, length, refl, ap, ◌∙◌, sym, subst, arith, inl, inr, eq-eqb, append_assoc}
 use Rattle.std.proofs.lemmas.List.{append-nil}
 use Rattle.std.specs.List.{list_any, Contains}

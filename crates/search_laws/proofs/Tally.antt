@@ -40,7 +40,8 @@ pub facts_after : (is : List Item) (fs : List (Fact ℕ)) → facts_of (is ++ sa
 facts_after is fs = facts_of-append is (says fs) ∙ ap (λ (gs : List (Fact ℕ)). facts_of is ++ gs) (facts_of-says fs)
 
 module _ (w : SearchContext) (a b : ℕ) (ds : List ℕ) (v : ℕ) where
-  -- the counts after the steps with these numbers and with so many marks, where `AtFirst` says that all marks stand at their first alternative
+  -- the counts after the steps with these numbers and with so many marks, where `AtFirst` says that all marks stand at
+  -- their first alternative
   pub record Tally (ns : List ℕ) (marks : ℕ) (AtFirst : Type 0) (fs : List (Fact ℕ)) : Type 0 where
     pub steps : length ns + 1 ≤ given ds v fs + node_count fs + joined ds v fs + parted ds v fs
     pub at_first_steps : AtFirst → length ns + 1 ≤ given ds v fs + node_count fs + joined ds v fs

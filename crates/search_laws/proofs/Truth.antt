@@ -1,4 +1,5 @@
--- Each element is in all that the node which it is like has: by induction on how deep roles nest, and on the numbers of the table.
+-- Each element is in all that the node which it is like has: by induction on how deep roles nest, and on the numbers of
+-- the table.
 use Rattle.std.proofs.Common.{◌≡◌, ℕ, zero, suc, ◌+◌, ◌<◌, ◌≤◌, ◌&&◌, not, eqb, ltb, leb, Bool, true, false, List, [], ◌∷◌, map, length, get_or, refl, ap, ◌∙◌, sym, subst, arith, inl, inr}
 use Rattle.std.specs.List.{list_any, list_all, range_with_len, Contains, All}
 use Rattle.std.proofs.lemmas.Bool.{cases_Bool, and_parts, and_from, or_cases, or_left, or_right, eqb-true, ltb-true, leb-true, le-leb, false_from_ne_true, not_from_false}

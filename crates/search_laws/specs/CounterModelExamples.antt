@@ -12,8 +12,9 @@ use Rattle.search_laws.specs.Computed.{built}
 
 -- ---- two blocked nodes under one
 
--- Each element of class 10 has two successors by role 5 in class 10. The table's numbers are: 0 top, 1 class 10, 2 'at least 2 of
--- role 5 in class 10'. Both successors of node 0 are blocked by it. They stay two elements, each of which leads to both.
+-- Each element of class 10 has two successors by role 5 in class 10. The table's numbers are: 0 top, 1 class 10, 2 'at
+-- least 2 of role 5 in class 10'. Both successors of node 0 are blocked by it. They stay two elements, each of which
+-- leads to both.
 abbrev table : List Shape
 table = top ∷ name_shape 10 ∷ least_shape 2 5 1 ∷ []
 
@@ -49,7 +50,8 @@ none_has_three = refl
 
 -- ---- chains
 
--- An edge of role 7 leads from node 0 to node 1 and another on to node 2, which has the label of node 0 and is blocked by it.
+-- An edge of role 7 leads from node 0 to node 1 and another on to node 2, which has the label of node 0 and is blocked
+-- by it.
 abbrev chain : List (Fact ℕ)
 chain = Has 0 1 ∷ Edge 7 0 1 ∷ Has 1 2 ∷ Edge 7 1 2 ∷ Has 2 1 ∷ []
 

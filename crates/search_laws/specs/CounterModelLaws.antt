@@ -31,7 +31,8 @@ CountsSimple w fs = (x c n s e t : ℕ) → x < node_count fs → has fs x c ≡
 abbrev pub context_of : Listed → List ℕ → List Shape → List Row → SearchContext
 context_of o ks table rows = record { theory = theory_of o.axioms ks; table = table; rows = rows }
 
--- a search over the axioms of these numbers of an ontology in limit reaches the saturated trail, and i is its interpretation
+-- a search over the axioms of these numbers of an ontology in limit reaches the saturated trail, and i is its
+-- interpretation
 pub record IsSaturatedSearch (o : Listed) (ks : List ℕ) (q : Query) (table : List Shape) (rows : List Row) (k : ℕ) (trail : List Item) (i : Interpretation) : Type 0 where
   pub in_limit : IsInLimit o q
   pub reached : IsReached (theory_of o.axioms ks) q.sub q.sup table rows k trail
@@ -112,8 +113,8 @@ pub record UsesListed (o : Listed) (i : Interpretation) : Type 0 where
   pub class_is : (a v : ℕ) → v < i.size → i.in_class a v ≡ true → a < length o.classes
   pub role_is : (s v u : ℕ) → v < i.size → u < i.size → i.in_role s v u ≡ true → s < length o.roles
 
--- The interpretation uses listed names alone, has an element, meets the axioms of these numbers, and has a counter-example to
--- the query in element 0.
+-- The interpretation uses listed names alone, has an element, meets the axioms of these numbers, and has a
+-- counter-example to the query in element 0.
 pub record IsCounterModel (o : Listed) (ks : List ℕ) (q : Query) (i : Interpretation) : Type 0 where
   pub names_are_listed : UsesListed o i
   pub has_element : 1 ≤ i.size

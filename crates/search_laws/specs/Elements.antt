@@ -1,5 +1,5 @@
--- The elements of the interpretation that a saturated trail gives: each representative that is not under a block is one. A
--- blocked one is an element of its own, which is in all that its blocker is in.
+-- The elements of the interpretation that a saturated trail gives: each representative that is not under a block is
+-- one. A blocked one is an element of its own, which is in all that its blocker is in.
 use Rattle.std.specs.Prelude.{ℕ, ◌==◌, ◌&&◌, Bool, true, false, List, slice_index, filter}
 use Rattle.std.specs.List.{range_with_len}
 use Rattle.calculus_specs.specs.declared.facts.Fact.{Fact}

@@ -1,5 +1,5 @@
--- Worked examples. The first run is for class 10, over the axiom that class 10 is in class 11: the row gives node 0 class 11. The
--- table's numbers are: 0 top, 1 class 10, 2 class 11, 3 the complement of class 11.
+-- Worked examples. The first run is for class 10, over the axiom that class 10 is in class 11: the row gives node 0
+-- class 11. The table's numbers are: 0 top, 1 class 10, 2 class 11, 3 the complement of class 11.
 use Rattle.std.specs.Prelude.{◌≡◌, ℕ, zero, suc, Bool, true, false, ◌==◌, List, [], ◌∷◌, ◌++◌, refl}
 use Rattle.std.proofs.Common.{lit<, ap, sym, subst, ◌∙◌, arith}
 use Rattle.std.specs.List.{list_any}
@@ -77,7 +77,8 @@ no_plain_clash (plain_most x c n s e lt h sh more every) = subst IsPlain sh (pla
 pub is_run : IsRun context (start 1 0) run
 is_run = (add 0 2 no_plain_clash (by_row 0 row (lit< tt) (0, lit< tt, refl) refl) refl, refl)
 
--- it gives node 0 class 11, and shows nothing of it: the same steps of a search whether class 10 is in class 11 end in a clash
+-- it gives node 0 class 11, and shows nothing of it: the same steps of a search whether class 10 is in class 11 end in
+-- a clash
 pub says_nothing_of_eleven : ¬ LeavesOut table run 11
 says_nothing_of_eleven h = h.class_is_not_at_root 2 refl refl
 

@@ -21,8 +21,9 @@ pub record EndsSaturated (theory : Theory) (sub sup : Concept) (k : ℕ) : Type 
   pub reached : IsReached theory sub sup table rows k trail
   pub is_saturated : IsSaturated (record { theory = theory; table = table; rows = rows }) trail
 
--- A search whether anything is in `sub` begins with a node that is in `sub` and in top. Where its run ends saturated and has
--- nothing to do with whether that node is in class a, as many legal steps end saturated in the search whether `sub` is in a.
+-- A search whether anything is in `sub` begins with a node that is in `sub` and in top. Where its run ends saturated
+-- and has nothing to do with whether that node is in class a, as many legal steps end saturated in the search whether
+-- `sub` is in a.
 abbrev pub OneRunAnswersMore : Type 0
 OneRunAnswersMore = (theory : Theory) (sub : Concept) (table : List Shape) (rows : List Row) (number k a : ℕ) (trail : List Item) (earlier : List (List Item))
     → IsTable table → IsChoice theory table rows → number < length table → tree_of table number ≡ normal_form sub
@@ -30,8 +31,8 @@ OneRunAnswersMore = (theory : Theory) (sub : Concept) (table : List Shape) (rows
     → IsSaturated (record { theory = theory; table = table; rows = rows }) trail → LeavesOut table (trail ∷ earlier) a
     → EndsSaturated theory sub (name a) k
 
--- What a legal step puts into a trail stands at its end: from any place on that is neither past the end of the old trail nor past
--- the last item of the new one. So who has noted all facts of the old trail need look no further back.
+-- What a legal step puts into a trail stands at its end: from any place on that is neither past the end of the old
+-- trail nor past the last item of the new one. So who has noted all facts of the old trail need look no further back.
 abbrev pub StepsPutLast : Type 0
 StepsPutLast = (w : SearchContext) (old new : List Item) → IsLegal w old new → (place : ℕ) → place ≤ length old → place ≤ length new - 1
     → (p : Fact ℕ → Bool) → (list_any p (facts_of new) || list_any p (facts_of old)) ≡ (list_any p (facts_of (drop place new)) || list_any p (facts_of old))

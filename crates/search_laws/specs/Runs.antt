@@ -9,14 +9,15 @@ use Rattle.tableau_specs.specs.declared.Item.{Item}
 use Rattle.tableau_specs.specs.Items.{facts_of}
 use Rattle.tableau_specs.specs.Steps.{SearchContext, IsLegal}
 
--- the trails of a run, the latest one first: the earliest one is `first`, and each other one comes from the one before it by a
--- legal step
+-- the trails of a run, the latest one first: the earliest one is `first`, and each other one comes from the one before
+-- it by a legal step
 abbrev pub IsRun : SearchContext → List Item → List (List Item) → Type 0
 IsRun w first [] = ⊥
 IsRun w first (trail ∷ []) = trail ≡ first
 IsRun w first (trail ∷ before ∷ earlier) = IsLegal w before trail × IsRun w first (before ∷ earlier)
 
--- whether some trail of the run has a fact that passes the test. Going back takes facts out of a trail, and none out of the run
+-- whether some trail of the run has a fact that passes the test. Going back takes facts out of a trail, and none out of
+-- the run
 abbrev pub was_ever : (Fact ℕ → Bool) → List (List Item) → Bool
 was_ever p run = list_any (λ trail. list_any p (facts_of trail)) run
 
@@ -34,8 +35,8 @@ puts_at_root c (Edge r x y) = false
 puts_at_root c (Apart y z) = false
 puts_at_root c (Same y z) = false
 
--- the run has nothing to do with whether node 0 is in class a: no trail gives node 0 the class, or a union of which the class's
--- complement is a part, and none gives the complement to any node
+-- the run has nothing to do with whether node 0 is in class a: no trail gives node 0 the class, or a union of which the
+-- class's complement is a part, and none gives the complement to any node
 pub record LeavesOut (table : List Shape) (run : List (List Item)) (a : ℕ) : Type 0 where
   pub class_is_not_at_root : (c : ℕ) → was_ever (puts_at_root c) run ≡ true → ¬ (shape_of table c ≡ name a)
   pub unions_at_root_lack_complement : (c d : ℕ) (parts : List ℕ) → was_ever (puts_at_root c) run ≡ true → shape_of table c ≡ union parts → Contains parts d

@@ -1,21 +1,22 @@
 //! Counter-models: a saturated tableau is a finite interpretation that meets the axioms and refutes the query.
 //!
-//! A search whether one class is part of another ends without a refutation where its trail is saturated: there is no clash,
-//! and nothing is left to add, to make or to choose. Then the axioms do not entail the query, and the trail says why: it
-//! describes an interpretation, which anybody can check. This is the completeness of the tableau calculus, and it shows the
-//! finite model property of SHQ.
+//! A search whether one class is part of another ends without a refutation where its trail is saturated: there is no
+//! clash, and nothing is left to add, to make or to choose. Then the axioms do not entail the query, and the trail says
+//! why: it describes an interpretation, which anybody can check. This is the completeness of the tableau calculus, and
+//! it shows the finite model property of SHQ.
 //!
-//! - **An element is a representative that is not under a block.** A blocked node is an element of its own, which has the
-//!   label and the successors of its blocker. So the blocked tree is not unravelled into an infinite one, as for logics with
-//!   inverse roles (Horrocks, Sattler and Tobies, "Practical Reasoning for Expressive Description Logics", 1999): it is bent
-//!   back into a finite structure, with at most as many elements as representatives. Different successors of a node stay
-//!   different elements, so that what 'at least' and 'at most' count is the same in the tree and in the interpretation.
-//!   Were all nodes that one node blocks sent to one element, 'at least 2' would lose a successor.
-//! - **A class** has the elements whose blocker, or itself where it is clear, has the name. **A role** has the edges of the
-//!   roles below it, and the chains of such edges for each transitive role below it.
-//! - **Truth** of what a label has goes by induction on how deep roles nest, and then on the numbers of the table. A concept
-//!   and the normal form of its complement nest equally deep, which 'at most' needs: it counts a successor exactly where it
-//!   chose that the successor is in the filler.
+//! - **An element is a representative that is not under a block.** A blocked node is an element of its own, which has
+//!   the label and the successors of its blocker. So the blocked tree is not unravelled into an infinite one, as for
+//!   logics with inverse roles (Horrocks, Sattler and Tobies, "Practical Reasoning for Expressive Description Logics",
+//!   1999): it is bent back into a finite structure, with at most as many elements as representatives. Different
+//!   successors of a node stay different elements, so that what 'at least' and 'at most' count is the same in the tree
+//!   and in the interpretation. Were all nodes that one node blocks sent to one element, 'at least 2' would lose a
+//!   successor.
+//! - **A class** has the elements whose blocker, or itself where it is clear, has the name. **A role** has the edges of
+//!   the roles below it, and the chains of such edges for each transitive role below it.
+//! - **Truth** of what a label has goes by induction on how deep roles nest, and then on the numbers of the table. A
+//!   concept and the normal form of its complement nest equally deep, which 'at most' needs: it counts a successor
+//!   exactly where it chose that the successor is in the filler.
 //! - 'At most' counts edges alone, since no transitive role is below the role: the limits of an ontology say that each
 //!   counted role is simple.
 ghost use Rattle.search_laws.specs.CounterModelLaws.{ElementsAreFew, ElementsDiffer, SuccessorsAreElements, LabelsArePart, LabelsAreTrue, PartsAreMet, RolesAreMet, ComputedIsBuilt, ChainsStayWithin, LabelsCountSimple, SaturatedIsCounterModel, SaturatedDoesNotEntail};
@@ -70,8 +71,8 @@ pub fn labels_count_simple()
     ensures { LabelsCountSimple }
 {}
 
-/// The interpretation of a saturated trail is a counter-model: it uses listed names alone, meets the axioms of the search, and
-/// its first element is in the one class of the query and not in the other.
+/// The interpretation of a saturated trail is a counter-model: it uses listed names alone, meets the axioms of the
+/// search, and its first element is in the one class of the query and not in the other.
 pub fn saturated_is_counter_model()
     ensures { SaturatedIsCounterModel }
 {}

@@ -2,7 +2,8 @@
 //!
 //! - `trail_laws`: what bounds and counter-models both need of reached trails.
 //! - `bound_laws`: every legal search ends, and after how many steps.
-//! - `counter_model_laws`: a saturated trail describes a finite interpretation that meets the axioms and refutes the query.
+//! - `counter_model_laws`: a saturated trail describes a finite interpretation that meets the axioms and refutes the
+//!   query.
 //! - `reuse_laws`: what the run of one search shows of other queries.
 #![tactic(auto)]
 

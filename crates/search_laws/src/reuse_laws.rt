@@ -1,20 +1,21 @@
 //! What the run of one search shows of other queries.
 //!
-//! A classification asks of one class X whether it is part of each of many others. Where a search for something in X ends
-//! saturated, its trail is a model of X, and mostly shows at once that X is not part of a class W: the node that is in X is not
-//! in W. What a budget counts are legal steps of the search that was asked for, though, so it has to be shown that the search
-//! whether X is in W could have made the same steps. That search begins with a node that is in X and in the complement of W.
+//! A classification asks of one class X whether it is part of each of many others. Where a search for something in X
+//! ends saturated, its trail is a model of X, and mostly shows at once that X is not part of a class W: the node that
+//! is in X is not in W. What a budget counts are legal steps of the search that was asked for, though, so it has to be
+//! shown that the search whether X is in W could have made the same steps. That search begins with a node that is in X
+//! and in the complement of W.
 //!
-//! - **The same steps are legal** where W was never given to node 0, no union that node 0 was ever given has the complement of
-//!   W as a part, and the complement was given to no node at all. A complement of a name makes no step possible, since no rule
-//!   reads one. It forbids a step only where it clashes with its name, where it is a part of a union at its node, or where it
-//!   is itself to be put; and node 0 is neither a successor nor joined to another node.
-//! - **The end is saturated** by the same reasons. The blocks are the same: node 0 is never blocked, and it blocks no other
-//!   node less than before, since no other node has the complement.
+//! - **The same steps are legal** where W was never given to node 0, no union that node 0 was ever given has the
+//!   complement of W as a part, and the complement was given to no node at all. A complement of a name makes no step
+//!   possible, since no rule reads one. It forbids a step only where it clashes with its name, where it is a part of a
+//!   union at its node, or where it is itself to be put; and node 0 is neither a successor nor joined to another node.
+//! - **The end is saturated** by the same reasons. The blocks are the same: node 0 is never blocked, and it blocks no
+//!   other node less than before, since no other node has the complement.
 //!
 //! Such reuse of a satisfiability test is the pseudo-model technique of classification (Haarslev, Moeller and Turhan,
-//! "Exploiting Pseudo Models for TBox and ABox Reasoning in Expressive Description Logics", 2001), here with a proof that it
-//! saves no step that a log owes.
+//! "Exploiting Pseudo Models for TBox and ABox Reasoning in Expressive Description Logics", 2001), here with a proof
+//! that it saves no step that a log owes.
 ghost use Rattle.search_laws.specs.ReuseLaws.{OneRunAnswersMore, StepsPutLast};
 
 /// A run for one class that ends saturated answers whether the class is in another, where it leaves the other out.

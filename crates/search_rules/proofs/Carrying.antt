@@ -15,7 +15,8 @@ use Rattle.step_finders.specs.Found.{IsCarry, AreCarries}
 use Rattle.search_rules.specs.Lists.{option_list}
 use Rattle.search_rules.specs.Tables.{role_context}
 
--- the pairs are such, and there is one for the role itself, if it is transitive, and one for each of some roles that is below
+-- the pairs are such, and there is one for the role itself, if it is transitive, and one for each of some roles that is
+-- below
 pub record CarriesTo (table : List Shape) (roles : List RoleAxiom) (s e : ℕ) (lowers : List ℕ) (pairs : List (ℕ × ℕ)) : Type 0 where
   pub each : All (IsCarry (role_context table roles) s e) pairs
   pub itself : is_transitive roles s ≡ true → is_below roles s s ≡ true → list_any (λ p. eqb p.0 s) pairs ≡ true

@@ -12,7 +12,8 @@ abbrev pub option_list : {A : Type 0} → Option A → List A
 option_list None = []
 option_list (Some x) = x ∷ []
 
--- by the number of a concept: what it carries, its complement, each 'at most' with it as filler, and the rows of its name
+-- by the number of a concept: what it carries, its complement, each 'at most' with it as filler, and the rows of its
+-- name
 pub record NumberLists : Type 0 where
   pub carries : List (List (ℕ × ℕ))
   pub complements : List (Option ℕ)

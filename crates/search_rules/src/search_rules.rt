@@ -86,8 +86,8 @@ impl<'a> SearchRules<'a> {
         })
     }
 
-    /// The numbers of what a query asks whose cardinalities are at most 100: of its left side, and of the complement of its
-    /// right side. Where they are there already, nothing is made; where not, the tables are made anew.
+    /// The numbers of what a query asks whose cardinalities are at most 100: of its left side, and of the complement of
+    /// its right side. Where they are there already, nothing is made; where not, the tables are made anew.
     ///
     /// # Errors
     ///

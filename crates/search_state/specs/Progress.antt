@@ -33,8 +33,8 @@ use Rattle.search_trace.specs.Laws.{IsTracedAt}
 use Rattle.search_state.specs.Marked.{marked_in}
 use Rattle.search_state.specs.Branchings.{AreMarks}
 
--- the query, the numbers of what it asks, the entries of the trail, what is known of blocked nodes, the trace, the places of the
--- trail's marks, latest first, a clash of the trail, if it has a plain one, and how many steps were made
+-- the query, the numbers of what it asks, the entries of the trail, what is known of blocked nodes, the trace, the
+-- places of the trail's marks, latest first, a clash of the trail, if it has a plain one, and how many steps were made
 pub record ProgressLists : Type 0 where
   pub query : Query
   pub sub : ℕ
@@ -65,8 +65,8 @@ pub record IsSameQuery (old new : ProgressLists) : Type 0 where
 
 -- ---- what is always so
 
--- The concepts that the line names are in the table, and of each kind that the rules keep. Where it names a part of an axiom,
--- there is one.
+-- The concepts that the line names are in the table, and of each kind that the rules keep. Where it names a part of an
+-- axiom, there is one.
 pub record IsFitLine (w : SearchContext) (sub not_sup : ℕ) (l : NotedLine) : Type 0 where
   pub over : list_all (λ c. nat_lt c (length w.table)) (concept_numbers l.line) ≡ true
   pub of_kind : (p : Concept → Bool) (e : ℕ → Bool) → IsKept w.theory (λ c. p c ≡ true) (λ r. e r ≡ true) → p (tree_of w.table sub) ≡ true → p (tree_of w.table not_sup) ≡ true

@@ -22,7 +22,8 @@ use Rattle.step_lines.specs.Serving.{HoldsAt, HasPart, branch_nodes}
 use Rattle.search_state.specs.Marked.{marked_in}
 use Rattle.search_state.specs.Branchings.{AreAlternatives}
 
--- what the line asks holds by facts that rest on marks in u alone, its children add that, and these nodes are known by such facts
+-- what the line asks holds by facts that rest on marks in u alone, its children add that, and these nodes are known by
+-- such facts
 pub record IsResting (w : SearchContext) (es : List Entry) (line : Line) (u : NumberSet) (children : List Added) (nodes : List ℕ) : Type 0 where
   pub holds : (number : ℕ) → HoldsAt w (marked_in es) (record { number = number; line = line; marks = u }) children
   pub knows : list_all (is_known_within u (marked_in es)) nodes ≡ true

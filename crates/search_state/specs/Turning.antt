@@ -19,8 +19,8 @@ use Rattle.search_trace.specs.Laws.{IsTracedAt}
 use Rattle.search_state.specs.Branchings.{AreMarks}
 use Rattle.search_state.specs.Progress.{ProgressLists, IsAsked, IsFitLine}
 
--- The trail is as it was, and has a clash. The trace has gone back to a branching that is to take its next alternative, whose
--- fact rests on these marks.
+-- The trail is as it was, and has a clash. The trace has gone back to a branching that is to take its next alternative,
+-- whose fact rests on these marks.
 pub record IsTurning (w : SearchContext) (s : ProgressLists) (mark : ℕ) (marks : NumberSet) : Type 0 where
   pub asked : IsAsked w s.query s.sub s.not_sup
   pub follows : Follows w (start s.sub s.not_sup) s.steps (items_of s.entries)

@@ -59,7 +59,8 @@ impl<'b, A: Allocator + Copy> Progress<'b, A> {
         self.close_child(rules, resting)
     }
 
-    /// Goes back in the trail too, to the branching to whose next alternative the trace has turned. Answers the fact of this.
+    /// Goes back in the trail too, to the branching to whose next alternative the trace has turned. Answers the fact of
+    /// this.
     pub(crate) fn turn<R: Rules>(
         &mut self,
         rules: &R,

@@ -2,9 +2,9 @@
 
 use search_trace::Trace;
 
-/// How often a search looked for a step at a fact and in its whole state, how often it went back, and how many choices and lines
-/// of its trace it lost by that. No contract speaks of these counts, and no answer rests on them: they tell whether a next step is
-/// looked for in the right place.
+/// How often a search looked for a step at a fact and in its whole state, how often it went back, and how many choices
+/// and lines of its trace it lost by that. No contract speaks of these counts, and no answer rests on them: they tell
+/// whether a next step is looked for in the right place.
 #[derive(Clone, Copy, Debug, PartialEq, Eq)]
 pub struct Effort {
     /// Looks at a fact for a step of one kind.

@@ -25,7 +25,8 @@ use Rattle.search_trace.proofs.Trail.{covered_child}
 use Rattle.search_trace.proofs.GoingBack.{turned_is_honest, whole_is_closed, stripped_is_closed}
 use Rattle.search_trace.proofs.Honest.{honest_line, honest_branching, honest_clash, honest_start, trace_is_open, flat_whole}
 
--- a branching that is taken out of the flat list: what stands before its line stays, and what of its child does not rest on its mark
+-- a branching that is taken out of the flat list: what stands before its line stays, and what of its child does not
+-- rest on its mark
 pub stripped_flat : (bs : List Branching) (b : Branching) (p : Place) (lines : List NotedLine) → IsPlaceOf bs b p
     → without_place p (lines_of (frames_of (b ∷ bs)) ++ lines) ≡ lines_of (frames_of bs) ++ (b.frame.before ++ strip (mark_of b) lines)
 stripped_flat bs b p lines is =

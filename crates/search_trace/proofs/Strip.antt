@@ -1,4 +1,5 @@
--- Lines that close branches close them also where what rests on a mark is taken away, if no branching and no clash rests on it.
+-- Lines that close branches close them also where what rests on a mark is taken away, if no branching and no clash
+-- rests on it.
 use Rattle.std.proofs.Common.{◌≡◌, ℕ, ◌&&◌, ◌||◌, Bool, true, false, not, cond, List, [], ◌∷◌, ◌++◌, map, Option, Some, None, refl, ap, ◌∙◌, sym, subst, inl, inr}
 use Rattle.std.specs.List.{list_any, list_all, filter, range_with_len}
 use Rattle.std.specs.Option.{option_and_then, option_map}

@@ -12,8 +12,8 @@ use Rattle.search_trace.specs.Frames.{Frame, began, turned, IsOpen}
 use Rattle.search_trace.specs.Noted.{Noted, NotedLine, noted_added, marks_given, noted_children, closing_rests_on}
 use Rattle.search_trace.specs.Trail.{MarkedFact, Covers, is_next}
 
--- an open branching, the marks on which the closing of its closed children rests, the facts of the trail before its mark, what
--- the alternative taken adds, and what those that are left add
+-- an open branching, the marks on which the closing of its closed children rests, the facts of the trail before its
+-- mark, what the alternative taken adds, and what those that are left add
 pub record Branching : Type 0 where
   pub frame : Frame Noted NotedLine
   pub gathered : NumberSet

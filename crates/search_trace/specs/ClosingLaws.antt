@@ -41,8 +41,8 @@ RulesSayChildren = (theory : Theory) (sub sup : Concept) (concept : ℕ → Opti
 abbrev pub PremisesStay : Type 0
 PremisesStay = (theory : Theory) (less more : Known) → IsPart less more → (p : Premise) → holds theory less p ≡ true → holds theory more p ≡ true
 
--- lines that close the open child of a branching, where neither a branching nor a clash among them rests on its mark, close the
--- branch before it, without the lines that rest on the mark
+-- lines that close the open child of a branching, where neither a branching nor a clash among them rests on its mark,
+-- close the branch before it, without the lines that rest on the mark
 abbrev pub StrippedLinesClose : Type 0
 StrippedLinesClose =
     (theory : Theory) (table : List Shape) (from : Noted) (f : Frame Noted NotedLine) → IsOpen (step_of theory table) from f → is_branching f.branching.line ≡ true

@@ -2,8 +2,8 @@
 use Rattle.std.specs.Prelude.{◌≡◌, List, [], ◌∷◌, ◌++◌, Option, Some}
 use Rattle.search_trace.specs.Leaves.{leaves}
 
--- an open branching: the lines before it since the branch `from` of the branching before, the branch `at` where it stands, its
--- line, the children that are closed with their lines, the child that is open, and those that are left
+-- an open branching: the lines before it since the branch `from` of the branching before, the branch `at` where it
+-- stands, its line, the children that are closed with their lines, the child that is open, and those that are left
 pub record Frame (S L : Type 0) : Type 0 where
   pub before : List L
   pub at : S

@@ -1,4 +1,5 @@
--- The state of a search's trace, and when it is honest: completed by lines that close its open places, it is a refutation.
+-- The state of a search's trace, and when it is honest: completed by lines that close its open places, it is a
+-- refutation.
 use Rattle.std.specs.Prelude.{◌≡◌, ℕ, ◌++◌, true, List, [], ◌∷◌, map, Some}
 use Rattle.std.specs.List.{list_all}
 use Rattle.std.specs.FinSet as sets
@@ -12,8 +13,8 @@ use Rattle.search_trace.specs.Noted.{Noted, marked, NotedLine, noted_added, mark
 use Rattle.search_trace.specs.Trail.{MarkedFact, Covers}
 use Rattle.search_trace.specs.Back.{Branching, frames_of, marks_in, step_of, AreBranchings}
 
--- the open branchings, latest first; the lines since the latest alternative was taken, and the branch that they lead to; the
--- facts of the trail
+-- the open branchings, latest first; the lines since the latest alternative was taken, and the branch that they lead
+-- to; the facts of the trail
 pub record Tracing : Type 0 where
   pub branchings : List Branching
   pub lines : List NotedLine

@@ -12,9 +12,9 @@ use Rattle.search_trace.specs.Trail.{MarkedFact}
 use Rattle.search_trace.specs.Back.{Branching, frames_of, mark_of, AreBranchings, Closes}
 use Rattle.search_trace.specs.Honest.{Tracing, trace_of, IsHonest}
 
--- what a search keeps of an open branching: the number of its line, the place of this line, where its open child begins, the
--- marks on which the closing of its closed children rests, the marks of its line, the facts of the trail before its mark, and
--- what the alternatives that are left add
+-- what a search keeps of an open branching: the number of its line, the place of this line, where its open child
+-- begins, the marks on which the closing of its closed children rests, the marks of its line, the facts of the trail
+-- before its mark, and what the alternatives that are left add
 pub record Place : Type 0 where
   pub mark : ℕ
   pub at : ℕ
@@ -51,7 +51,8 @@ turned_place p lines u rest = record { mark = p.mark; at = p.at; child = length 
 abbrev pub place_marks : Place → NumberSet → NumberSet
 place_marks p u = sets.union (sets.union p.gathered u) p.marks
 
--- the flat list once a branching is taken out: its open child stands in its place, without the lines that rest on its mark
+-- the flat list once a branching is taken out: its open child stands in its place, without the lines that rest on its
+-- mark
 abbrev pub without_place : Place → List NotedLine → List NotedLine
 without_place p lines = take p.at lines ++ strip p.mark (drop p.child lines)
 

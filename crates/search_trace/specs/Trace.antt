@@ -57,14 +57,15 @@ whole_marks o u = sets.union (sets.union o.gathered u) o.marks
 abbrev pub without : OpenBranching → List NotedLine → List NotedLine
 without o ls = take o.at ls ++ strip o.mark (drop o.child ls)
 
--- the lines that are left, the branchings that stay open, of which the latest is to turn, and the marks that closing rests on
+-- the lines that are left, the branchings that stay open, of which the latest is to turn, and the marks that closing
+-- rests on
 pub record GoneBack : Type 0 where
   pub lines : List NotedLine
   pub opens : List OpenBranching
   pub used : NumberSet
 
--- From a child of the latest branching whose closing rests on these marks. A branching on whose mark that does not rest is taken
--- out. One that has no alternative left is closed as a whole.
+-- From a child of the latest branching whose closing rests on these marks. A branching on whose mark that does not rest
+-- is taken out. One that has no alternative left is closed as a whole.
 abbrev pub gone_back : List NotedLine → List OpenBranching → NumberSet → GoneBack
 gone_back ls [] u = record { lines = ls; opens = []; used = u }
 gone_back ls (o ∷ os) u =

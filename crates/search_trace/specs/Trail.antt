@@ -43,7 +43,8 @@ nodes_of ms = marked sets.empty 0 ∷ ends_of ms
 abbrev pub trail_within : List Shape → NumberSet → List MarkedFact → Known
 trail_within table u ms = record { nodes = within u (nodes_of ms); facts = read_facts (tree_of table) (within u ms) }
 
--- the branch has all that the trail has, with the same marks, and no node more; the nodes of the trail are all below their count
+-- the branch has all that the trail has, with the same marks, and no node more; the nodes of the trail are all below
+-- their count
 pub record Covers (table : List Shape) (ms : List MarkedFact) (k : Noted) : Type 0 where
   pub nodes : IsAmong (nodes_of ms) k.nodes
   pub facts : IsAmong (map (read_marked table) ms) k.facts

@@ -11,8 +11,8 @@ pub fn traces_go_on()
     ensures { TracesGoOn }
 {}
 
-/// Going back from a child that is closed leads to the next alternative of a branching on which that rests, or leaves lines
-/// that close everything.
+/// Going back from a child that is closed leads to the next alternative of a branching on which that rests, or leaves
+/// lines that close everything.
 pub fn traces_go_back()
     ensures { TracesGoBack }
 {}

@@ -56,7 +56,8 @@ fn put_last(lines: &mut [TraceLine], at: usize, child: usize)
     lines[at..].rotate_left(child - at);
 }
 
-// Puts the lines before `at` first, and then those from `child` on that do not rest on the mark. Answers how many these are.
+// Puts the lines before `at` first, and then those from `child` on that do not rest on the mark. Answers how many these
+// are.
 #[tactic(auto, using(crate::proofs::Moved::removed))]
 fn put_first(lines: &mut [TraceLine], at: usize, child: usize, mark: u32) -> usize
     requires order { at ≤ child }

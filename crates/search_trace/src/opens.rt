@@ -10,8 +10,8 @@ use crate::lines::{TraceLine, take_out};
 use crate::{Deps, NoMemory};
 use std::alloc::Global;
 
-/// An open branching: its mark, which is the number of its line, the place of this line, where its open child begins, how many
-/// alternatives are left, the marks of its line, and those on which the closing of its closed children rests.
+/// An open branching: its mark, which is the number of its line, the place of this line, where its open child begins,
+/// how many alternatives are left, the marks of its line, and those on which the closing of its closed children rests.
 #[derive(Drop)]
 pub struct OpenBranching {
     pub mark: u32,
@@ -39,8 +39,8 @@ fn marks_of_whole(alloc: Global, latest: &OpenBranching, used: &Deps) -> Result<
     both.union(alloc, &latest.marks)
 }
 
-/// Goes back from a child whose closing rests on these marks, over open branchings that do not turn. The latest that is left is
-/// to turn; where none is left, the lines close everything. Answers the marks on which closing rests.
+/// Goes back from a child whose closing rests on these marks, over open branchings that do not turn. The latest that is
+/// left is to turn; where none is left, the lines close everything. Answers the marks on which closing rests.
 pub(crate) fn go_over(
     alloc: Global,
     lines: &mut Vec<TraceLine>,

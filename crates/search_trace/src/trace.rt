@@ -11,7 +11,8 @@ use std::alloc::Global;
 use std::marker::Model;
 
 /// The rule lines of a search in preorder, behind `start`, each with its number and the marks that it rests on, and the
-/// branchings that are open. Contracts see the number of the next line, the lines, and the branchings, the latest first.
+/// branchings that are open. Contracts see the number of the next line, the lines, and the branchings, the latest
+/// first.
 #[derive(Drop)]
 pub struct Trace {
     next: u32,
@@ -94,8 +95,8 @@ impl Trace {
         Ok(number)
     }
 
-    /// Puts a line that branches, and rests on these marks. It is open from then on at its first alternative, and as many
-    /// alternatives are left. Answers its number, which is its mark.
+    /// Puts a line that branches, and rests on these marks. It is open from then on at its first alternative, and as
+    /// many alternatives are left. Answers its number, which is its mark.
     ///
     /// # Errors
     ///
@@ -130,9 +131,10 @@ impl Trace {
         comes_to_turn(alloc, &self.opens, used)
     }
 
-    /// Goes back from the open child of the latest branching, which is closed, and that rests on the marks `used`. A branching
-    /// on whose mark closing does not rest is taken out, and its open child stands in its place without the lines that rest on
-    /// it. One that has no alternative left is closed as a whole. The first other one turns to its next alternative.
+    /// Goes back from the open child of the latest branching, which is closed, and that rests on the marks `used`. A
+    /// branching on whose mark closing does not rest is taken out, and its open child stands in its place without the
+    /// lines that rest on it. One that has no alternative left is closed as a whole. The first other one turns to its
+    /// next alternative.
     ///
     /// # Errors
     ///

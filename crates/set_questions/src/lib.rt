@@ -10,7 +10,8 @@
 //! Besides there is what the algorithms over any such object share: the first listed set that is part of a set or apart
 //! from it, what a set lacks, and lists in the order of sets.
 //!
-//! Of all sets that were put, an [`Antichain`] keeps those that contain no other one, or those that no other one contains.
+//! Of all sets that were put, an [`Antichain`] keeps those that contain no other one, or those that no other one
+//! contains.
 #![tactic(auto)]
 
 mod antichain;

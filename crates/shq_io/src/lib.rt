@@ -1,9 +1,9 @@
 //! Bytes in and bytes out: reading an input to its end, and writing a whole text.
 //!
 //! A [`Source`] and a [`Sink`] move some bytes at a call, like `Read` and `Write` of std, and any call may fail. Their
-//! contracts say besides which bytes were moved, as far as a stream tells its bytes, and each counts the calls that failed.
-//! So no error can be made up: whoever answers one has to show that the count rose. One pair stands over the streams of
-//! std; another, in memory, fails at the calls that a test chooses; a third, in memory too, never fails.
+//! contracts say besides which bytes were moved, as far as a stream tells its bytes, and each counts the calls that
+//! failed. So no error can be made up: whoever answers one has to show that the count rose. One pair stands over the
+//! streams of std; another, in memory, fails at the calls that a test chooses; a third, in memory too, never fails.
 #![tactic(auto)]
 
 mod calls;

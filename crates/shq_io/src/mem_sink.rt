@@ -11,8 +11,8 @@ use shq_base::NoMemory;
 use std::alloc::Global;
 use std::marker::Model;
 
-/// Room for bytes in memory, which takes at most `step` of them at a call. The listed calls, counted from 1, fail, and so
-/// does a call with a piece that is not empty where all the room is taken.
+/// Room for bytes in memory, which takes at most `step` of them at a call. The listed calls, counted from 1, fail, and
+/// so does a call with a piece that is not empty where all the room is taken.
 #[derive(Drop)]
 pub struct MemSink {
     bytes: Vec<u8>,

@@ -52,8 +52,8 @@ impl<R: Read> Source for StdSource<R> {
     }
 }
 
-/// A sink over a writer of std. It flushes after each write, and counts a write of no bytes of a piece that is not empty
-/// as a fault. It tells no bytes, since the writer may have taken some where its flush then fails.
+/// A sink over a writer of std. It flushes after each write, and counts a write of no bytes of a piece that is not
+/// empty as a fault. It tells no bytes, since the writer may have taken some where its flush then fails.
 #[derive(Drop)]
 pub struct StdSink<W> {
     inner: W,

@@ -13,8 +13,8 @@ use std::marker::Model;
 /// A sink that takes every piece whole, and keeps the first bytes alone, as many as it has room for. No call fails or
 /// takes memory.
 ///
-/// A [`Sink`] that once tells its bytes tells them for good, and this one lets bytes go where they are more than its room:
-/// so by the trait it tells none, and its own clauses say which it keeps.
+/// A [`Sink`] that once tells its bytes tells them for good, and this one lets bytes go where they are more than its
+/// room: so by the trait it tells none, and its own clauses say which it keeps.
 #[derive(Drop)]
 pub struct SureSink {
     bytes: Vec<u8>,

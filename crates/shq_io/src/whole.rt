@@ -98,8 +98,8 @@ pub fn read_all<S: Source>(alloc: Global, source: &mut S, limit: u32) -> Result<
 ///
 /// # Errors
 ///
-/// `WriteFailed` where a call of the sink failed: its count of faults then rose, or stands at the greatest u64. The sink
-/// took a prefix of the text, if any of it.
+/// `WriteFailed` where a call of the sink failed: its count of faults then rose, or stands at the greatest u64. The
+/// sink took a prefix of the text, if any of it.
 pub fn write_whole<K: Sink>(sink: &mut K, text: &[u8]) -> Result<(), WriteFailed>
     ensures whole { OnOk result (Appends (K.taken sink.old) (K.taken sink.new) text.now) }
     ensures prefix { OnErr result (TakesPrefix text.now (K.taken sink.old) (K.taken sink.new)) }

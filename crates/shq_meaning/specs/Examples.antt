@@ -10,7 +10,8 @@ use Rattle.shq_meaning.specs.Truth.{Interpretation}
 abbrev pub complete : ℕ → Interpretation
 complete n = record { size = n; in_class = λ a x. eqb a 0; in_role = λ r x y. eqb r 0 }
 
--- 0 to 1 and 1 to 2 in role 0; the same and 0 to 2 in role 1; class k holds the element k alone, and class 3 the last two
+-- 0 to 1 and 1 to 2 in role 0; the same and 0 to 2 in role 1; class k holds the element k alone, and class 3 the last
+-- two
 abbrev pub path : Interpretation
 path = record {
   size = 3;

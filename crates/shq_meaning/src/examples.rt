@@ -5,8 +5,8 @@ ghost use Rattle.shq_terms.specs.declared.axioms.Axiom.TheVariants as axioms;
 ghost use Rattle.shq_meaning.specs.Truth.{holds, meets, refutes_at};
 ghost use Rattle.shq_meaning.specs.Examples.{complete, path, two_successors, split, split_twice, others, is_nothing};
 
-/// Each clause is an example of its own: an axiom that an interpretation meets or breaks, or an element that is in a class
-/// expression or outside.
+/// Each clause is an example of its own: an axiom that an interpretation meets or breaks, or an element that is in a
+/// class expression or outside.
 pub fn examples_hold()
     ensures two_are_counted { IsTrue (meets (complete 2) two_successors) }
     ensures one_is_not_two { IsFalse (meets (complete 1) two_successors) }

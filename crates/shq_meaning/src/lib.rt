@@ -1,10 +1,10 @@
 //! What class expressions, axioms and queries mean: OWL 2 Direct Semantics (Second Edition), section 2, as computable
 //! functions over finite interpretations.
 //!
-//! The domain is the numbers below a size, a class is a test of one number and a role a test of two, so that truth at an
-//! element is a `Bool` that a program can compute. An axiom is met or not, and a query follows from axioms where no finite
-//! interpretation of at least one element that meets them has a counter-example to it. Data ranges, individuals, keys and
-//! annotations have no part here; roles are object properties without inverses.
+//! The domain is the numbers below a size, a class is a test of one number and a role a test of two, so that truth at
+//! an element is a `Bool` that a program can compute. An axiom is met or not, and a query follows from axioms where no
+//! finite interpretation of at least one element that meets them has a counter-example to it. Data ranges, individuals,
+//! keys and annotations have no part here; roles are object properties without inverses.
 #![tactic(auto)]
 
 mod examples;

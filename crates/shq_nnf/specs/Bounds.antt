@@ -51,7 +51,8 @@ bound_form Exactly true n r c not_c = or_of (fewer_form n r c not_c ∷ more_for
 abbrev pub bounded_form : Bound → Bool → ℕ → ℕ → Concept → Concept
 bounded_form bound negated n r c = bound_form bound negated n r (normal_form c) (negated_form c)
 
--- the number stands for it in the later table, over numbers of the earlier one for the filler and the filler's complement
+-- the number stands for it in the later table, over numbers of the earlier one for the filler and the filler's
+-- complement
 abbrev pub IsBounded : List Shape → List Shape → Bound → Bool → ℕ → ℕ → ℕ → ℕ → ℕ → Type 0
 IsBounded earlier later bound negated n r c not_c number = IsNumber later number (bound_form bound negated n r (tree_of earlier c) (tree_of earlier not_c))
 

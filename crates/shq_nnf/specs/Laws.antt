@@ -9,8 +9,8 @@ use Rattle.shq_meaning.specs.Truth.{Interpretation, holds, meets}
 use Rattle.shq_nnf.specs.Parts.{axiom_parts}
 use Rattle.shq_nnf.specs.Meeting.{meets_parts, is_role_axiom}
 
--- in each finite interpretation, at each element, the normal form of a class expression has its truth, and the normal form
--- of its complement the opposite truth
+-- in each finite interpretation, at each element, the normal form of a class expression has its truth, and the normal
+-- form of its complement the opposite truth
 abbrev pub NormalFormsKeepTruth : Type 0
 NormalFormsKeepTruth = (i : Interpretation) (c : Concept) (x : ℕ) → (holds i (normal_form c) x ≡ holds i c x) × (holds i (negated_form c) x ≡ not (holds i c x))
 

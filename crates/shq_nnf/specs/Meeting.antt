@@ -7,8 +7,8 @@ use Rattle.calculus_specs.specs.Rows.{Part, inclusion, range}
 use Rattle.shq_meaning.specs.Below.{all_below}
 use Rattle.shq_meaning.specs.Truth.{Interpretation, implies, holds}
 
--- an inclusion: each element that is in all conjuncts is in the right side; a range: each element to which a pair of the role
--- leads is in the class
+-- an inclusion: each element that is in all conjuncts is in the right side; a range: each element to which a pair of
+-- the role leads is in the class
 abbrev pub meets_part : Interpretation → Part → Bool
 meets_part i (inclusion cs d) = all_below i.size (λ x. implies (list_all (λ c. holds i c x) cs) (holds i d x))
 meets_part i (range r d) = all_below i.size (λ x. all_below i.size (λ y. implies (i.in_role r x y) (holds i d y)))

@@ -11,8 +11,8 @@ use indexmap::IndexSet;
 use std::alloc::Global;
 use std::marker::Model;
 
-/// A table of concepts in normal form by number. Equal concepts have equal numbers, a number keeps its concept for good,
-/// and number 0 is `Top`.
+/// A table of concepts in normal form by number. Equal concepts have equal numbers, a number keeps its concept for
+/// good, and number 0 is `Top`.
 #[derive(Drop)]
 pub struct Concepts {
     pub(crate) alloc: Global,
@@ -120,8 +120,9 @@ impl Concepts {
         }
     }
 
-    /// Takes out all numbers but the first `len`, which keep their trees. For a caller that has put concepts and gives them up
-    /// before anything names their numbers, as where a later step is refused: a number that is handed on keeps its tree for good.
+    /// Takes out all numbers but the first `len`, which keep their trees. For a caller that has put concepts and gives
+    /// them up before anything names their numbers, as where a later step is refused: a number that is handed on keeps
+    /// its tree for good.
     pub fn truncate(&mut self, len: u32)
         requires { 0 < len }
         ensures { self.new ≡ take len self.old }

@@ -85,8 +85,8 @@ impl Concepts {
         matches!(self.shape(concept), Shape::Bottom)
     }
 
-    /// The number of the normal form of the union of these numbers: the parts of inner unions stand in their places, and
-    /// `Bottom` is left out.
+    /// The number of the normal form of the union of these numbers: the parts of inner unions stand in their places,
+    /// and `Bottom` is left out.
     ///
     /// # Errors
     ///

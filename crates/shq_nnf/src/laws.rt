@@ -6,7 +6,8 @@ pub fn normal_forms_keep_truth()
     ensures { NormalFormsKeepTruth }
 {}
 
-/// A finite interpretation meets an axiom exactly where it meets all of its parts, unless the axiom is one of roles alone.
+/// A finite interpretation meets an axiom exactly where it meets all of its parts, unless the axiom is one of roles
+/// alone.
 pub fn axioms_are_their_parts()
     ensures { AxiomsAreTheirParts }
 {}

@@ -33,8 +33,8 @@ use Rattle.shq_oracle.specs.declared.tested.Tested.{Tested}
 use Rattle.shq_oracle.specs.OracleLists.{OracleLists}
 use Rattle.shq_oracle.specs.ApartLists.{ApartLists, AreApart, IsAbout, entry_of}
 
--- a refutation of the query over axioms of the set, which it names, and which can be written; of the set it names the role
--- axioms, and those others alone that stand in its lines
+-- a refutation of the query over axioms of the set, which it names, and which can be written; of the set it names the
+-- role axioms, and those others alone that stand in its lines
 pub record IsProof (o : Listed) (s : Limited) (q : Query) (r : RefutationLists) : Type 0 where
   pub named : IsPart r.axioms.members s.members
   pub standing : NamesAxioms o.axioms s r.lines r.axioms

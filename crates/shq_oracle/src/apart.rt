@@ -10,8 +10,9 @@ use shq_terms::{Concept, Node, Ontology, Query};
 use std::alloc::Global;
 use std::marker::Model;
 
-/// What a search whether anything is in a class expression has shown of classes of the ontology: that the class expression is
-/// part of none of them by the axioms of a set, and that the steps which the search made decide that of each.
+/// What a search whether anything is in a class expression has shown of classes of the ontology: that the class
+/// expression is part of none of them by the axioms of a set, and that the steps which the search made decide that of
+/// each.
 #[derive(Drop)]
 pub struct Apart<'a> {
     ontology: &'a Ontology,

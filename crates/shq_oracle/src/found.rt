@@ -26,8 +26,8 @@ pub(crate) struct Found {
     pub(crate) ended: TestEnd,
 }
 
-/// Searches with these rules whether the query follows, by at most so many steps. The numbers are those of what the query
-/// asks. The tree of the search lies in an arena of its own, which is let go at the end.
+/// Searches with these rules whether the query follows, by at most so many steps. The numbers are those of what the
+/// query asks. The tree of the search lies in an arena of its own, which is let go at the end.
 pub(crate) fn search(
     alloc: Global,
     rules: &SearchRules<'_>,

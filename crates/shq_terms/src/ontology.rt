@@ -22,8 +22,8 @@ pub const MAX_ROLES: u32 = 1_000;
 
 /// Numbered axioms, and the names of classes and roles that they use.
 ///
-/// Axioms are numbered from 1 in the order in which they were added, and each occurrence of an axiom has a number of its
-/// own. Classes and roles are numbered from 0, each in the order in which the names were added.
+/// Axioms are numbered from 1 in the order in which they were added, and each occurrence of an axiom has a number of
+/// its own. Classes and roles are numbered from 0, each in the order in which the names were added.
 #[derive(Drop)]
 pub struct Ontology {
     axioms: Vec<Numbered>,

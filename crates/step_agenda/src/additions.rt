@@ -56,8 +56,8 @@ fn by_fact<S: State, R: Rules>(fact: Fact<u32>, state: &S, rules: &R) -> Option<
     }
 }
 
-// What an edge adds: by what its beginning has, by rows at either end, and by rows that are used at each node, where its end is
-// a new one.
+// What an edge adds: by what its beginning has, by rows at either end, and by rows that are used at each node, where
+// its end is a new one.
 fn by_edge<S: State, R: Rules>(
     state: &S,
     rules: &R,

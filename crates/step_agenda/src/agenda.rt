@@ -78,7 +78,8 @@ impl Agenda {
         Ok(())
     }
 
-    /// Looks again where it looked when the latest of the first `count` choices was made: the search has gone back to it.
+    /// Looks again where it looked when the latest of the first `count` choices was made: the search has gone back to
+    /// it.
     pub fn back_to(&mut self, count: usize) {
         self.saved.truncate(count);
         self.cursors = match self.saved.last() {
@@ -106,10 +107,10 @@ impl Agenda {
         self.looks = self.looks.wrapping_add(count);
     }
 
-    /// A step that can be made, where one is seen at the facts that were not looked at before: concepts first; then a part of a
-    /// union of which at most one part does not clash at once; then whether two successors are one, where there may be too many;
-    /// then new nodes, those of nodes last that were not clear when they were looked at; then unions, and last which successors
-    /// have a filler. Of each kind, the oldest.
+    /// A step that can be made, where one is seen at the facts that were not looked at before: concepts first; then a
+    /// part of a union of which at most one part does not clash at once; then whether two successors are one, where
+    /// there may be too many; then new nodes, those of nodes last that were not clear when they were looked at; then
+    /// unions, and last which successors have a filler. Of each kind, the oldest.
     ///
     /// # Errors
     ///

@@ -13,8 +13,8 @@ use step_finders::{Choosing, Rules, State, find_union_by};
 // Top, which is what closes that there is no successor.
 const TOP: u32 = 0;
 
-/// The first entry from this one on by which a union is forced, and which: one of which a part is to be chosen, and all parts but
-/// one clash at once; or the length of the trail.
+/// The first entry from this one on by which a union is forced, and which: one of which a part is to be chosen, and all
+/// parts but one clash at once; or the length of the trail.
 ///
 /// # Errors
 ///
@@ -205,8 +205,8 @@ fn are_two_open<S: State, R: Rules>(state: &S, rules: &R, node: u32, parts: &[u3
     false
 }
 
-// Whether the concept would clash at the node or at a successor that is there. The complement of a restriction counts for nothing:
-// what it says of successors may still be met by one that is to be made.
+// Whether the concept would clash at the node or at a successor that is there. The complement of a restriction counts
+// for nothing: what it says of successors may still be met by one that is to be made.
 fn clashes_at_once<S: State, R: Rules>(state: &S, rules: &R, node: u32, concept: u32) -> bool {
     match rules.shape(concept) {
         Shape::Bottom => true,

@@ -1,17 +1,18 @@
 //! Where a search looks for its next step first: at the facts that came in since it looked last.
 //!
-//! A step that was not there before rests on a fact that was not there before. An [`Agenda`] keeps, for each kind of step, up to
-//! which fact of the trail it has looked, and looks at each later one for what that fact makes possible. So a search does not
-//! look through its whole state for each step, as a worklist does not (F. Baader and U. Sattler, "An Overview of Tableau
-//! Algorithms for Description Logics", Studia Logica 69, 2001, has the rules). Where it looked is kept with each choice, and is
-//! where it looks again once the search goes back to the choice: the facts before it are those of that time.
+//! A step that was not there before rests on a fact that was not there before. An [`Agenda`] keeps, for each kind of
+//! step, up to which fact of the trail it has looked, and looks at each later one for what that fact makes possible. So
+//! a search does not look through its whole state for each step, as a worklist does not (F. Baader and U. Sattler, "An
+//! Overview of Tableau Algorithms for Description Logics", Studia Logica 69, 2001, has the rules). Where it looked is
+//! kept with each choice, and is where it looks again once the search goes back to the choice: the facts before it are
+//! those of that time.
 //!
-//! A part of a union is taken at once where all parts but one clash at once, as in unit propagation (I. Horrocks, *Optimising
-//! Tableaux Decision Procedures for Description Logics*, University of Manchester 1997). Whether that has become so is asked
-//! only of the unions that a new fact closes a part of, which are found by the fact's concept, as clauses are by the literals that
-//! are watched in them (M. Moskewicz and others, "Chaff: Engineering an Efficient SAT Solver", DAC 2001). What is found can be
-//! done. That nothing is found says nothing, since a join or a block that goes can make an old fact count again: then
-//! `step_finders::find_step` looks through everything.
+//! A part of a union is taken at once where all parts but one clash at once, as in unit propagation (I. Horrocks,
+//! *Optimising Tableaux Decision Procedures for Description Logics*, University of Manchester 1997). Whether that has
+//! become so is asked only of the unions that a new fact closes a part of, which are found by the fact's concept, as
+//! clauses are by the literals that are watched in them (M. Moskewicz and others, "Chaff: Engineering an Efficient SAT
+//! Solver", DAC 2001). What is found can be done. That nothing is found says nothing, since a join or a block that goes
+//! can make an old fact count again: then `step_finders::find_step` looks through everything.
 //!
 //! [`TreeState`] is a completion tree with the blocks of its nodes, as the state that finders look through.
 #![tactic(auto)]

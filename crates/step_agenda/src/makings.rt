@@ -18,8 +18,8 @@ pub(crate) struct Held {
     pub(crate) node: u32,
 }
 
-/// Looks for new nodes from this entry on. Answers the entry for which nodes are to be made, or the length of the trail, and the
-/// nodes; and puts each entry last in the list that may ask for nodes once its node is clear.
+/// Looks for new nodes from this entry on. Answers the entry for which nodes are to be made, or the length of the
+/// trail, and the nodes; and puts each entry last in the list that may ask for nodes once its node is clear.
 ///
 /// # Errors
 ///
@@ -66,7 +66,8 @@ fn hold<S: State, R: Rules>(
     }
 }
 
-/// The nodes that the first of these entries asks for that asks for some now, of those whose nodes are not below `from`.
+/// The nodes that the first of these entries asks for that asks for some now, of those whose nodes are not below
+/// `from`.
 ///
 /// # Errors
 ///

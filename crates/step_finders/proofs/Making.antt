@@ -106,7 +106,8 @@ module _ (fs : List (Fact ℕ)) (ends : List ℕ) (bound n : ℕ) where
   abbrev is_run_of : ℕ → Bool
   is_run_of = runs_among fs ends bound n
 
-  -- those from the start to this node are such, and none of the runs that begin before the start, or end before this node
+  -- those from the start to this node are such, and none of the runs that begin before the start, or end before this
+  -- node
   pub record IsWalked (start node : ℕ) : Type 0 where
     pub start_le : start ≤ node
     pub such : (z : ℕ) → start ≤ z → z < node → is_such z ≡ true

@@ -31,8 +31,8 @@ AreCarriesOf w _ pairs = Unit {0}
 
 -- ---- rows, filed by what they wait for
 
--- the places where rows are looked up: those that are used at each node; those that wait for a concept, by that concept;
--- those that are used where an edge of a role begins, and where one ends, by that role
+-- the places where rows are looked up: those that are used at each node; those that wait for a concept, by that
+-- concept; those that are used where an edge of a role begins, and where one ends, by that role
 pub record Files : Type 0 where
   pub general : List PlainRow
   pub named : ℕ → List NamedRow
@@ -134,7 +134,8 @@ module _ (w : SearchContext) (fs : List (Fact ℕ)) where
   abbrev pub AllCarried : ℕ → List (ℕ × ℕ) → Type 0
   AllCarried x pairs = All (λ p. AllEndsHave x p.0 p.1) pairs
 
-  -- a universal restriction that is to be carried to a successor of x by a transitive role below s has a number, and is there
+  -- a universal restriction that is to be carried to a successor of x by a transitive role below s has a number, and is
+  -- there
   pub record NoneToCarry (x s e : ℕ) : Type 0 where
     pub carried : (t y : ℕ) → w.theory.is_transitive t ≡ true → w.theory.below t s ≡ true → is_successor fs (λ r. below_of w r t) x y ≡ true
         → (d : ℕ) × (shape_of w.table d ≡ all_of t e) × (has fs y d ≡ true)

@@ -246,8 +246,8 @@ pub fn find_most_by<S: State, R: Rules>(
     }
 }
 
-/// Two successors to be made one or kept apart since the node has the concept, where that is an 'at most'; none exactly where
-/// there are none.
+/// Two successors to be made one or kept apart since the node has the concept, where that is an 'at most'; none exactly
+/// where there are none.
 ///
 /// # Errors
 ///
@@ -359,7 +359,8 @@ fn find_union_of_rep<S: State, R: Rules>(state: &S, rules: &R, node: u32) -> Opt
     find_union_at(state, rules, node)
 }
 
-/// A filler to be chosen at a successor, or two successors to be made one or kept apart; none exactly where there are none.
+/// A filler to be chosen at a successor, or two successors to be made one or kept apart; none exactly where there are
+/// none.
 ///
 /// # Errors
 ///

@@ -281,8 +281,8 @@ fn find_by_fillers<S: State, R: Rules>(
     }
 }
 
-/// A plain clash that is there since new nodes with this concept are at the ends of edges by the role from the parent, where
-/// `first` is one of them; none exactly where there is none.
+/// A plain clash that is there since new nodes with this concept are at the ends of edges by the role from the parent,
+/// where `first` is one of them; none exactly where there is none.
 pub fn find_clash_of_new_nodes<S: State, R: Rules>(
     state: &S,
     rules: &R,

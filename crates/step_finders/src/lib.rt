@@ -1,7 +1,7 @@
 //! Looks through the state of a search for a legal step: each finds one, or there is none.
 //!
-//! What is found says why it may be done: the concepts and the edges on which the step's rule line rests. The looks at one
-//! node, or at one concept of a node, are public too, so that a search can look where something has changed alone.
+//! What is found says why it may be done: the concepts and the edges on which the step's rule line rests. The looks at
+//! one node, or at one concept of a node, are public too, so that a search can look where something has changed alone.
 #![tactic(auto)]
 
 mod add;

@@ -52,7 +52,8 @@ fn find_plain<S: State>(state: &S, node: u32, rows: &[PlainRow]) -> Option<Plain
     None
 }
 
-/// What a row gives the node that waits for one of its concepts, among others; none exactly where they give nothing new.
+/// What a row gives the node that waits for one of its concepts, among others; none exactly where they give nothing
+/// new.
 pub fn find_by_name<S: State, R: Rules>(
     state: &S,
     rules: &R,

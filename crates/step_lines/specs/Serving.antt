@@ -38,8 +38,8 @@ HasPart theory (row_line x a p positions) = (q : Part) × (part_at theory a p �
 HasPart theory (range_line x y a) = (q : Part) × (part_at theory a 1 ≡ Some q)
 HasPart theory _ = Unit {0}
 
--- the grounds are so, and the line's premises follow from them; its children add that, and these nodes are known by the same
--- marks; the concepts that the line names are numbers of the table, and of each kind that the rules keep
+-- the grounds are so, and the line's premises follow from them; its children add that, and these nodes are known by the
+-- same marks; the concepts that the line names are numbers of the table, and of each kind that the rules keep
 pub record Serves (w : SearchContext) (fs : List (Fact ℕ)) (line : Line) (grounds : List (Fact ℕ)) (children : List Added) (nodes : List ℕ) : Type 0 where
   pub are_so : list_all (is_so fs) grounds ≡ true
   pub holds_by : (number : ℕ) (u : NumberSet) (ms : List MarkedFact) → items ms ≡ fs → AreGrounded ms → HoldWithin u ms grounds

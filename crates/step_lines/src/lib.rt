@@ -1,7 +1,8 @@
 //! The rule line of each step of a search, and the facts on which its premises rest.
 //!
-//! A search with marks notes for each line the choices that its premises rest on. These are the marks of the facts that are
-//! given here as grounds: wherever they hold by facts that rest on some marks alone, the line's premises hold by such facts.
+//! A search with marks notes for each line the choices that its premises rest on. These are the marks of the facts that
+//! are given here as grounds: wherever they hold by facts that rest on some marks alone, the line's premises hold by
+//! such facts.
 #![tactic(auto)]
 
 mod addition;

@@ -11,9 +11,9 @@ use Rattle.search_rules.specs.RuleLists.{RuleLists, context_in}
 use Rattle.search_laws.specs.Runs.{IsRun}
 use Rattle.seen_concepts.specs.Seen.{SeenSets, AreOver, AreSeenIn}
 
--- the rules and the query, the numbers of what the query asks, the entries of the trail, what is known of blocked nodes, the
--- classes with which its run had to do, how many steps were made, whether the search has ended, and whether memory was refused: then
--- nothing more is known of it
+-- the rules and the query, the numbers of what the query asks, the entries of the trail, what is known of blocked
+-- nodes, the classes with which its run had to do, how many steps were made, whether the search has ended, and whether
+-- memory was refused: then nothing more is known of it
 pub record SearchState : Type 0 where
   pub rules : RuleLists
   pub query : Query
@@ -37,8 +37,8 @@ trail_of s = items_of s.entries
 abbrev pub IsReachedBy : SearchState → Type 0
 IsReachedBy s = IsReached (context_of s).theory s.query.sub s.query.sup s.rules.table (context_of s).rows s.steps (trail_of s)
 
--- of how many classes is noted what a run has to do with them: of each where the search asks whether anything is in the query's
--- subclass, since the complement of nothing is top, which is number 0
+-- of how many classes is noted what a run has to do with them: of each where the search asks whether anything is in the
+-- query's subclass, since the complement of nothing is top, which is number 0
 abbrev pub room_for : ℕ → ℕ → ℕ
 room_for count not_sup = if not_sup == 0 then count else 0
 

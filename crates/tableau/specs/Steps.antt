@@ -26,8 +26,8 @@ use Rattle.tableau.specs.SearchState.{SearchState, context_of, trail_of}
 
 -- ---- refutations
 
--- it is a valid refutation of the query over axioms of the set, which can be written; of the set it names the role axioms, and
--- those others alone that stand in its lines
+-- it is a valid refutation of the query over axioms of the set, which can be written; of the set it names the role
+-- axioms, and those others alone that stand in its lines
 pub record Refutes (rules : RuleLists) (query : Query) (r : RefutationLists) : Type 0 where
   pub limit : r.axioms.limit ≡ length rules.ontology.axioms
   pub named : IsPart r.axioms.members rules.set.members
@@ -103,7 +103,8 @@ pub record IsShownApart (s : SearchState) (a : ℕ) : Type 0 where
   pub follows_not : ¬ Entails (named_axioms s.rules.ontology.axioms (member_list s.rules.set)) (query_for s a)
   pub cost : Costs (context_of s).theory s.query.sub (name a) (Entails (named_axioms s.rules.ontology.axioms (member_list s.rules.set)) (query_for s a)) s.steps
 
--- a set of just those classes that were left out, each number greater by one; of each it is shown that the subclass is not in it
+-- a set of just those classes that were left out, each number greater by one; of each it is shown that the subclass is
+-- not in it
 pub record AreLeftOut (s : SearchState) (classes : Limited) : Type 0 where
   pub limit_is : classes.limit ≡ length s.rules.ontology.classes
   pub exact : (a : ℕ) → a < length s.rules.ontology.classes → (set.contains classes.members (a + 1) ≡ true ↔ LeavesClassOut s a)

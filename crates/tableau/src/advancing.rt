@@ -39,8 +39,8 @@ pub(crate) fn advance<A: Allocator + Copy>(
     }
 }
 
-// Notes what a step has put into a tree that had so many entries before. It stands at the tree's end: a step back puts a mark
-// and a fact where longer ones may have stood.
+// Notes what a step has put into a tree that had so many entries before. It stands at the tree's end: a step back puts
+// a mark and a fact where longer ones may have stood.
 fn note_new<A: Allocator + Copy>(
     tree: &Tree<A>,
     seen: &mut SeenClasses,

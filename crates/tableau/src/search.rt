@@ -103,7 +103,8 @@ impl<'b, A: Allocator> Model for Search<'b, A> {
 
 impl<'b, A: Allocator + Copy> Search<'b, A> {
     /// A search that begins, whose tree is in `alloc`, and all else in `heap`. The numbers are those that
-    /// [`SearchRules::numbers_of`] gives for the query, and the limit of the rules' set is the count of the ontology's axioms.
+    /// [`SearchRules::numbers_of`] gives for the query, and the limit of the rules' set is the count of the ontology's
+    /// axioms.
     ///
     /// # Errors
     ///
@@ -241,8 +242,8 @@ impl<'b, A: Allocator + Copy> Search<'b, A> {
         Ok(end)
     }
 
-    /// How many steps were made. They lead to the trail, and are few for the nodes and the concepts of the search until it
-    /// first goes on from an alternative; so are its marks.
+    /// How many steps were made. They lead to the trail, and are few for the nodes and the concepts of the search until
+    /// it first goes on from an alternative; so are its marks.
     pub fn steps(&self) -> u64
         ensures count { result ≡ self.now.steps }
         ensures reached { self.now.failed ≡ false → IsReachedBy self.now }
@@ -255,10 +256,10 @@ impl<'b, A: Allocator + Copy> Search<'b, A> {
         self.steps
     }
 
-    /// The classes of the ontology, each number greater by one, of which the search, which has ended at a model, shows that the
-    /// query's subclass is not part of them: by the steps that were made, which a search for that could have made. These are
-    /// the classes that the run has left out, and there are none where the query asks for more than whether anything is in its
-    /// subclass.
+    /// The classes of the ontology, each number greater by one, of which the search, which has ended at a model, shows
+    /// that the query's subclass is not part of them: by the steps that were made, which a search for that could have
+    /// made. These are the classes that the run has left out, and there are none where the query asks for more than
+    /// whether anything is in its subclass.
     ///
     /// # Errors
     ///

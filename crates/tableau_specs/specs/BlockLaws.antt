@@ -15,8 +15,8 @@ pub record AgreeBelow (fs gs : List (Fact ℕ)) (n : ℕ) : Type 0 where
 abbrev pub BlocksFollowWhatStandsBelow : Type 0
 BlocksFollowWhatStandsBelow = (fs gs : List (Fact ℕ)) (n : ℕ) → HasParentsBefore fs → AgreeBelow fs gs n → (x : ℕ) → x < n → block_of fs x ≡ block_of gs x
 
--- the fact changes no label, parent or representative of a node below n: a concept changes the label of a representative, an
--- edge may be the first into its end, and a joining changes two representatives
+-- the fact changes no label, parent or representative of a node below n: a concept changes the label of a
+-- representative, an edge may be the first into its end, and a joining changes two representatives
 abbrev pub LeavesBelow : List (Fact ℕ) → Fact ℕ → ℕ → Type 0
 LeavesBelow fs (Has y c) n = n ≤ rep fs y
 LeavesBelow fs (Edge r y z) n = n ≤ z

@@ -6,8 +6,8 @@ use Rattle.calculus_specs.specs.Shape.Shape.{bottom, name, not_name, at_most}
 use Rattle.calculus_specs.specs.declared.facts.Fact.{Fact}
 use Rattle.calculus_specs.specs.State.{node_count, has, has_edge, successors, all_apart}
 
--- whether y is a successor of x with the filler e: a node at the end of an edge below s from x that has e. It may have been
--- joined to another node, since facts are read through joins
+-- whether y is a successor of x with the filler e: a node at the end of an edge below s from x that has e. It may have
+-- been joined to another node, since facts are read through joins
 abbrev pub is_filled_successor : (ℕ → ℕ → Bool) → List (Fact ℕ) → ℕ → ℕ → ℕ → ℕ → Bool
 is_filled_successor below fs x s e y = nat_lt y (node_count fs) && has_edge fs (λ r. below r s) x y && has fs y e
 

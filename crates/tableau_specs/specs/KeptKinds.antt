@@ -1,5 +1,5 @@
--- Kinds of concepts and of roles that the rules of a search keep: from concepts of the kind they make such concepts alone, and
--- edges by such roles.
+-- Kinds of concepts and of roles that the rules of a search keep: from concepts of the kind they make such concepts
+-- alone, and edges by such roles.
 use Rattle.std.specs.Prelude.{◌≡◌, ℕ, true, List, Some, Contains}
 use Rattle.calculus_specs.specs.Concept.{Concept, top, intersection, union, some_of, all_of, at_least, at_most, parts_of}
 use Rattle.calculus_specs.specs.Normal.{negated_form}

@@ -1,5 +1,5 @@
--- Each clash and each step of a search is a rule line of a refutation: its premises hold, and its children know what the step
--- adds.
+-- Each clash and each step of a search is a rule line of a refutation: its premises hold, and its children know what
+-- the step adds.
 use Rattle.std.specs.Prelude.{◌≡◌, ℕ, ◌+◌, ◌^◌, ◌<◌, ◌≤◌, true, List, [], ◌∷◌, ◌++◌, length, Some, slice_get, Contains}
 use Rattle.calculus_specs.specs.Concept.{Concept}
 use Rattle.calculus_specs.specs.Shape.{Shape, IsTable}

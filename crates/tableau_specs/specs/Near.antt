@@ -31,8 +31,8 @@ module _ (below : ℕ → ℕ → Bool) (table : List Shape) (fs : List (Fact �
     pub more : n < length (filled_successors below fs x s e)
     pub every : all_apart fs (filled_successors below fs x s e) ≡ true
 
-  -- that node x has concept d makes a plain clash: d is bottom, x has its complement, d is an 'at most' of too many, or d is
-  -- the filler of one at a node with an edge to x
+  -- that node x has concept d makes a plain clash: d is bottom, x has its complement, d is an 'at most' of too many, or
+  -- d is the filler of one at a node with an edge to x
   pub data ClashesBy (x d : ℕ) : Type 0 where
     by_bottom : shape_of table d ≡ bottom → ClashesBy x d
     by_name : (c a : ℕ) → shape_of table d ≡ name a → has fs x c ≡ true → shape_of table c ≡ not_name a → ClashesBy x d
@@ -40,19 +40,20 @@ module _ (below : ℕ → ℕ → Bool) (table : List Shape) (fs : List (Fact �
     by_most : (n s e : ℕ) → IsOverrun x d n s e → ClashesBy x d
     by_filler : (z c n s : ℕ) → z < node_count fs → has_edge fs (λ r. below r s) z x ≡ true → IsOverrun z c n s d → ClashesBy x d
 
-  -- that new nodes with concept e are at the ends of edges of role s from x makes a plain clash: e is bottom, or x has an
-  -- 'at most' of too many, of a role above s, whose filler is e or top
+  -- that new nodes with concept e are at the ends of edges of role s from x makes a plain clash: e is bottom, or x has
+  -- an 'at most' of too many, of a role above s, whose filler is e or top
   pub data ClashesByNew (x s e : ℕ) : Type 0 where
     new_bottom : shape_of table e ≡ bottom → ClashesByNew x s e
     new_overrun : (c m t d : ℕ) → below s t ≡ true → (d ≡ 0) ⊎ (d ≡ e) → IsOverrun x c m t d → ClashesByNew x s e
 
-  -- that nodes y and z are apart makes a plain clash: a node with edges to both has an 'at most' of too many, whose filler both have
+  -- that nodes y and z are apart makes a plain clash: a node with edges to both has an 'at most' of too many, whose
+  -- filler both have
   pub data ClashesByApart (y z : ℕ) : Type 0 where
     apart_overrun : (x c n s e : ℕ) → x < node_count fs → has_edge fs (λ r. below r s) x y ≡ true → has fs y e ≡ true → has_edge fs (λ r. below r s) x z ≡ true → has fs z e ≡ true
         → IsOverrun x c n s e → ClashesByApart y z
 
-  -- that node y is one with another makes a plain clash: it has a class and the class's complement, or an 'at most' of too many,
-  -- or a node with an edge to it has one whose filler it has
+  -- that node y is one with another makes a plain clash: it has a class and the class's complement, or an 'at most' of
+  -- too many, or a node with an edge to it has one whose filler it has
   pub data ClashesByJoin (y : ℕ) : Type 0 where
     join_names : (c d a : ℕ) → has fs y c ≡ true → shape_of table c ≡ name a → has fs y d ≡ true → shape_of table d ≡ not_name a → ClashesByJoin y
     join_most : (c n s e : ℕ) → IsOverrun y c n s e → ClashesByJoin y

@@ -1,5 +1,5 @@
--- A worked search: whether class 10 is in class 11, by the one axiom that says so. Its row is used at nodes that have class
--- 10. The table's numbers are: 0 top, 1 class 10, 2 class 11, 3 the complement of class 11.
+-- A worked search: whether class 10 is in class 11, by the one axiom that says so. Its row is used at nodes that have
+-- class 10. The table's numbers are: 0 top, 1 class 10, 2 class 11, 3 the complement of class 11.
 use Rattle.std.specs.Prelude.{◌≡◌, ℕ, zero, suc, ◌<◌, true, false, ◌==◌, List, [], ◌∷◌, ◌++◌, if◌then◌else◌, refl}
 use Rattle.std.proofs.Common.{lit<, ap, sym, subst, ◌∙◌, arith, inr}
 use Rattle.std.specs.List.{count_by}

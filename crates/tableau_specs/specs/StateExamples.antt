@@ -1,5 +1,5 @@
--- Worked examples. Role 7 is below itself alone. The table's numbers are: 0 top, 1 and 2 names, 3 the complement of name
--- 1, 4 'at most 2 of role 7 with concept 1'.
+-- Worked examples. Role 7 is below itself alone. The table's numbers are: 0 top, 1 and 2 names, 3 the complement of
+-- name 1, 4 'at most 2 of role 7 with concept 1'.
 use Rattle.std.specs.Prelude.{◌≡◌, ℕ, Bool, ◌==◌, List, [], ◌∷◌, ◌++◌, length, take, refl}
 use Rattle.std.proofs.Common.{lit<}
 use Rattle.calculus_specs.specs.Shape.{Shape}
@@ -25,7 +25,8 @@ same_role r s = r == s
 
 -- ---- a trail with a mark
 
--- nodes 1 to 3 are made below node 0 by role 7 with concept 1, then a mark stands, and then node 4 is made in the same way
+-- nodes 1 to 3 are made below node 0 by role 7 with concept 1, then a mark stands, and then node 4 is made in the same
+-- way
 abbrev marked : List Item
 marked = says (fresh_facts 0 7 1 1 3) ++ Mark (record { line = 5; branch = Pair 4 1; alternative = 1 }) ∷ says (fresh_facts 0 7 1 4 1)
 

@@ -32,8 +32,8 @@ BlockSays fs x Clear = ParentIsClear fs x × ((z : ℕ) → ¬ MayBlock fs x z)
 BlockSays fs x (By z) = ParentIsClear fs x × MayBlock fs x z × ((v : ℕ) → v < z → ¬ MayBlock fs x v)
 BlockSays fs x Under = (p : ℕ) × (parent fs x ≡ Some p) × ¬ (block_of fs (rep fs p) ≡ Clear)
 
--- where parents are less than their nodes, as they are in each trail that a search reaches, node 0 is clear, and any other
--- node is what its block says
+-- where parents are less than their nodes, as they are in each trail that a search reaches, node 0 is clear, and any
+-- other node is what its block says
 abbrev pub BlocksSayWhatTheyMean : Type 0
 BlocksSayWhatTheyMean = (fs : List (Fact ℕ)) → ((x p : ℕ) → parent fs x ≡ Some p → p < x)
     → (block_of fs 0 ≡ Clear) × ((x : ℕ) → 0 < x → BlockSays fs x (block_of fs x))

@@ -1,5 +1,5 @@
--- Worked examples. The table's numbers are: 0 top, 1 a class, 2 its complement, 3 another class, 4 the union of 2 and 3,
--- 5 the intersection of 1 and 3, 6 'some of role 7 in 1', 7 'at least 2 of role 7 in 1'. There are no rows.
+-- Worked examples. The table's numbers are: 0 top, 1 a class, 2 its complement, 3 another class, 4 the union of 2 and
+-- 3, 5 the intersection of 1 and 3, 6 'some of role 7 in 1', 7 'at least 2 of role 7 in 1'. There are no rows.
 use Rattle.std.specs.Prelude.{◌≡◌, ℕ, zero, suc, ◌+◌, Bool, true, false, ◌==◌, nat_lt, ◌&&◌, List, [], ◌∷◌, ◌++◌, slice_get, Some, refl}
 use Rattle.std.specs.List.{list_all, range_with_len}
 use Rattle.std.proofs.Common.{lit<, ap, sym, subst, ◌∙◌, arith}

@@ -22,8 +22,8 @@ use Rattle.tableau_specs.specs.Items.{facts_of, says}
 use Rattle.tableau_specs.specs.Blocked.{block_of}
 use Rattle.tableau_specs.specs.Clash.{is_filled_successor, filled_successors, IsClash, IsPlainClash}
 
--- what the steps of a search read besides its trail: the parts and roles of its axioms, the concepts of its numbers, and
--- the rows that it has chosen
+-- what the steps of a search read besides its trail: the parts and roles of its axioms, the concepts of its numbers,
+-- and the rows that it has chosen
 pub record SearchContext : Type 0 where
   pub theory : Theory
   pub table : List Shape
@@ -68,8 +68,8 @@ is_used_at w fs row x = is_triggered w fs x (part_at w.theory row.axiom_number r
 
 -- ---- runs of successors
 
--- whether the n nodes from y on are successors of x with the filler e, and pairwise apart. None need be a representative:
--- nodes that were made for 'at least n' stay such a run, whatever they are joined to later
+-- whether the n nodes from y on are successors of x with the filler e, and pairwise apart. None need be a
+-- representative: nodes that were made for 'at least n' stay such a run, whatever they are joined to later
 abbrev pub is_run : SearchContext → List (Fact ℕ) → ℕ → ℕ → ℕ → ℕ → ℕ → Bool
 is_run w fs x s e n y = list_all (is_filled_successor (below_of w) fs x s e) (range_with_len y n) && all_apart fs (range_with_len y n)
 
@@ -152,8 +152,8 @@ module _ (w : SearchContext) where
     back : (place : ℕ) (c : Choice) (f : Fact ℕ) → HasClash old → slice_get old place ≡ Some (Mark c) → IsAlternative w.table c.branch (c.alternative + 1) f
         → IsLegal old (take place old ++ Mark (next_choice c) ∷ Says f ∷ [])
 
-  -- there is no plain clash, and nothing to add, to make or to choose; a concept that is to be carried and has no number in
-  -- the table would be something to add
+  -- there is no plain clash, and nothing to add, to make or to choose; a concept that is to be carried and has no
+  -- number in the table would be something to add
   pub record IsSaturated (trail : List Item) : Type 0 where
     pub no_clash : ¬ HasPlainClash trail
     pub no_add : (x d : ℕ) → Adds w (facts_of trail) x d → has (facts_of trail) x d ≡ true

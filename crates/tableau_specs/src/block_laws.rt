@@ -1,8 +1,10 @@
-//! Which blocks stay when a search goes on: what lets the blocks of a tree be found again from the least node that changed.
+//! Which blocks stay when a search goes on: what lets the blocks of a tree be found again from the least node that
+//! changed.
 //!
 //! The block of a node depends on the nodes up to it alone: on their parents, representatives and labels (anywhere
-//! blocking by earlier nodes; F. Baader, M. Buchheit and B. Hollunder, *Cardinality Restrictions on Concepts*, Artificial
-//! Intelligence 88, 1996). So a new fact leaves the blocks of all nodes below those of which it says something new.
+//! blocking by earlier nodes; F. Baader, M. Buchheit and B. Hollunder, *Cardinality Restrictions on Concepts*,
+//! Artificial Intelligence 88, 1996). So a new fact leaves the blocks of all nodes below those of which it says
+//! something new.
 ghost use Rattle.tableau_specs.specs.BlockLaws.{BlocksFollowWhatStandsBelow, OneFactLeavesBlocksBelow, FactsLeaveBlocksBelow, FactsLeaveNodesBelow, NewNodesLeaveBlocks};
 
 /// Where two lists of facts agree on the nodes below a bound, these nodes have the same blocks by both.

@@ -6,7 +6,8 @@ pub fn a_concept_clashes_at_its_node()
     ensures { ConceptClashesThere }
 {}
 
-/// Where there is no plain clash, new nodes make one exactly where their concept is bottom, or where there are too many then.
+/// Where there is no plain clash, new nodes make one exactly where their concept is bottom, or where there are too many
+/// then.
 pub fn new_nodes_clash_below_their_parent()
     ensures { NewNodesClashThere }
 {}

@@ -1,26 +1,27 @@
-//! The tableau calculus for SHQ with general inclusions: trails, their clashes and blocked nodes, the legal steps, and what
-//! holds of every trail that legal steps reach.
+//! The tableau calculus for SHQ with general inclusions: trails, their clashes and blocked nodes, the legal steps, and
+//! what holds of every trail that legal steps reach.
 //!
-//! A search whether one class is part of another begins with one node that is in the first and not in the second. It adds
-//! what the axioms and the concepts of its nodes demand, makes successors where a concept asks for them, and chooses where
-//! there are several ways on. A clash closes the way that was chosen, and the search goes back to a choice. It ends where a
-//! trail is saturated, which describes a finite model, or where each way is closed, which is a refutation.
+//! A search whether one class is part of another begins with one node that is in the first and not in the second. It
+//! adds what the axioms and the concepts of its nodes demand, makes successors where a concept asks for them, and
+//! chooses where there are several ways on. A clash closes the way that was chosen, and the search goes back to a
+//! choice. It ends where a trail is saturated, which describes a finite model, or where each way is closed, which is a
+//! refutation.
 //!
-//! Such calculi are those of Horrocks, Sattler and Tobies ("Practical Reasoning for Expressive Description Logics", 1999).
-//! What differs here:
+//! Such calculi are those of Horrocks, Sattler and Tobies ("Practical Reasoning for Expressive Description Logics",
+//! 1999). What differs here:
 //!
 //! - A state is a flat list of facts and marks, the trail. Joining two successors adds the fact that they are one, and
 //!   facts are read through such joins, so that nothing is renamed and going back is cutting the list.
-//! - A node is blocked by the least clear node, at any place in the tree and not only above it, whose label contains its own
-//!   (subset blocking; by earlier nodes anywhere in Baader, Buchheit and Hollunder's "Cardinality restrictions on concepts",
-//!   1996). That is enough since there are no inverse roles: what the successors of a node have to be depends on its label
-//!   alone.
-//! - General inclusions are used by rows: an inclusion waits at nodes that have all of some class names, or at nodes with an
-//!   edge of some role (absorption; Horrocks and Tobies, "Reasoning with Axioms: Theory and Practice", 2000).
+//! - A node is blocked by the least clear node, at any place in the tree and not only above it, whose label contains
+//!   its own (subset blocking; by earlier nodes anywhere in Baader, Buchheit and Hollunder's "Cardinality restrictions
+//!   on concepts", 1996). That is enough since there are no inverse roles: what the successors of a node have to be
+//!   depends on its label alone.
+//! - General inclusions are used by rows: an inclusion waits at nodes that have all of some class names, or at nodes
+//!   with an edge of some role (absorption; Horrocks and Tobies, "Reasoning with Axioms: Theory and Practice", 2000).
 //! - The steps fix no strategy. Every order of steps is a legal search, and the laws hold for each.
 //! - Each clash and each step is a rule line of a refutation (`line_laws`), so that a closed search can be checked.
-//! - `clash_laws` say where a step can make a plain clash, so that a search looks near what has changed alone; `block_laws` which
-//!   nodes keep their blocks when a fact is put.
+//! - `clash_laws` say where a step can make a plain clash, so that a search looks near what has changed alone;
+//!   `block_laws` which nodes keep their blocks when a fact is put.
 #![tactic(auto)]
 
 mod block_laws;

@@ -120,8 +120,8 @@ abbrev pub expression_count : List Numbered → ℕ
 expression_count [] = 0
 expression_count (a ∷ more) = axiom_expressions a.axiom + expression_count more
 
--- The ontology can be written so that it is read again. It is within the limits, and its names are IRIs that may stand in a
--- document, each once. The bracket after `Ontology` is open round each axiom.
+-- The ontology can be written so that it is read again. It is within the limits, and its names are IRIs that may stand
+-- in a document, each once. The bracket after `Ontology` is open round each axiom.
 pub record CanBeWritten (o : Listed) : Type 0 where
   pub within : IsOntologyInLimit o
   pub class_iris : list_all is_class_iri o.classes ≡ true

@@ -18,8 +18,8 @@ use Rattle.text_laws.specs.Writable.{brackets, expressions, CanBeWritten}
 abbrev pub axioms_of : List Numbered → List Axiom
 axioms_of as_ = map (λ (a : Numbered). a.axiom) as_
 
--- The text is a document of the ontology: it lists the classes and roles in their order, and the axioms in theirs, on lines
--- of its own.
+-- The text is a document of the ontology: it lists the classes and roles in their order, and the axioms in theirs, on
+-- lines of its own.
 pub record IsDocumentOf (text : List ℕ) (o : Listed) : Type 0 where
   pub read : Listed
   pub kept : DocumentContext
@@ -64,8 +64,8 @@ abbrev pub DocumentsKnowOwl : Type 0
 DocumentsKnowOwl = (text : List ℕ) (o : Listed) (kept : DocumentContext) (end : ℕ) → IsDocument text o kept end → KnowsOwl kept.prefixes
 
 -- The text of a class expression over the names of an ontology is that expression, and lists no other name, where the
--- limits leave room: its text is short enough for a query, at most 64 brackets are open at once, and its expressions fit
--- beside those that were counted.
+-- limits leave room: its text is short enough for a query, at most 64 brackets are open at once, and its expressions
+-- fit beside those that were counted.
 abbrev pub ClassTextsAreRead : Type 0
 ClassTextsAreRead =
     (o : Listed) (c : Concept) (ps : List Prefix) (nodes : ℕ) → CanBeWritten o → IsInLimit o (record { sub = c; sup = bottom }) → KnowsOwl ps → length (concept_text o c) ≤ 2 ^ 24 → brackets c ≤ 64 → nodes + expressions c ≤ 262144

@@ -1,7 +1,7 @@
 //! What is read without refusal is within the limits of an ontology and a query on it, as later calls ask for them.
 //!
-//! A reader tests each limit where the text meets it: the number of a group's items at its name, a cardinality at its number,
-//! counts as they grow, and simple roles at the end. Here is what these tests say of the values that were read.
+//! A reader tests each limit where the text meets it: the number of a group's items at its name, a cardinality at its
+//! number, counts as they grow, and simple roles at the end. Here is what these tests say of the values that were read.
 ghost use Rattle.text_laws.specs.LimitLaws.{DocumentsAreInLimit, QueriesAreInLimit, ClassesAreInLimit, QueriesListNames, ClassesListNames};
 
 /// The ontology of a document (OWL 2 Structural Specification, section 3.7) is within the limits.

@@ -14,7 +14,8 @@ pub fn documents_can_be_written()
     ensures { DocumentsCanBeWritten }
 {}
 
-/// The canonical text of the ontology of a document is a document of the same ontology, but for the lines of its axioms.
+/// The canonical text of the ontology of a document is a document of the same ontology, but for the lines of its
+/// axioms.
 pub fn documents_are_read_again()
     ensures { DocumentsAreReadAgain }
 {}
@@ -24,8 +25,8 @@ pub fn equal_texts_say_the_same()
     ensures { EqualTextsSayTheSame }
 {}
 
-/// In each document the prefix of `owl:Thing` and `owl:Nothing` stands for the IRI of the OWL vocabulary (OWL 2 Structural
-/// Specification, section 2.4).
+/// In each document the prefix of `owl:Thing` and `owl:Nothing` stands for the IRI of the OWL vocabulary (OWL 2
+/// Structural Specification, section 2.4).
 pub fn documents_know_owl()
     ensures { DocumentsKnowOwl }
 {}

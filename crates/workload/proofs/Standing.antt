@@ -1,4 +1,5 @@
--- The lines of a workload may stand in a text: they are UTF-8, their names and IRIs are whole, and few brackets are open.
+-- The lines of a workload may stand in a text: they are UTF-8, their names and IRIs are whole, and few brackets are
+-- open.
 use Rattle.std.proofs.Common.{◌≡◌, ℕ, zero, suc, ◌+◌, ◌≤◌, true, ◌&&◌, List, [], ◌∷◌, ◌++◌, refl, arith, codes, decimal, nat_lt}
 use Rattle.std.specs.List.{list_all}
 use Rattle.std.specs.Str.{IsUtf8}

@@ -12,9 +12,9 @@ use Rattle.workload.specs.WorkloadText.{workload_text}
 use Rattle.text_laws.specs.WritingLaws.{axioms_of}
 use Rattle.workload.specs.WorkloadAxioms.{prefix_iri_of_workloads, workload_classes, workload_roles, workload_axioms}
 
--- The text is a document of the workload of n groups: it lists exactly the workload's classes, roles and axioms, each in
--- their order. Nothing but whitespace stands behind it. A query on it may use the empty prefix, and goes on from so many class
--- expressions.
+-- The text is a document of the workload of n groups: it lists exactly the workload's classes, roles and axioms, each
+-- in their order. Nothing but whitespace stands behind it. A query on it may use the empty prefix, and goes on from so
+-- many class expressions.
 pub record IsWorkload (n : ℕ) (text : List ℕ) : Type 0 where
   pub read : Listed
   pub kept : DocumentContext
@@ -31,7 +31,8 @@ pub record IsWorkload (n : ℕ) (text : List ℕ) : Type 0 where
 abbrev pub WorkloadsAreDocuments : Type 0
 WorkloadsAreDocuments = (n : ℕ) → n ≤ 4000 → IsWorkload n (workload_text n)
 
--- The query of a workload asks whether the first class is in the sixth. It is a query on such a document, and lists no name.
+-- The query of a workload asks whether the first class is in the sixth. It is a query on such a document, and lists no
+-- name.
 abbrev pub asked : Query
 asked = record { sub = name 0; sup = name 5 }
 

@@ -1,5 +1,5 @@
--- The text of a workload: a kernel of seven axioms in which one query has eight justifications and three repairs, and any
--- number of groups of four axioms that have nothing to do with it.
+-- The text of a workload: a kernel of seven axioms in which one query has eight justifications and three repairs, and
+-- any number of groups of four axioms that have nothing to do with it.
 use Rattle.std.specs.Prelude.{ℕ, zero, suc, ◌+◌, List, [], ◌∷◌, ◌++◌, codes, decimal}
 
 -- a line with its line feed

@@ -41,8 +41,8 @@ fn put_groups(alloc: Global, text: &mut Vec<u8>, n: u32) -> Result<(), NoMemory>
     Ok(())
 }
 
-/// The document of a workload, in functional-style syntax: seven axioms on which [`QUERY`] depends, and n groups of four
-/// axioms on which it does not.
+/// The document of a workload, in functional-style syntax: seven axioms on which [`QUERY`] depends, and n groups of
+/// four axioms on which it does not.
 #[tactic(auto, unfolding(crate::specs::WorkloadText::workload_text))]
 pub fn generate(alloc: Global, n: u32) -> Result<Vec<u8>, NoMemory>
     requires least { 1 ≤ n }
