@@ -2,7 +2,7 @@
 use Rattle.std.specs.Prelude.{ℕ, ◌<◌, ◌≤◌, IsTrue, List, Contains}
 use Rattle.shq_terms.specs.declared.axioms.Axiom.{Axiom}
 use Rattle.shq_terms.specs.declared.axioms.Query.{Query}
-use Rattle.shq_meaning.specs.Truth.{Interpretation, meets_all, refutes_at, Entails}
+use Rattle.shq_meaning.specs.Truth.{Interpretation, PlacesIndividuals, meets_all, refutes_at, Entails}
 
 -- what follows from some axioms follows from more
 abbrev pub EntailmentIsMonotone : Type 0
@@ -12,4 +12,4 @@ EntailmentIsMonotone =
 -- where an interpretation meets the axioms, and some element of it is a counter-example, the query does not follow
 abbrev pub CounterModelsRefute : Type 0
 CounterModelsRefute =
-    (i : Interpretation) (as_ : List Axiom) (q : Query) (x : ℕ) → 1 ≤ i.size → IsTrue (meets_all i as_) → x < i.size → IsTrue (refutes_at i q x) → Entails as_ q → ⊥
+    (i : Interpretation) (as_ : List Axiom) (q : Query) (x : ℕ) → 1 ≤ i.size → PlacesIndividuals i → IsTrue (meets_all i as_) → x < i.size → IsTrue (refutes_at i q x) → Entails as_ q → ⊥

@@ -1,18 +1,26 @@
 -- What class expressions, axioms and queries mean in a finite interpretation: OWL 2 Direct Semantics (Second Edition),
 -- section 2, over the numbers below a size as the domain.
-use Rattle.std.specs.Prelude.{ℕ, ◌<◌, ◌≤◌, Bool, true, false, not, ◌&&◌, ◌||◌, eqb, leb, nat_le, count_by, IsTrue, IsFalse, List, slice_index}
+use Rattle.std.specs.Prelude.{ℕ, ◌<◌, ◌≤◌, Bool, true, false, not, ◌&&◌, ◌||◌, eqb, leb, nat_le, count_by, IsTrue, IsFalse, List, [], ◌∷◌, slice_index}
 use Rattle.std.specs.List.{list_all}
 use Rattle.shq_terms.specs.Concept.{Concept, top, bottom, name, complement, intersection, union, some_of, all_of, at_least, at_most, exactly, Parts, no_parts, part, parts_of}
 use Rattle.shq_terms.specs.declared.axioms.Axiom.{Axiom}
-use Rattle.shq_terms.specs.declared.axioms.Axiom.TheVariants.{SubClassOf, EquivalentClasses, DisjointClasses, DisjointUnion, SubRole, EquivalentRoles, Domain, Range, Functional, Transitive}
+use Rattle.shq_terms.specs.declared.axioms.Axiom.TheVariants.{SubClassOf, EquivalentClasses, DisjointClasses, DisjointUnion, SubRole, EquivalentRoles, Domain, Range, Functional, Transitive, Member, Pair, SameAll, Different}
+use Rattle.shq_terms.specs.declared.axioms.On.{On}
+use Rattle.shq_terms.specs.declared.axioms.On.TheVariants.{Any, Individual}
 use Rattle.shq_terms.specs.declared.axioms.Query.{Query}
 use Rattle.shq_meaning.specs.Below.{all_below, count_below}
 
--- section 2.2: the domain is the numbers below size; classes are sets of them, and roles sets of pairs
+-- section 2.2: the domain is the numbers below size; classes are sets of them, roles sets of pairs, and individuals are
+-- elements
 pub record Interpretation : Type 0 where
   pub size : ℕ
   pub in_class : ℕ → ℕ → Bool
   pub in_role : ℕ → ℕ → ℕ → Bool
+  pub individual : ℕ → ℕ
+
+-- each individual is an element of the domain
+abbrev pub PlacesIndividuals : Interpretation → Type 0
+PlacesIndividuals i = (a : ℕ) → i.individual a < i.size
 
 abbrev pub implies : Bool → Bool → Bool
 implies a b = not a || b
@@ -71,7 +79,21 @@ roles_equal i rs = list_all (λ s. included i (slice_index rs 0) s && included i
 abbrev pub out_degree : Interpretation → ℕ → ℕ → ℕ
 out_degree i r x = count_below i.size (λ y. i.in_role r x y)
 
--- the interpretation meets the axiom: the class axioms of section 2.3.1, the role axioms of section 2.3.2
+-- all of the individuals are the same element
+abbrev pub are_same : Interpretation → List ℕ → Bool
+are_same i as_ = list_all (λ a. eqb (i.individual a) (i.individual (slice_index as_ 0))) as_
+
+-- the individual is none of these
+abbrev pub differs_from_all : Interpretation → ℕ → List ℕ → Bool
+differs_from_all i a as_ = list_all (λ b. not (eqb (i.individual a) (i.individual b))) as_
+
+-- the individuals at two different places are different elements
+abbrev pub are_different : Interpretation → List ℕ → Bool
+are_different i [] = true
+are_different i (a ∷ as_) = differs_from_all i a as_ && are_different i as_
+
+-- the interpretation meets the axiom: the class axioms of section 2.3.1, the role axioms of section 2.3.2, and the
+-- assertions of section 2.3.5
 abbrev pub meets : Interpretation → Axiom → Bool
 meets i (SubClassOf c d) = all_below i.size (λ x. implies (holds i c x) (holds i d x))
 meets i (EquivalentClasses cs) = all_below i.size (λ x. all_same i cs x)
@@ -83,16 +105,26 @@ meets i (Domain r c) = all_below i.size (λ x. implies (nat_le 1 (out_degree i r
 meets i (Range r c) = all_below i.size (λ x. each_successor i r (holds i c) x)
 meets i (Functional r) = all_below i.size (λ x. nat_le (out_degree i r x) 1)
 meets i (Transitive r) = all_below i.size (λ x. all_below i.size (λ y. implies (i.in_role r x y) (all_below i.size (λ z. implies (i.in_role r y z) (i.in_role r x z)))))
+meets i (Member c a) = holds i c (i.individual a)
+meets i (Pair r a b) = i.in_role r (i.individual a) (i.individual b)
+meets i (SameAll as_) = are_same i as_
+meets i (Different as_) = are_different i as_
 
 -- section 2.4: the interpretation meets all of the axioms
 abbrev pub meets_all : Interpretation → List Axiom → Bool
 meets_all i as_ = list_all (meets i) as_
 
+-- the query speaks of the element
+abbrev pub is_asked_at : Interpretation → On → ℕ → Bool
+is_asked_at i Any x = true
+is_asked_at i (Individual a) x = eqb x (i.individual a)
+
 -- the element is a counter-example to the query
 abbrev pub refutes_at : Interpretation → Query → ℕ → Bool
-refutes_at i q x = holds i q.sub x && not (holds i q.sup x)
+refutes_at i q x = is_asked_at i q.on x && (holds i q.sub x && not (holds i q.sup x))
 
--- section 2.5: in every finite interpretation of at least one element that meets the axioms, no element is a
--- counter-example to the query
+-- section 2.5: in every finite interpretation of at least one element, with the individuals among them, that meets the
+-- axioms, no element is a counter-example to the query
 abbrev pub Entails : List Axiom → Query → Type 0
-Entails as_ q = (i : Interpretation) → 1 ≤ i.size → IsTrue (meets_all i as_) → (x : ℕ) → x < i.size → IsFalse (refutes_at i q x)
+Entails as_ q =
+    (i : Interpretation) → 1 ≤ i.size → PlacesIndividuals i → IsTrue (meets_all i as_) → (x : ℕ) → x < i.size → IsFalse (refutes_at i q x)

@@ -1,13 +1,13 @@
 -- Names that are listed stay listed when further names are.
 use Rattle.std.proofs.Common.{◌≡◌, ℕ, ◌≤◌, true, List, [], ◌∷◌, ◌++◌, refl, arith, length, length-append, position, Option, Some, None}
-use Rattle.std.specs.Prelude.{nat_lt}
+use Rattle.std.specs.Prelude.{nat_lt, ◌&&◌}
 use Rattle.std.specs.List.{list_all}
 use Rattle.std.specs.Str.{bytes_eq}
 use Rattle.std.proofs.lemmas.Bool.Decides.{nat_tests}
 use Rattle.shq_base.specs.Concept.{Concept, top, bottom, name, complement, intersection, union, some_of, all_of, at_least, at_most, exactly, Parts, no_parts, part, parts_of}
 use Rattle.shq_base.proofs.Bools.{and_weaker}
 use Rattle.shq_terms.specs.declared.axioms.Axiom.{Axiom}
-use Rattle.shq_terms.specs.declared.axioms.Axiom.TheVariants.{SubClassOf, EquivalentClasses, DisjointClasses, DisjointUnion, SubRole, EquivalentRoles, Domain, Range, Functional, Transitive}
+use Rattle.shq_terms.specs.declared.axioms.Axiom.TheVariants.{SubClassOf, EquivalentClasses, DisjointClasses, DisjointUnion, SubRole, EquivalentRoles, Domain, Range, Functional, Transitive, Member, Pair, SameAll, Different}
 use Rattle.shq_terms.specs.declared.axioms.Numbered.{Numbered}
 use Rattle.shq_terms.specs.Names.{with_at, with_name}
 use Rattle.shq_terms.specs.Uses.{uses_listed, parts_use_listed, axiom_uses_listed, all_use_listed}
@@ -15,7 +15,7 @@ use Rattle.shq_terms.specs.Uses.{uses_listed, parts_use_listed, axiom_uses_liste
 lt_more : (a m n : ℕ) → m ≤ n → nat_lt a m ≡ true → nat_lt a n ≡ true
 lt_more a m n more h = grind (arith, nat_tests)
 
-module _ (m n : ℕ) (r s : ℕ) (classes : m ≤ n) (roles : r ≤ s) where
+module _ (m n : ℕ) (r s : ℕ) (i j : ℕ) (classes : m ≤ n) (roles : r ≤ s) (individuals : i ≤ j) where
   mutual
     pub uses_more : (c : Concept) → uses_listed m r c ≡ true → uses_listed n s c ≡ true
     uses_more top h = refl
@@ -38,7 +38,11 @@ module _ (m n : ℕ) (r s : ℕ) (classes : m ≤ n) (roles : r ≤ s) where
   roles_more [] h = refl
   roles_more (q ∷ qs) h = and_weaker (nat_lt q r) (list_all (λ k. nat_lt k r) qs) (nat_lt q s) (list_all (λ k. nat_lt k s) qs) (lt_more q r s roles) (roles_more qs) h
 
-  axiom_uses_more : (a : Axiom) → axiom_uses_listed m r a ≡ true → axiom_uses_listed n s a ≡ true
+  individuals_more : (as_ : List ℕ) → list_all (λ a. nat_lt a i) as_ ≡ true → list_all (λ a. nat_lt a j) as_ ≡ true
+  individuals_more [] h = refl
+  individuals_more (a ∷ as_) h = and_weaker (nat_lt a i) (list_all (λ k. nat_lt k i) as_) (nat_lt a j) (list_all (λ k. nat_lt k j) as_) (lt_more a i j individuals) (individuals_more as_) h
+
+  axiom_uses_more : (a : Axiom) → axiom_uses_listed m r i a ≡ true → axiom_uses_listed n s j a ≡ true
   axiom_uses_more (SubClassOf c d) h = and_weaker (uses_listed m r c) (uses_listed m r d) (uses_listed n s c) (uses_listed n s d) (uses_more c) (uses_more d) h
   axiom_uses_more (EquivalentClasses cs) h = parts_use_more (parts_of cs) h
   axiom_uses_more (DisjointClasses cs) h = parts_use_more (parts_of cs) h
@@ -49,15 +53,19 @@ module _ (m n : ℕ) (r s : ℕ) (classes : m ≤ n) (roles : r ≤ s) where
   axiom_uses_more (Range q c) h = and_weaker (nat_lt q r) (uses_listed m r c) (nat_lt q s) (uses_listed n s c) (lt_more q r s roles) (uses_more c) h
   axiom_uses_more (Functional q) h = lt_more q r s roles h
   axiom_uses_more (Transitive q) h = lt_more q r s roles h
+  axiom_uses_more (Member c a) h = and_weaker (uses_listed m r c) (nat_lt a i) (uses_listed n s c) (nat_lt a j) (uses_more c) (lt_more a i j individuals) h
+  axiom_uses_more (Pair q a b) h = and_weaker (nat_lt q r) (nat_lt a i && nat_lt b i) (nat_lt q s) (nat_lt a j && nat_lt b j) (lt_more q r s roles) (and_weaker (nat_lt a i) (nat_lt b i) (nat_lt a j) (nat_lt b j) (lt_more a i j individuals) (lt_more b i j individuals)) h
+  axiom_uses_more (SameAll as_) h = individuals_more as_ h
+  axiom_uses_more (Different as_) h = individuals_more as_ h
 
-  pub all_use_more : (as_ : List Numbered) → all_use_listed m r as_ ≡ true → all_use_listed n s as_ ≡ true
+  pub all_use_more : (as_ : List Numbered) → all_use_listed m r i as_ ≡ true → all_use_listed n s j as_ ≡ true
   all_use_more [] h = refl
-  all_use_more (a ∷ as_) h = and_weaker (axiom_uses_listed m r a.axiom) (all_use_listed m r as_) (axiom_uses_listed n s a.axiom) (all_use_listed n s as_) (axiom_uses_more a.axiom) (all_use_more as_) h
+  all_use_more (a ∷ as_) h = and_weaker (axiom_uses_listed m r i a.axiom) (all_use_listed m r i as_) (axiom_uses_listed n s j a.axiom) (all_use_listed n s j as_) (axiom_uses_more a.axiom) (all_use_more as_) h
 
 -- one axiom more
-pub all_use_push : (m r : ℕ) (as_ : List Numbered) (a : Numbered) → all_use_listed m r as_ ≡ true → axiom_uses_listed m r a.axiom ≡ true → all_use_listed m r (as_ ++ a ∷ []) ≡ true
-all_use_push m r [] a all one = rw one
-all_use_push m r (b ∷ bs) a all one = and_weaker (axiom_uses_listed m r b.axiom) (all_use_listed m r bs) (axiom_uses_listed m r b.axiom) (all_use_listed m r (bs ++ a ∷ [])) (λ h. h) (λ h. all_use_push m r bs a h one) all
+pub all_use_push : (m r i : ℕ) (as_ : List Numbered) (a : Numbered) → all_use_listed m r i as_ ≡ true → axiom_uses_listed m r i a.axiom ≡ true → all_use_listed m r i (as_ ++ a ∷ []) ≡ true
+all_use_push m r i [] a all one = rw one
+all_use_push m r i (b ∷ bs) a all one = and_weaker (axiom_uses_listed m r i b.axiom) (all_use_listed m r i bs) (axiom_uses_listed m r i b.axiom) (all_use_listed m r i (bs ++ a ∷ [])) (λ h. h) (λ h. all_use_push m r i bs a h one) all
 
 -- a list of names with one more is no shorter
 pub with_name_longer : (names : List (List ℕ)) (w : List ℕ) → length names ≤ length (with_name names w)

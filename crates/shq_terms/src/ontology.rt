@@ -1,4 +1,4 @@
-// The numbered axioms of a document, with the names of its classes and roles.
+// The numbered axioms of a document, with the names of its classes, roles and individuals.
 ghost use Rattle.std.specs.Prelude.{◌≡◌, ◌<◌, ◌≤◌, ◌+◌, ◌-◌, ◌↔◌, [], IsTrue, OnOk, OnErr, IfOk, Err, length, slice_get, Some, position};
 ghost use Rattle.std.specs.Str.{bytes_eq};
 ghost use Rattle.shq_terms.specs.Names.{number_of, with_name, HasNoRoomFor};
@@ -20,15 +20,19 @@ pub const MAX_CLASSES: u32 = 20_000;
 /// The most role names that an ontology lists.
 pub const MAX_ROLES: u32 = 1_000;
 
-/// Numbered axioms, and the names of classes and roles that they use.
+/// The most names of individuals that an ontology lists.
+pub const MAX_INDIVIDUALS: u32 = 20_000;
+
+/// Numbered axioms, and the names of classes, roles and individuals that they use.
 ///
 /// Axioms are numbered from 1 in the order in which they were added, and each occurrence of an axiom has a number of
-/// its own. Classes and roles are numbered from 0, each in the order in which the names were added.
+/// its own. Classes, roles and individuals are numbered from 0, each in the order in which the names were added.
 #[derive(Drop)]
 pub struct Ontology {
     axioms: Vec<Numbered>,
     classes: NameList,
     roles: NameList,
+    individuals: NameList,
 }
 
 impl Model for Ontology {
@@ -43,9 +47,9 @@ impl Model for Ontology {
 
     ghost coded = { Prim.hlevel (codes, concept_code) };
 
-    ghost view = { λ o. record { axioms = o.axioms.items; classes = o.classes; roles = o.roles } };
+    ghost view = { λ o. record { axioms = o.axioms.items; classes = o.classes; roles = o.roles; individuals = o.individuals } };
 
-    ghost invariant = { λ o. (length o.axioms.items ≤ 20000) × (length o.classes ≤ 20000) × (length o.roles ≤ 1000) × (all_use_listed (length o.classes) (length o.roles) o.axioms.items ≡ true) × AreDistinct o.classes × AreDistinct o.roles };
+    ghost invariant = { λ o. (length o.axioms.items ≤ 20000) × (length o.classes ≤ 20000) × (length o.roles ≤ 1000) × (length o.individuals ≤ 20000) × (all_use_listed (length o.classes) (length o.roles) (length o.individuals) o.axioms.items ≡ true) × AreDistinct o.classes × AreDistinct o.roles × AreDistinct o.individuals };
 }
 
 impl Ontology {
@@ -53,12 +57,13 @@ impl Ontology {
 
     /// No axioms and no names.
     pub fn new(alloc: Global) -> Ontology
-        ensures { result ≡ record { axioms = []; classes = []; roles = [] } }
+        ensures { result ≡ record { axioms = []; classes = []; roles = []; individuals = [] } }
     {
         Ontology {
             axioms: Vec::new(alloc),
             classes: NameList::new(alloc),
             roles: NameList::new(alloc),
+            individuals: NameList::new(alloc),
         }
     }
 
@@ -88,11 +93,20 @@ impl Ontology {
         self.roles.len()
     }
 
+    /// How many names of individuals are listed.
+    pub fn individual_count(&self) -> u32
+        ensures count { result ≡ length self.now.individuals }
+        ensures within { result ≤ MAX_INDIVIDUALS }
+        ensures distinct { AreDistinct self.now.individuals }
+    {
+        self.individuals.len()
+    }
+
     /// All axioms, in the order of their numbers.
     pub fn axioms(&self) -> &[Numbered]
         ensures all { result.now ≡ self.now.axioms }
         ensures within { length self.now.axioms ≤ MAX_AXIOMS }
-        ensures listed { IsTrue (all_use_listed (length self.now.classes) (length self.now.roles) self.now.axioms) }
+        ensures listed { IsTrue (all_use_listed (length self.now.classes) (length self.now.roles) (length self.now.individuals) self.now.axioms) }
     {
         &self.axioms
     }
@@ -122,6 +136,14 @@ impl Ontology {
         self.roles.name(role)
     }
 
+    /// The full IRI of an individual.
+    pub fn individual_name(&self, individual: u32) -> &str
+        requires { individual < length self.now.individuals }
+        ensures { Some result.now ≡ slice_get self.now.individuals individual }
+    {
+        self.individuals.name(individual)
+    }
+
     /// The number of a class. `None` exactly where the name is not listed.
     pub fn class_number(&self, iri: &str) -> Option<u32>
         ensures { result ≡ position (bytes_eq iri.now) self.now.classes }
@@ -136,6 +158,13 @@ impl Ontology {
         self.roles.number(iri)
     }
 
+    /// The number of an individual. `None` exactly where the name is not listed.
+    pub fn individual_number(&self, iri: &str) -> Option<u32>
+        ensures { result ≡ position (bytes_eq iri.now) self.now.individuals }
+    {
+        self.individuals.number(iri)
+    }
+
     /// The number of the class whose IRI has these bytes, which may be no text. `None` exactly where none is listed.
     pub fn class_of_bytes(&self, iri: &[u8]) -> Option<u32>
         ensures { result ≡ position (bytes_eq iri.now) self.now.classes }
@@ -148,6 +177,13 @@ impl Ontology {
         ensures { result ≡ position (bytes_eq iri.now) self.now.roles }
     {
         self.roles.number_of_bytes(iri)
+    }
+
+    /// The number of the individual whose IRI has these bytes, which may be no text. `None` exactly where none is listed.
+    pub fn individual_of_bytes(&self, iri: &[u8]) -> Option<u32>
+        ensures { result ≡ position (bytes_eq iri.now) self.now.individuals }
+    {
+        self.individuals.number_of_bytes(iri)
     }
 
     /// The number of a class. A listed name keeps its number, and a new name goes last.
@@ -180,6 +216,21 @@ impl Ontology {
         self.roles.add(iri, MAX_ROLES)
     }
 
+    /// The number of an individual. A listed name keeps its number, and a new name goes last.
+    ///
+    /// # Errors
+    ///
+    /// `Full` exactly where the name is new and `MAX_INDIVIDUALS` names are listed; `NoMemory`.
+    pub fn add_individual(&mut self, iri: &str) -> Result<u32, AddFault>
+        ensures number { IfOk result (λ k. k ≡ number_of self.old.individuals iri.now) }
+        ensures added { OnOk result (self.new ≡ record self.old { individuals = with_name self.old.individuals iri.now }) }
+        ensures within { length self.new.individuals ≤ MAX_INDIVIDUALS }
+        ensures unchanged { OnErr result (self.new ≡ self.old) }
+        ensures full { (result ≡ Err AddFault.Full) ↔ HasNoRoomFor MAX_INDIVIDUALS self.old.individuals iri.now }
+    {
+        self.individuals.add(iri, MAX_INDIVIDUALS)
+    }
+
     /// Puts an axiom last and answers its number. The axiom uses listed names alone.
     ///
     /// # Errors
@@ -187,7 +238,7 @@ impl Ontology {
     /// `Full` exactly where there are `MAX_AXIOMS` axioms; `NoMemory`. The axiom is dropped then.
     #[tactic(auto, using(crate::proofs::Uses::all_use_push))]
     pub fn add_axiom(&mut self, axiom: Axiom, line: u32) -> Result<u32, AddFault>
-        requires { IsTrue (axiom_uses_listed (length self.old.classes) (length self.old.roles) «axiom») }
+        requires { IsTrue (axiom_uses_listed (length self.old.classes) (length self.old.roles) (length self.old.individuals) «axiom») }
         ensures number { IfOk result (λ n. n ≡ length self.old.axioms + 1) }
         ensures added { OnOk result (self.new ≡ with_axiom self.old «axiom» line) }
         ensures unchanged { OnErr result (self.new ≡ self.old) }
@@ -202,15 +253,18 @@ impl Ontology {
         Ok(self.axioms.len() as u32)
     }
 
-    /// Keeps the first `classes` class names and the first `roles` role names. No axiom uses a name that is cut.
+    /// Keeps the first `classes` class names, the first `roles` role names and the first `individuals` names of
+    /// individuals. No axiom uses a name that is cut.
     #[tactic(auto, using(crate::proofs::Distinct::taken_distinct))]
-    pub fn cut_names(&mut self, classes: u32, roles: u32)
+    pub fn cut_names(&mut self, classes: u32, roles: u32, individuals: u32)
         requires classes { classes ≤ length self.old.classes }
         requires roles { roles ≤ length self.old.roles }
-        requires unused { IsTrue (all_use_listed classes roles self.old.axioms) }
-        ensures { self.new ≡ with_names_cut self.old classes roles }
+        requires individuals { individuals ≤ length self.old.individuals }
+        requires unused { IsTrue (all_use_listed classes roles individuals self.old.axioms) }
+        ensures { self.new ≡ with_names_cut self.old classes roles individuals }
     {
         self.classes.truncate(classes);
         self.roles.truncate(roles);
+        self.individuals.truncate(individuals);
     }
 }
