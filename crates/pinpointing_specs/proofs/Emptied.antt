@@ -8,22 +8,25 @@ use Rattle.std.proofs.lemmas.List.Folds.{list_all-append}
 use Rattle.std.proofs.lemmas.List.Sums.{sum_by-cons}
 use Rattle.shq_terms.specs.Concept.{Concept, top, bottom, name, complement, intersection, union, some_of, all_of, at_least, at_most, exactly, Parts, no_parts, part, parts_of}
 use Rattle.shq_terms.specs.declared.axioms.Axiom.{Axiom}
-use Rattle.shq_terms.specs.declared.axioms.Axiom.TheVariants.{SubClassOf, EquivalentClasses, DisjointClasses, DisjointUnion, SubRole, EquivalentRoles, Domain, Range, Functional, Transitive}
+use Rattle.shq_terms.specs.declared.axioms.Axiom.TheVariants.{SubClassOf, EquivalentClasses, DisjointClasses, DisjointUnion, SubRole, EquivalentRoles, Domain, Range, Functional, Transitive, Member, Pair, SameAll, Different}
+use Rattle.shq_terms.specs.declared.axioms.On.{On}
+use Rattle.shq_terms.specs.declared.axioms.On.TheVariants.{Any, Individual}
 use Rattle.shq_terms.specs.declared.axioms.Query.{Query}
 use Rattle.shq_meaning.specs.Below.{all_below, count_below}
-use Rattle.shq_meaning.specs.Truth.{Interpretation, implies, same, successors, each_successor, holds, hold_all, hold_any, all_same, none_twice, included, out_degree, meets, refutes_at}
+use Rattle.shq_meaning.specs.Truth.{Interpretation, implies, same, successors, each_successor, holds, hold_all, hold_any, all_same, none_twice, included, out_degree, differs_from_all, are_different, meets, is_asked_at, refutes_at}
 use Rattle.shq_meaning.proofs.Implied.{implies_false, implies_true}
 use Rattle.pinpointing_specs.specs.declared.module_laws.Name.{Name}
 use Rattle.pinpointing_specs.specs.declared.module_laws.Name.TheVariants.{Class, Role}
 use Rattle.pinpointing_specs.specs.Signature.{concept_names, parts_names, axiom_names, query_names}
 use Rattle.pinpointing_specs.specs.Local.{is_void, is_whole, some_void, all_void, some_whole, all_whole, count_not_void, is_local}
 
--- the same elements, and no class or role outside has a member
+-- the same elements and individuals, and no class or role outside has a member
 abbrev pub emptied : (Name → Bool) → Interpretation → Interpretation
 emptied inside i = record {
   size = i.size;
   in_class = λ a x. inside (Class a) && i.in_class a x;
   in_role = λ r x y. inside (Role r) && i.in_role r x y;
+  individual = i.individual;
 }
 
 -- ---- tests of the numbers below a bound
@@ -221,6 +224,10 @@ module _ (inside : Name → Bool) (i : Interpretation) where
       all_each i.size (λ x. all_below i.size (λ y. implies (e.in_role r x y) (all_below i.size (λ z. implies (e.in_role r y z) (e.in_role r x z)))))
       (λ x. all_each i.size (λ y. implies (e.in_role r x y) (all_below i.size (λ z. implies (e.in_role r y z) (e.in_role r x z))))
       (λ y. implies_false (e.in_role r x y) (all_below i.size (λ z. implies (e.in_role r y z) (e.in_role r x z))) (no_pair r x y h)))
+  local_is_met (Member c a) h = absurd (true≢false (sym h))
+  local_is_met (Pair r a b) h = absurd (true≢false (sym h))
+  local_is_met (SameAll as_) h = absurd (true≢false (sym h))
+  local_is_met (Different as_) h = absurd (true≢false (sym h))
 
   -- ---- what has no name outside
 
@@ -297,6 +304,11 @@ module _ (inside : Name → Bool) (i : Interpretation) where
       let rest = same_equal r h ss both.1 in
       λ j. (f j && g j) && rest j
 
+  -- the individuals are the same elements
+  same_different : (as_ : List ℕ) → are_different e as_ ≡ are_different i as_
+  same_different [] = refl
+  same_different (a ∷ as_) = ap (λ b. differs_from_all i a as_ && b) (same_different as_)
+
   pub same_met : (a : Axiom) → list_all inside (axiom_names a) ≡ true → meets e a ≡ meets i a
   same_met (SubClassOf c d) h =
       let both = split (concept_names c) (concept_names d) h in
@@ -335,10 +347,21 @@ module _ (inside : Name → Bool) (i : Interpretation) where
   same_met (Transitive r) h =
       let f = same_role r (and_parts (inside (Role r)) true h).0 in
       λ j. all_below i.size (λ x. all_below i.size (λ y. implies (f j x y) (all_below i.size (λ z. implies (f j y z) (f j x z)))))
+  same_met (Member c a) h = let f = same_truth c h in λ j. f j (i.individual a)
+  same_met (Pair r a b) h =
+      let f = same_role r (and_parts (inside (Role r)) true h).0 in
+      λ j. f j (i.individual a) (i.individual b)
+  same_met (SameAll as_) h = refl
+  same_met (Different as_) h = same_different as_
+
+  same_asked : (on : On) (x : ℕ) → is_asked_at e on x ≡ is_asked_at i on x
+  same_asked Any x = refl
+  same_asked (Individual a) x = refl
 
   pub same_refuted : (q : Query) → list_all inside (query_names q) ≡ true → (x : ℕ) → refutes_at e q x ≡ refutes_at i q x
   same_refuted q h x =
       let both = split (concept_names q.sub) (concept_names q.sup) h in
       let f = same_truth q.sub both.0 in
       let g = same_truth q.sup both.1 in
-      λ j. f j x && not (g j x)
+      let asked = same_asked q.on x in
+      λ j. asked j && (f j x && not (g j x))

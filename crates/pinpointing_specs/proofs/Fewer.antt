@@ -8,7 +8,7 @@ use Rattle.std.proofs.lemmas.List.Sums.{sum_by-cons}
 use Rattle.shq_terms.specs.Concept.{Concept, top, bottom, name, complement, intersection, union, some_of, all_of, at_least, at_most, exactly, Parts, no_parts, part, parts_of}
 use Rattle.shq_terms.proofs.Bools.{or_weaker, and_weaker}
 use Rattle.shq_terms.specs.declared.axioms.Axiom.{Axiom}
-use Rattle.shq_terms.specs.declared.axioms.Axiom.TheVariants.{SubClassOf, EquivalentClasses, DisjointClasses, DisjointUnion, SubRole, EquivalentRoles, Domain, Range, Functional, Transitive}
+use Rattle.shq_terms.specs.declared.axioms.Axiom.TheVariants.{SubClassOf, EquivalentClasses, DisjointClasses, DisjointUnion, SubRole, EquivalentRoles, Domain, Range, Functional, Transitive, Member, Pair, SameAll, Different}
 use Rattle.shq_meaning.specs.Truth.{implies}
 use Rattle.pinpointing_specs.specs.declared.module_laws.Name.{Name}
 use Rattle.pinpointing_specs.specs.declared.module_laws.Name.TheVariants.{Class, Role}
@@ -134,3 +134,7 @@ module _ (less more : Name → Bool) where
   local_stays (Range r c) h k = all_stays r c (whole_stays c) h k
   local_stays (Functional r) h k = role_stays r [] h k
   local_stays (Transitive r) h k = role_stays r [] h k
+  local_stays (Member c a) h k = k
+  local_stays (Pair r a b) h k = k
+  local_stays (SameAll as_) h k = k
+  local_stays (Different as_) h k = k

@@ -44,13 +44,13 @@ module _ (axioms : List Numbered) (q : Query) (m : NumberSet) (is_module : IsLoc
           (sym (is_module.closed at.place at.numbered at.is_there (ap (is_local inside) at.is ∙ other)) ∙ member)))
 
   pub keeps : (s : NumberSet) → FollowsFrom axioms q s → FollowsFrom axioms q (set.intersection s m)
-  keeps s follows i some met x lt =
-      sym (same_refuted inside i q (names_of_query axioms q m) x) ∙ follows (emptied inside i) some (all_met s i met) x lt
+  keeps s follows i some placed met x lt =
+      sym (same_refuted inside i q (names_of_query axioms q m) x) ∙ follows (emptied inside i) some placed (all_met s i met) x lt
 
 -- what follows from axioms of a set follows from those of a larger one
 pub grows : (axioms : List Numbered) (q : Query) (s t : NumberSet) → IsPart s t → FollowsFrom axioms q s → FollowsFrom axioms q t
-grows axioms q s t part follows i some met =
-    follows i some
+grows axioms q s t part follows i some placed met =
+    follows i some placed
     (all_pass (meets i) (axioms_in_set s axioms)
     (λ a listed.
     let at = in_set s axioms a listed in

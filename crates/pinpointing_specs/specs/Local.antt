@@ -5,7 +5,7 @@ use Rattle.std.specs.Prelude.{ℕ, Bool, true, false, not, ◌&&◌, ◌||◌, n
 use Rattle.std.specs.List.{list_all}
 use Rattle.shq_terms.specs.Concept.{Concept, top, bottom, name, complement, intersection, union, some_of, all_of, at_least, at_most, exactly, Parts, no_parts, part, parts_of}
 use Rattle.shq_terms.specs.declared.axioms.Axiom.{Axiom}
-use Rattle.shq_terms.specs.declared.axioms.Axiom.TheVariants.{SubClassOf, EquivalentClasses, DisjointClasses, DisjointUnion, SubRole, EquivalentRoles, Domain, Range, Functional, Transitive}
+use Rattle.shq_terms.specs.declared.axioms.Axiom.TheVariants.{SubClassOf, EquivalentClasses, DisjointClasses, DisjointUnion, SubRole, EquivalentRoles, Domain, Range, Functional, Transitive, Member, Pair, SameAll, Different}
 use Rattle.pinpointing_specs.specs.declared.module_laws.Name.{Name}
 use Rattle.pinpointing_specs.specs.declared.module_laws.Name.TheVariants.{Class, Role}
 
@@ -58,7 +58,7 @@ abbrev mutual
 abbrev pub count_not_void : (Name → Bool) → List Concept → ℕ
 count_not_void inside cs = count_by (λ c. not (is_void inside c)) cs
 
--- the axiom is local for the signature
+-- the axiom is local for the signature; an assertion never is, since emptied names leave the individuals as they are
 abbrev pub is_local : (Name → Bool) → Axiom → Bool
 is_local inside (SubClassOf c d) = is_void inside c || is_whole inside d
 is_local inside (EquivalentClasses cs) = all_void inside (parts_of cs) || all_whole inside (parts_of cs)
@@ -70,3 +70,7 @@ is_local inside (Domain r c) = not (inside (Role r)) || is_whole inside c
 is_local inside (Range r c) = not (inside (Role r)) || is_whole inside c
 is_local inside (Functional r) = not (inside (Role r))
 is_local inside (Transitive r) = not (inside (Role r))
+is_local inside (Member c a) = false
+is_local inside (Pair r a b) = false
+is_local inside (SameAll as_) = false
+is_local inside (Different as_) = false

@@ -1,9 +1,10 @@
--- The signature of class expressions, axioms and queries: the names of classes and roles that stand in them.
+-- The signature of class expressions, axioms and queries: the names of classes and roles that stand in them. Individuals
+-- are no part of it.
 use Rattle.std.specs.Prelude.{Bool, false, eqb, List, [], ◌∷◌, ◌++◌, map}
 use Rattle.std.specs.List.{list_any}
 use Rattle.shq_terms.specs.Concept.{Concept, top, bottom, name, complement, intersection, union, some_of, all_of, at_least, at_most, exactly, Parts, no_parts, part, parts_of}
 use Rattle.shq_terms.specs.declared.axioms.Axiom.{Axiom}
-use Rattle.shq_terms.specs.declared.axioms.Axiom.TheVariants.{SubClassOf, EquivalentClasses, DisjointClasses, DisjointUnion, SubRole, EquivalentRoles, Domain, Range, Functional, Transitive}
+use Rattle.shq_terms.specs.declared.axioms.Axiom.TheVariants.{SubClassOf, EquivalentClasses, DisjointClasses, DisjointUnion, SubRole, EquivalentRoles, Domain, Range, Functional, Transitive, Member, Pair, SameAll, Different}
 use Rattle.shq_terms.specs.declared.axioms.Query.{Query}
 use Rattle.pinpointing_specs.specs.declared.module_laws.Name.{Name}
 use Rattle.pinpointing_specs.specs.declared.module_laws.Name.TheVariants.{Class, Role}
@@ -49,6 +50,10 @@ axiom_names (Domain r c) = Role r ∷ concept_names c
 axiom_names (Range r c) = Role r ∷ concept_names c
 axiom_names (Functional r) = Role r ∷ []
 axiom_names (Transitive r) = Role r ∷ []
+axiom_names (Member c a) = concept_names c
+axiom_names (Pair r a b) = Role r ∷ []
+axiom_names (SameAll as_) = []
+axiom_names (Different as_) = []
 
 abbrev pub query_names : Query → List Name
 query_names q = concept_names q.sub ++ concept_names q.sup
