@@ -4,7 +4,7 @@ use Rattle.std.specs.Prelude.{slice_get, nat_lt}
 use Rattle.std.specs.List.{list_all}
 use Rattle.std.proofs.lemmas.Bool.{and_parts, ltb-true}
 use Rattle.shq_terms.specs.declared.axioms.Axiom.{Axiom}
-use Rattle.shq_terms.specs.declared.axioms.Axiom.TheVariants.{SubClassOf, EquivalentClasses, DisjointClasses, DisjointUnion, SubRole, EquivalentRoles, Domain, Range, Functional, Transitive}
+use Rattle.shq_terms.specs.declared.axioms.Axiom.TheVariants.{SubClassOf, EquivalentClasses, DisjointClasses, DisjointUnion, SubRole, EquivalentRoles, Domain, Range, Functional, Transitive, Member, Pair, SameAll, Different}
 use Rattle.shq_terms.specs.declared.axioms.Numbered.{Numbered}
 use Rattle.shq_terms.specs.Uses.{axiom_uses_listed, all_use_listed}
 use Rattle.role_box.specs.declared.role_axiom.RoleAxiom.{RoleAxiom}
@@ -42,44 +42,48 @@ all_within (r ∷ rs) n h =
     let rest = all_within rs n parts.1 in
     omega arith
 
-part_within : (classes roles : ℕ) (a : Axiom) → axiom_uses_listed classes roles a ≡ true → role_limit (role_part a) ≤ roles
-part_within classes roles (SubClassOf c d) h = omega arith
-part_within classes roles (EquivalentClasses cs) h = omega arith
-part_within classes roles (DisjointClasses cs) h = omega arith
-part_within classes roles (DisjointUnion c cs) h = omega arith
-part_within classes roles (SubRole r s) h =
+part_within : (classes roles individuals : ℕ) (a : Axiom) → axiom_uses_listed classes roles individuals a ≡ true → role_limit (role_part a) ≤ roles
+part_within classes roles individuals (SubClassOf c d) h = omega arith
+part_within classes roles individuals (EquivalentClasses cs) h = omega arith
+part_within classes roles individuals (DisjointClasses cs) h = omega arith
+part_within classes roles individuals (DisjointUnion c cs) h = omega arith
+part_within classes roles individuals (SubRole r s) h =
     let parts = and_parts (nat_lt r roles) (nat_lt s roles) h in
     let lower = ltb-true r roles parts.0 in
     let upper = ltb-true s roles parts.1 in
     omega arith
-part_within classes roles (EquivalentRoles rs) h = let within = all_within rs roles h in omega arith
-part_within classes roles (Domain r c) h = omega arith
-part_within classes roles (Range r c) h = omega arith
-part_within classes roles (Functional r) h = omega arith
-part_within classes roles (Transitive r) h = let within = ltb-true r roles h in omega arith
+part_within classes roles individuals (EquivalentRoles rs) h = let within = all_within rs roles h in omega arith
+part_within classes roles individuals (Domain r c) h = omega arith
+part_within classes roles individuals (Range r c) h = omega arith
+part_within classes roles individuals (Functional r) h = omega arith
+part_within classes roles individuals (Transitive r) h = let within = ltb-true r roles h in omega arith
+part_within classes roles individuals (Member c a) h = omega arith
+part_within classes roles individuals (Pair r a b) h = omega arith
+part_within classes roles individuals (SameAll as_) h = omega arith
+part_within classes roles individuals (Different as_) h = omega arith
 
-part_at_within : (classes roles : ℕ) (axioms : List Numbered) (k : ℕ) → all_use_listed classes roles axioms ≡ true → role_limit (role_part_at (slice_get axioms k)) ≤ roles
-part_at_within classes roles [] k h = omega arith
-part_at_within classes roles (a ∷ as_) zero h = part_within classes roles a.axiom (and_parts (axiom_uses_listed classes roles a.axiom) (all_use_listed classes roles as_) h).0
-part_at_within classes roles (a ∷ as_) (suc k) h = part_at_within classes roles as_ k (and_parts (axiom_uses_listed classes roles a.axiom) (all_use_listed classes roles as_) h).1
+part_at_within : (classes roles individuals : ℕ) (axioms : List Numbered) (k : ℕ) → all_use_listed classes roles individuals axioms ≡ true → role_limit (role_part_at (slice_get axioms k)) ≤ roles
+part_at_within classes roles individuals [] k h = omega arith
+part_at_within classes roles individuals (a ∷ as_) zero h = part_within classes roles individuals a.axiom (and_parts (axiom_uses_listed classes roles individuals a.axiom) (all_use_listed classes roles individuals as_) h).0
+part_at_within classes roles individuals (a ∷ as_) (suc k) h = part_at_within classes roles individuals as_ k (and_parts (axiom_uses_listed classes roles individuals a.axiom) (all_use_listed classes roles individuals as_) h).1
 
 role_limit-append : (as_ bs : List RoleAxiom) → role_limit (as_ ++ bs) ≡ max (role_limit as_) (role_limit bs)
 role_limit-append [] bs = omega arith
 role_limit-append (a ∷ as_) bs = let e = role_limit-append as_ bs in omega arith
 
-pub collected_within : (classes roles : ℕ) (axioms : List Numbered) (only : List ℕ) → all_use_listed classes roles axioms ≡ true → role_limit (role_axioms axioms only) ≤ roles
-collected_within classes roles axioms [] h = omega arith
-collected_within classes roles axioms (k ∷ ks) h =
-    let first = part_at_within classes roles axioms (k - 1) h in
-    let rest = collected_within classes roles axioms ks h in
+pub collected_within : (classes roles individuals : ℕ) (axioms : List Numbered) (only : List ℕ) → all_use_listed classes roles individuals axioms ≡ true → role_limit (role_axioms axioms only) ≤ roles
+collected_within classes roles individuals axioms [] h = omega arith
+collected_within classes roles individuals axioms (k ∷ ks) h =
+    let first = part_at_within classes roles individuals axioms (k - 1) h in
+    let rest = collected_within classes roles individuals axioms ks h in
     let e = role_limit-append (role_part_at (slice_get axioms (k - 1))) (role_axioms axioms ks) in
     omega arith
 
-pub found_within : (classes roles : ℕ) (axioms all : List Numbered) (only : List ℕ) (found rest : List RoleAxiom) → all ≡ axioms → all_use_listed classes roles axioms ≡ true
+pub found_within : (classes roles individuals : ℕ) (axioms all : List Numbered) (only : List ℕ) (found rest : List RoleAxiom) → all ≡ axioms → all_use_listed classes roles individuals axioms ≡ true
     → found ++ rest ≡ role_axioms all only → role_limit found ≤ roles
-found_within classes roles axioms all only found rest same listed e =
-    let listed' : all_use_listed classes roles all ≡ true = ap (all_use_listed classes roles) same ∙ listed in
-    let within = collected_within classes roles all only listed' in
+found_within classes roles individuals axioms all only found rest same listed e =
+    let listed' : all_use_listed classes roles individuals all ≡ true = ap (all_use_listed classes roles individuals) same ∙ listed in
+    let within = collected_within classes roles individuals all only listed' in
     let whole : role_limit (found ++ rest) ≡ role_limit (role_axioms all only) = ap role_limit e in
     let parts = role_limit-append found rest in
     omega arith

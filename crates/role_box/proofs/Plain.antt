@@ -5,7 +5,7 @@ use Rattle.std.specs.List.{list_any, range_with_len}
 use Rattle.std.proofs.lemmas.Bool.{or_parts}
 use Rattle.std.proofs.lemmas.List.Folds.{list_any-append}
 use Rattle.shq_terms.specs.declared.axioms.Axiom.{Axiom}
-use Rattle.shq_terms.specs.declared.axioms.Axiom.TheVariants.{SubClassOf, EquivalentClasses, DisjointClasses, DisjointUnion, SubRole, EquivalentRoles, Domain, Range, Functional, Transitive}
+use Rattle.shq_terms.specs.declared.axioms.Axiom.TheVariants.{SubClassOf, EquivalentClasses, DisjointClasses, DisjointUnion, SubRole, EquivalentRoles, Domain, Range, Functional, Transitive, Member, Pair, SameAll, Different}
 use Rattle.shq_terms.specs.declared.axioms.Numbered.{Numbered}
 use Rattle.role_box.specs.declared.role_axiom.RoleAxiom.{RoleAxiom}
 use Rattle.role_box.specs.RoleAxioms.{role_part, role_part_at, role_axioms}
@@ -25,6 +25,10 @@ part_plain (Domain r c) t h = refl
 part_plain (Range r c) t h = refl
 part_plain (Functional r) t h = refl
 part_plain (Transitive r) t h = let clash : true ≡ false = h in absurd (cc clash)
+part_plain (Member c a) t h = refl
+part_plain (Pair r a b) t h = refl
+part_plain (SameAll as_) t h = refl
+part_plain (Different as_) t h = refl
 
 abbrev has_transitivity : List Numbered → Bool
 has_transitivity axioms = list_any (λ n. is_transitivity n.axiom) axioms

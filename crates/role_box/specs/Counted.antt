@@ -2,7 +2,7 @@
 use Rattle.std.specs.Prelude.{ℕ, List, [], ◌∷◌, ◌++◌}
 use Rattle.shq_terms.specs.Concept.{Concept, top, bottom, name, complement, intersection, union, some_of, all_of, at_least, at_most, exactly, Parts, no_parts, part, parts_of}
 use Rattle.shq_terms.specs.declared.axioms.Axiom.{Axiom}
-use Rattle.shq_terms.specs.declared.axioms.Axiom.TheVariants.{SubClassOf, EquivalentClasses, DisjointClasses, DisjointUnion, SubRole, EquivalentRoles, Domain, Range, Functional, Transitive}
+use Rattle.shq_terms.specs.declared.axioms.Axiom.TheVariants.{SubClassOf, EquivalentClasses, DisjointClasses, DisjointUnion, SubRole, EquivalentRoles, Domain, Range, Functional, Transitive, Member, Pair, SameAll, Different}
 use Rattle.shq_terms.specs.declared.axioms.Query.{Query}
 
 -- the roles of the cardinalities in a class expression, at any depth and whatever their numbers are
@@ -36,6 +36,10 @@ counted_by (Domain r c) = counted_roles c
 counted_by (Range r c) = counted_roles c
 counted_by (Functional r) = r ∷ []
 counted_by (Transitive r) = []
+counted_by (Member c a) = counted_roles c
+counted_by (Pair r a b) = []
+counted_by (SameAll as_) = []
+counted_by (Different as_) = []
 
 abbrev pub counted_by_query : Query → List ℕ
 counted_by_query q = counted_roles q.sub ++ counted_roles q.sup

@@ -1,7 +1,7 @@
 -- What the axioms of some numbers say of roles alone.
 use Rattle.std.specs.Prelude.{ℕ, ◌-◌, List, [], ◌∷◌, ◌++◌, Option, None, Some, slice_get}
 use Rattle.shq_terms.specs.declared.axioms.Axiom.{Axiom}
-use Rattle.shq_terms.specs.declared.axioms.Axiom.TheVariants.{SubClassOf, EquivalentClasses, DisjointClasses, DisjointUnion, SubRole, EquivalentRoles, Domain, Range, Functional, Transitive}
+use Rattle.shq_terms.specs.declared.axioms.Axiom.TheVariants.{SubClassOf, EquivalentClasses, DisjointClasses, DisjointUnion, SubRole, EquivalentRoles, Domain, Range, Functional, Transitive, Member, Pair, SameAll, Different}
 use Rattle.shq_terms.specs.declared.axioms.Numbered.{Numbered}
 use Rattle.role_box.specs.declared.role_axiom.RoleAxiom.{RoleAxiom}
 use Rattle.role_box.specs.declared.role_axiom.RoleAxiom.TheVariants.{Inclusion, Equivalence, Transitivity}
@@ -18,6 +18,10 @@ role_part (Domain r c) = []
 role_part (Range r c) = []
 role_part (Functional r) = []
 role_part (Transitive r) = Transitivity r ∷ []
+role_part (Member c a) = []
+role_part (Pair r a b) = []
+role_part (SameAll as_) = []
+role_part (Different as_) = []
 
 abbrev pub role_part_at : Option Numbered → List RoleAxiom
 role_part_at None = []

@@ -3,7 +3,7 @@ use Rattle.std.specs.Prelude.{◌≡◌, ℕ, Bool, true, false, ◌&&◌, not, 
 use Rattle.std.specs.List.{list_all, find, range_with_len}
 use Rattle.std.specs.Option.{option_map}
 use Rattle.shq_terms.specs.declared.axioms.Axiom.{Axiom}
-use Rattle.shq_terms.specs.declared.axioms.Axiom.TheVariants.{Transitive}
+use Rattle.shq_terms.specs.declared.axioms.Axiom.TheVariants.{SubClassOf, EquivalentClasses, DisjointClasses, DisjointUnion, SubRole, EquivalentRoles, Domain, Range, Functional, Transitive, Member, Pair, SameAll, Different}
 use Rattle.shq_terms.specs.declared.axioms.Numbered.{Numbered}
 use Rattle.role_box.specs.declared.role_axiom.RoleAxiom.{RoleAxiom}
 use Rattle.role_box.specs.RoleAxioms.{role_axioms}
@@ -42,8 +42,20 @@ are_simple_by axioms rs = are_simple (all_role_axioms axioms) rs
 -- ---- what a function is given of the roles
 
 abbrev pub is_transitivity : Axiom → Bool
+is_transitivity (SubClassOf c d) = false
+is_transitivity (EquivalentClasses cs) = false
+is_transitivity (DisjointClasses cs) = false
+is_transitivity (DisjointUnion c cs) = false
+is_transitivity (SubRole r s) = false
+is_transitivity (EquivalentRoles rs) = false
+is_transitivity (Domain r c) = false
+is_transitivity (Range r c) = false
+is_transitivity (Functional r) = false
 is_transitivity (Transitive r) = true
-is_transitivity _ = false
+is_transitivity (Member c a) = false
+is_transitivity (Pair r a b) = false
+is_transitivity (SameAll as_) = false
+is_transitivity (Different as_) = false
 
 -- the role axioms of an ontology, or nothing where they make no role transitive: each role is simple then
 abbrev pub AreRolesOf : List Numbered → Option (List RoleAxiom) → Type 0

@@ -64,8 +64,11 @@ pub(crate) fn axiom_counts_simple(roles: &RoleBox, axiom: &Axiom) -> bool
         Axiom::DisjointUnion(class, classes) => {
             class_counts_simple(roles, class) && all_count_simple(roles, classes.items())
         }
-        Axiom::Domain(_, class) | Axiom::Range(_, class) => class_counts_simple(roles, class),
+        Axiom::Domain(_, class) | Axiom::Range(_, class) | Axiom::Member(class, _) => {
+            class_counts_simple(roles, class)
+        }
         Axiom::Functional(role) => is_simple(roles, *role),
         Axiom::SubRole(_, _) | Axiom::EquivalentRoles(_) | Axiom::Transitive(_) => true,
+        Axiom::Pair(_, _, _) | Axiom::SameAll(_) | Axiom::Different(_) => true,
     }
 }

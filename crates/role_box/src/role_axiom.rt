@@ -50,7 +50,17 @@ fn push_role_axiom(alloc: Global, found: &mut Vec<RoleAxiom>, axiom: &Axiom) -> 
             )
         }
         Axiom::Transitive(role) => push_item(found, RoleAxiom::Transitivity(*role)),
-        _ => Ok(()),
+        Axiom::SubClassOf(_, _)
+        | Axiom::EquivalentClasses(_)
+        | Axiom::DisjointClasses(_)
+        | Axiom::DisjointUnion(_, _)
+        | Axiom::Domain(_, _)
+        | Axiom::Range(_, _)
+        | Axiom::Functional(_)
+        | Axiom::Member(_, _)
+        | Axiom::Pair(_, _, _)
+        | Axiom::SameAll(_)
+        | Axiom::Different(_) => Ok(()),
     }
 }
 

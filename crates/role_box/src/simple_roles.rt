@@ -15,7 +15,19 @@ fn is_transitivity(axiom: &Axiom) -> bool
 {
     match axiom {
         Axiom::Transitive(_) => true,
-        _ => false,
+        Axiom::SubRole(_, _)
+        | Axiom::EquivalentRoles(_)
+        | Axiom::SubClassOf(_, _)
+        | Axiom::EquivalentClasses(_)
+        | Axiom::DisjointClasses(_)
+        | Axiom::DisjointUnion(_, _)
+        | Axiom::Domain(_, _)
+        | Axiom::Range(_, _)
+        | Axiom::Functional(_)
+        | Axiom::Member(_, _)
+        | Axiom::Pair(_, _, _)
+        | Axiom::SameAll(_)
+        | Axiom::Different(_) => false,
     }
 }
 
