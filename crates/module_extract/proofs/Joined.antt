@@ -15,8 +15,6 @@ use Rattle.axiom_sets.specs.Sets.{Limited, IsWithin}
 use Rattle.shq_terms.specs.declared.axioms.Axiom.{Axiom}
 use Rattle.shq_terms.specs.declared.axioms.Numbered.{Numbered}
 use Rattle.shq_terms.specs.declared.axioms.Query.{Query}
-use Rattle.shq_terms.specs.Uses.{all_use_listed}
-use Rattle.shq_meaning.specs.Truth.{implies}
 use Rattle.shq_meaning.proofs.Members.{all_pass}
 use Rattle.shq_meaning.proofs.Implied.{implies_from}
 use Rattle.pinpointing_specs.specs.declared.module_laws.Name.{Name}
@@ -29,7 +27,7 @@ use Rattle.pinpointing_specs.proofs.Fewer.{is_kept, local_stays}
 use Rattle.module_extract.specs.declared.marks.Marks.{Marks}
 use Rattle.module_extract.specs.declared.growth.Growth.{Growth}
 use Rattle.module_extract.specs.Marks.{is_marked, has_place, IsUnmarked}
-use Rattle.module_extract.specs.Users.{IsIndex, places_of}
+use Rattle.module_extract.specs.Users.{all_listed, IsIndex, places_of}
 use Rattle.module_extract.specs.declared.users.Users.{Users}
 use Rattle.module_extract.specs.Growth.{is_settled, HasTaken, HasJoined, GrowsFrom, HasLooked, StaysGrowing, FirstSettled, AllSettled}
 use Rattle.module_extract.proofs.Taken.{same_places}
@@ -106,7 +104,7 @@ module _ (axioms : List Numbered) (old new : Growth) (place : ℕ) (a : Numbered
 
   goes_on : is_local (is_marked old.marks) a.axiom ≡ false → StaysGrowing axioms old new
   goes_on open_ q h = record {
-    listed = (λ j. all_use_listed (joined.names.marks.same_classes j) (joined.names.marks.same_roles j) axioms) ∙ h.listed;
+    listed = (λ j. all_listed (joined.names.marks.same_classes j) (joined.names.marks.same_roles j) axioms) ∙ h.listed;
     least = least;
     marked_is_name = marked_is_name;
     name_is_marked = λ n among placed. name_is_marked n among (sym (same_places old.marks new.marks (axiom_names a.axiom) joined.names.marks n) ∙ placed);
@@ -242,9 +240,9 @@ places_within axioms u name ps index is k d lt =
 -- ---- the beginning and the end
 
 pub starts : (axioms : List Numbered) (q : Query) (classes roles : ℕ) (m : Marks) (g : Growth) (waited ns : List Name) → IsUnmarked classes roles m → ns ≡ query_names q → HasTaken m g.marks waited g.pending.items ns
-    → g.members.members ≡ set.empty → all_use_listed classes roles axioms ≡ true → GrowsFrom axioms q g
+    → g.members.members ≡ set.empty → all_listed classes roles axioms ≡ true → GrowsFrom axioms q g
 starts axioms q classes roles m g waited ns none are taken empty listed = record {
-  listed = (λ j. all_use_listed ((taken.marks.same_classes ∙ none.classes_listed) j) ((taken.marks.same_roles ∙ none.roles_listed) j) axioms) ∙ listed;
+  listed = (λ j. all_listed ((taken.marks.same_classes ∙ none.classes_listed) j) ((taken.marks.same_roles ∙ none.roles_listed) j) axioms) ∙ listed;
   least = λ t closed k member. absurd (true≢false (sym member ∙ no_member k));
   marked_is_name = λ n marked.
       among_left (query_names q) (flat_map axiom_names (axioms_in_set g.members.members axioms)) n

@@ -6,13 +6,13 @@ use Rattle.lane_sieve.specs.Sets.{NumberSet, IsPart}
 use Rattle.shq_terms.specs.declared.axioms.Axiom.{Axiom}
 use Rattle.shq_terms.specs.declared.axioms.Numbered.{Numbered}
 use Rattle.shq_terms.specs.declared.axioms.Query.{Query}
-use Rattle.shq_terms.specs.Uses.{all_use_listed}
 use Rattle.pinpointing_specs.specs.declared.module_laws.Name.{Name}
 use Rattle.pinpointing_specs.specs.Signature.{is_among, axiom_names}
 use Rattle.pinpointing_specs.specs.Local.{is_local}
 use Rattle.pinpointing_specs.specs.LocalModule.{module_names, IsClosed}
 use Rattle.module_extract.specs.declared.marks.Marks.{Marks}
 use Rattle.module_extract.specs.Marks.{is_marked, has_place, unmarked, HasMarked}
+use Rattle.module_extract.specs.Users.{all_listed}
 use Rattle.module_extract.specs.declared.growth.Growth.{Growth}
 
 -- the axiom at a place needs no other look: it is in the module, or local for the names that came in, or has a name
@@ -39,7 +39,7 @@ pub record HasJoined (old new : Growth) (place : ℕ) (a : Axiom) : Type 0 where
 
 -- the axioms are part of each closed set, and the names of the query and of the axioms are those that came in
 pub record IsGrowing (axioms : List Numbered) (q : Query) (members : NumberSet) (marks : Marks) : Type 0 where
-  pub listed : all_use_listed (length marks.classes.items) (length marks.roles.items) axioms ≡ true
+  pub listed : all_listed (length marks.classes.items) (length marks.roles.items) axioms ≡ true
   pub least : (t : NumberSet) → IsClosed axioms q t → IsPart members t
   pub marked_is_name : (n : Name) → is_marked marks n ≡ true → is_among (module_names axioms q members) n ≡ true
   pub name_is_marked : (n : Name) → is_among (module_names axioms q members) n ≡ true → has_place marks n ≡ true → is_marked marks n ≡ true

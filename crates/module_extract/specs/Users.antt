@@ -1,12 +1,16 @@
 -- The axioms that use a name, by their places, which count from 0.
 use Rattle.std.specs.Prelude.{◌≡◌, ◌⊎◌, ℕ, ◌<◌, Bool, true, List, [], length, slice_get, slice_index_or, Some}
-use Rattle.std.specs.List.{Contains}
+use Rattle.std.specs.List.{Contains, list_all}
 use Rattle.shq_terms.specs.declared.axioms.Numbered.{Numbered}
 use Rattle.pinpointing_specs.specs.declared.module_laws.Name.{Name}
 use Rattle.pinpointing_specs.specs.declared.module_laws.Name.TheVariants.{Class, Role}
 use Rattle.pinpointing_specs.specs.Signature.{is_among, axiom_names}
 use Rattle.module_extract.specs.declared.users.Users.{Users}
 use Rattle.module_extract.specs.Marks.{is_listed}
+
+-- the names in the signatures of all these axioms are listed, where so many classes and roles are
+abbrev pub all_listed : ℕ → ℕ → List Numbered → Bool
+all_listed classes roles axioms = list_all (λ (a : Numbered). list_all (is_listed classes roles) (axiom_names a.axiom)) axioms
 
 -- the places that are kept for the name
 abbrev pub places_of : Users → Name → List ℕ

@@ -15,6 +15,7 @@ use std::alloc::Global;
 /// # Errors
 ///
 /// `NoMemory` where the allocator refuses room for the index of names, for lists of names or for the module.
+#[tactic(auto, using(crate::proofs::Placed::names_listed))]
 pub fn module(alloc: Global, ontology: &Ontology, query: &Query) -> Result<AxiomSet, NoMemory>
     ensures limit { IfOk result (λ m. m.limit ≡ length ontology.now.axioms) }
     ensures module { IfOk result (λ m. IsLocalModule ontology.now.axioms query.now m.members) }

@@ -2,7 +2,6 @@
 ghost use Rattle.std.specs.Prelude.{◌≡◌, ℕ, ◌+◌, ◌<◌, ◌≤◌, IsTrue, IfOk, OnOk, length, [], ◌∷◌};
 ghost use Rattle.std.specs.List.{All};
 ghost use Rattle.axiom_sets.specs.Sets.{IsWithin};
-ghost use Rattle.shq_terms.specs.Uses.{all_use_listed};
 
 use crate::locality::is_local;
 use crate::marks::Marks;
@@ -23,7 +22,7 @@ pub(crate) struct Growth {
 }
 
 impl Growth {
-    ghost use Rattle.module_extract.specs.Users.{IsIndex};
+    ghost use Rattle.module_extract.specs.Users.{all_listed, IsIndex};
     ghost use Rattle.module_extract.specs.Growth.{HasTaken, HasJoined, GrowsFrom, HasLooked, StaysGrowing, AllSettled};
 
     /// No axioms, and the names of the query, among so many classes and roles.
@@ -34,7 +33,7 @@ impl Growth {
         axioms: &[Numbered],
         query: &Query,
     ) -> Result<Growth, NoMemory>
-        requires listed { IsTrue (all_use_listed classes roles axioms.now) }
+        requires listed { IsTrue (all_listed classes roles axioms.now) }
         requires small { length axioms.now ≤ MAX_AXIOMS }
         ensures growing { IfOk result (GrowsFrom axioms.now query.now) }
         ensures limit { IfOk result (λ g. g.members.limit ≡ length axioms.now) }

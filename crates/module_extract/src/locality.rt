@@ -144,5 +144,8 @@ pub(crate) fn is_local(marks: &Marks, axiom: &Axiom) -> bool
         Axiom::SubRole(role, _) | Axiom::Functional(role) | Axiom::Transitive(role) => {
             !marks.has_role(*role)
         }
+        Axiom::Member(_, _) | Axiom::Pair(_, _, _) | Axiom::SameAll(_) | Axiom::Different(_) => {
+            false
+        }
     }
 }

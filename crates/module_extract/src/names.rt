@@ -102,7 +102,11 @@ fn push_axiom(names: &mut Vec<Name>, axiom: &Axiom) -> Result<(), NoMemory>
         Axiom::Domain(role, class) | Axiom::Range(role, class) => {
             push_restriction(names, *role, class)
         }
-        Axiom::Functional(role) | Axiom::Transitive(role) => push_name(names, Name::Role(*role)),
+        Axiom::Functional(role) | Axiom::Transitive(role) | Axiom::Pair(role, _, _) => {
+            push_name(names, Name::Role(*role))
+        }
+        Axiom::Member(class, _) => push_concept(names, class),
+        Axiom::SameAll(_) | Axiom::Different(_) => Ok(()),
     }
 }
 

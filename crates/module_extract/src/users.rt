@@ -1,7 +1,6 @@
 // Which axioms use a name.
 ghost use Rattle.std.specs.Prelude.{◌≡◌, ◌<◌, ◌≤◌, ◌∷◌, [], ◌++◌, true, IfOk, OnOk, length, slice_index_or, slice_set, IsTrue, replicate};
 ghost use Rattle.std.specs.List.{list_all};
-ghost use Rattle.shq_terms.specs.Uses.{all_use_listed};
 
 use crate::names::axiom_names;
 use pinpointing_specs::Name;
@@ -16,7 +15,7 @@ pub(crate) struct Users {
 }
 
 impl Users {
-    ghost use Rattle.module_extract.specs.Users.{places_of, has_list, HasGained, IsIndex};
+    ghost use Rattle.module_extract.specs.Users.{all_listed, places_of, has_list, HasGained, IsIndex};
 
     /// The index of these axioms, which use names among so many classes and roles.
     pub(crate) fn new(
@@ -25,7 +24,7 @@ impl Users {
         roles: u32,
         axioms: &[Numbered],
     ) -> Result<Users, NoMemory>
-        requires listed { IsTrue (all_use_listed classes roles axioms.now) }
+        requires listed { IsTrue (all_listed classes roles axioms.now) }
         requires small { length axioms.now ≤ MAX_AXIOMS }
         ensures { IfOk result (IsIndex axioms.now (length axioms.now)) }
     {
