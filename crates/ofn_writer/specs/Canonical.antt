@@ -4,7 +4,7 @@ use Rattle.std.specs.Prelude.{ℕ, List, [], ◌∷◌, ◌++◌, codes, decimal
 use Rattle.shq_terms.specs.Concept.{Concept, top, bottom, name, complement, intersection, union, some_of, all_of, at_least, at_most, exactly, Parts, no_parts, part, parts_of}
 use Rattle.shq_terms.specs.Listed.{Listed}
 use Rattle.shq_terms.specs.declared.axioms.Axiom.{Axiom}
-use Rattle.shq_terms.specs.declared.axioms.Axiom.TheVariants.{SubClassOf, EquivalentClasses, DisjointClasses, DisjointUnion, SubRole, EquivalentRoles, Domain, Range, Functional, Transitive}
+use Rattle.shq_terms.specs.declared.axioms.Axiom.TheVariants.{SubClassOf, EquivalentClasses, DisjointClasses, DisjointUnion, SubRole, EquivalentRoles, Domain, Range, Functional, Transitive, Member, Pair, SameAll, Different}
 use Rattle.shq_terms.specs.declared.axioms.Numbered.{Numbered}
 
 -- an IRI between `<` and `>`
@@ -16,6 +16,9 @@ class_text o a = iri_text (slice_index_or o.classes a [])
 
 abbrev pub role_text : Listed → ℕ → List ℕ
 role_text o r = iri_text (slice_index_or o.roles r [])
+
+abbrev pub individual_text : Listed → ℕ → List ℕ
+individual_text o a = iri_text (slice_index_or o.individuals a [])
 
 -- items with one blank in front of each
 abbrev pub spaced : List (List ℕ) → List ℕ
@@ -65,6 +68,10 @@ abbrev pub role_texts : Listed → List ℕ → List (List ℕ)
 role_texts o [] = []
 role_texts o (r ∷ rs) = role_text o r ∷ role_texts o rs
 
+abbrev pub individual_texts : Listed → List ℕ → List (List ℕ)
+individual_texts o [] = []
+individual_texts o (a ∷ as_) = individual_text o a ∷ individual_texts o as_
+
 abbrev pub axiom_text : Listed → Axiom → List ℕ
 axiom_text o (SubClassOf c d) = group_text (codes "SubClassOf") (concept_text o c ∷ concept_text o d ∷ [])
 axiom_text o (EquivalentClasses cs) = group_text (codes "EquivalentClasses") (part_texts o (parts_of cs))
@@ -76,12 +83,16 @@ axiom_text o (Domain r c) = group_text (codes "ObjectPropertyDomain") (role_text
 axiom_text o (Range r c) = group_text (codes "ObjectPropertyRange") (role_text o r ∷ concept_text o c ∷ [])
 axiom_text o (Functional r) = group_text (codes "FunctionalObjectProperty") (role_text o r ∷ [])
 axiom_text o (Transitive r) = group_text (codes "TransitiveObjectProperty") (role_text o r ∷ [])
+axiom_text o (Member c a) = group_text (codes "ClassAssertion") (concept_text o c ∷ individual_text o a ∷ [])
+axiom_text o (Pair r a b) = group_text (codes "ObjectPropertyAssertion") (role_text o r ∷ individual_text o a ∷ individual_text o b ∷ [])
+axiom_text o (SameAll as_) = group_text (codes "SameIndividual") (individual_texts o as_)
+axiom_text o (Different as_) = group_text (codes "DifferentIndividuals") (individual_texts o as_)
 
 -- a text and the line feed that ends its line
 abbrev pub line : List ℕ → List ℕ
 line text = text ++ 10 ∷ []
 
--- the declaration of an IRI as a class or as an object property
+-- the declaration of an IRI as a class, an object property or a named individual
 abbrev pub declaration_text : List ℕ → List ℕ → List ℕ
 declaration_text kind iri = group_text (codes "Declaration") (group_text kind (iri_text iri ∷ []) ∷ [])
 
@@ -93,6 +104,7 @@ abbrev pub axiom_lines : Listed → List Numbered → List ℕ
 axiom_lines o [] = []
 axiom_lines o (a ∷ as_) = line (axiom_text o a.axiom) ++ axiom_lines o as_
 
--- a document: the declarations of the classes and of the roles in list order, and the axioms
+-- a document: the declarations of the classes, of the roles and of the individuals in list order, and the axioms
 abbrev pub ontology_text : Listed → List ℕ
-ontology_text o = line (codes "Ontology(") ++ (declaration_lines (codes "Class") o.classes ++ (declaration_lines (codes "ObjectProperty") o.roles ++ (axiom_lines o o.axioms ++ line (codes ")"))))
+ontology_text o =
+    line (codes "Ontology(") ++ (declaration_lines (codes "Class") o.classes ++ (declaration_lines (codes "ObjectProperty") o.roles ++ (declaration_lines (codes "NamedIndividual") o.individuals ++ (axiom_lines o o.axioms ++ line (codes ")")))))

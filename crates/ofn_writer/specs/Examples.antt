@@ -4,11 +4,11 @@ use Rattle.shq_terms.specs.Concept.{Concept, top, bottom, name, complement, inte
 use Rattle.shq_terms.specs.Listed.{Listed}
 use Rattle.ofn_writer.specs.Canonical.{line}
 use Rattle.shq_terms.specs.declared.axioms.Axiom.{Axiom}
-use Rattle.shq_terms.specs.declared.axioms.Axiom.TheVariants.{SubClassOf, EquivalentClasses, DisjointClasses, DisjointUnion, SubRole, EquivalentRoles, Domain, Range, Functional, Transitive}
+use Rattle.shq_terms.specs.declared.axioms.Axiom.TheVariants.{SubClassOf, EquivalentClasses, DisjointClasses, DisjointUnion, SubRole, EquivalentRoles, Domain, Range, Functional, Transitive, Member, Pair, SameAll, Different}
 
--- classes A and B, roles R and S
+-- classes A and B, roles R and S, individuals a and b
 abbrev pub names : Listed
-names = record { axioms = []; classes = codes "A" ∷ codes "B" ∷ []; roles = codes "R" ∷ codes "S" ∷ [] }
+names = record { axioms = []; classes = codes "A" ∷ codes "B" ∷ []; roles = codes "R" ∷ codes "S" ∷ []; individuals = codes "a" ∷ codes "b" ∷ [] }
 
 abbrev pub exactly_twenty : Concept
 exactly_twenty = exactly 20 1 (intersection (parts_of (name 0 ∷ complement (name 1) ∷ [])))
@@ -49,12 +49,25 @@ right = Range 1 top
 abbrev pub single : Axiom
 single = Functional 1
 
--- two axioms over classes A and B and a role R
+abbrev pub inside : Axiom
+inside = Member (some_of 0 (name 1)) 1
+
+abbrev pub joined : Axiom
+joined = Pair 1 0 1
+
+abbrev pub one : Axiom
+one = SameAll (1 ∷ 0 ∷ 0 ∷ [])
+
+abbrev pub two : Axiom
+two = Different (0 ∷ 1 ∷ [])
+
+-- three axioms over classes A and B, a role R and an individual a
 abbrev pub small : Listed
 small = record {
-  axioms = record { «axiom» = SubClassOf (name 1) (name 0); line = 3 } ∷ record { «axiom» = Transitive 0; line = 7 } ∷ [];
+  axioms = record { «axiom» = SubClassOf (name 1) (name 0); line = 3 } ∷ record { «axiom» = Transitive 0; line = 7 } ∷ record { «axiom» = Member (name 0) 0; line = 8 } ∷ [];
   classes = codes "A" ∷ codes "B" ∷ [];
   roles = codes "R" ∷ [];
+  individuals = codes "a" ∷ [];
 }
 
 abbrev pub small_text : List ℕ
@@ -63,6 +76,8 @@ small_text =
     ++ line (codes "Declaration(Class(<A>))")
     ++ line (codes "Declaration(Class(<B>))")
     ++ line (codes "Declaration(ObjectProperty(<R>))")
+    ++ line (codes "Declaration(NamedIndividual(<a>))")
     ++ line (codes "SubClassOf(<B> <A>)")
     ++ line (codes "TransitiveObjectProperty(<R>)")
+    ++ line (codes "ClassAssertion(<A> <a>)")
     ++ line (codes ")")

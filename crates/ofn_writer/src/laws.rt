@@ -1,7 +1,7 @@
 // Texts that were written by hand.
 ghost use Rattle.std.specs.Prelude.{◌≡◌, codes};
 ghost use Rattle.ofn_writer.specs.Canonical.{concept_text, axiom_text, ontology_text};
-ghost use Rattle.ofn_writer.specs.Examples.{names, exactly_twenty, exactly_twenty_text, all_but, all_but_text, wide, nothing, apart, split, lower, equal, left, right, single, small, small_text};
+ghost use Rattle.ofn_writer.specs.Examples.{names, exactly_twenty, exactly_twenty_text, all_but, all_but_text, wide, nothing, apart, split, lower, equal, left, right, single, inside, joined, one, two, small, small_text};
 
 /// Each clause is an example of its own.
 pub fn examples_hold()
@@ -16,5 +16,9 @@ pub fn examples_hold()
     ensures domain { axiom_text names left ≡ codes "ObjectPropertyDomain(<R> <B>)" }
     ensures range { axiom_text names right ≡ codes "ObjectPropertyRange(<S> owl:Thing)" }
     ensures role { axiom_text names single ≡ codes "FunctionalObjectProperty(<S>)" }
+    ensures member { axiom_text names inside ≡ codes "ClassAssertion(ObjectSomeValuesFrom(<R> <B>) <b>)" }
+    ensures pair { axiom_text names joined ≡ codes "ObjectPropertyAssertion(<S> <a> <b>)" }
+    ensures same { axiom_text names one ≡ codes "SameIndividual(<b> <a> <a>)" }
+    ensures different { axiom_text names two ≡ codes "DifferentIndividuals(<a> <b>)" }
     ensures document { ontology_text small ≡ small_text }
 {}

@@ -44,8 +44,21 @@ fn put_roles(out: &mut Vec<u8>, ontology: &Ontology) -> Result<(), NoMemory>
     Ok(())
 }
 
+fn put_individuals(out: &mut Vec<u8>, ontology: &Ontology) -> Result<(), NoMemory>
+    ensures { OnOk result (Puts out.old out.new (declaration_lines (codes "NamedIndividual") ontology.now.individuals)) }
+{
+    for individual in 0..ontology.individual_count() {
+        put_declaration(
+            out,
+            b"NamedIndividual",
+            ontology.individual_name(individual),
+        )?;
+    }
+    Ok(())
+}
+
 fn put_axiom_line(out: &mut Vec<u8>, axiom: &Axiom, ontology: &Ontology) -> Result<(), NoMemory>
-    requires { IsTrue (axiom_uses_listed (length ontology.now.classes) (length ontology.now.roles) «axiom».now) }
+    requires { IsTrue (axiom_uses_listed (length ontology.now.classes) (length ontology.now.roles) (length ontology.now.individuals) «axiom».now) }
     ensures { OnOk result (Puts out.old out.new (line (axiom_text ontology.now «axiom».now))) }
 {
     put_axiom(out, axiom, ontology)?;
@@ -67,12 +80,14 @@ fn put_ontology(out: &mut Vec<u8>, ontology: &Ontology) -> Result<(), NoMemory>
     put(out, b"Ontology(\n")?;
     put_classes(out, ontology)?;
     put_roles(out, ontology)?;
+    put_individuals(out, ontology)?;
     put_axioms(out, ontology)?;
     put(out, b")\n")
 }
 
-/// Appends the text of an ontology: a document whose lines are `Ontology(`, a declaration of each class and then
-/// of each role in list order, each axiom in the order of the numbers, and `)`. Each line ends with a line feed.
+/// Appends the text of an ontology: a document whose lines are `Ontology(`, a declaration of each class, then of each
+/// role and then of each individual in list order, each axiom in the order of the numbers, and `)`. Each line ends with
+/// a line feed.
 ///
 /// # Errors
 ///

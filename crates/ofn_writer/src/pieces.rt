@@ -1,6 +1,6 @@
 // Pieces of text, put last.
 ghost use Rattle.std.specs.Prelude.{◌≡◌, ◌<◌, ◌++◌, ◌∷◌, [], OnOk, OnErr, length, decimal};
-ghost use Rattle.ofn_writer.specs.Canonical.{iri_text, class_text, role_text};
+ghost use Rattle.ofn_writer.specs.Canonical.{iri_text, class_text, role_text, individual_text};
 
 use crate::NoMemory;
 use shq_terms::Ontology;
@@ -45,6 +45,18 @@ pub(crate) fn put_role(out: &mut Vec<u8>, role: u32, ontology: &Ontology) -> Res
     ensures { OnOk result (out.new.items ≡ out.old.items ++ role_text ontology.now role) }
 {
     put_iri(out, ontology.role_name(role))
+}
+
+/// Puts the IRI of an individual last.
+pub(crate) fn put_individual(
+    out: &mut Vec<u8>,
+    individual: u32,
+    ontology: &Ontology,
+) -> Result<(), NoMemory>
+    requires { individual < length ontology.now.individuals }
+    ensures { OnOk result (out.new.items ≡ out.old.items ++ individual_text ontology.now individual) }
+{
+    put_iri(out, ontology.individual_name(individual))
 }
 
 /// Puts a whole text last, or changes nothing.
