@@ -1,4 +1,4 @@
--- An axiom that is not of roles alone is met where its parts are.
+-- An axiom that is neither of roles alone nor of individuals is met where its parts are.
 use Rattle.std.proofs.Common.{◌≡◌, ℕ, zero, suc, ◌+◌, Bool, true, false, not, ◌&&◌, ◌||◌, cond, leb, List, [], ◌∷◌, map, refl, ap, sym, ◌∙◌, arith}
 use Rattle.std.specs.List.{list_all, count_by}
 use Rattle.std.proofs.lemmas.Bool.{le-leb, lt-leb}
@@ -8,13 +8,13 @@ use Rattle.std.proofs.Math.Bool.{and_assoc, and-true, or-false, and-false, or-tr
 use Rattle.shq_meaning.specs.Concept.{Concept, top, bottom, name, complement, intersection, union, some_of, all_of, at_least, at_most, exactly, Parts, no_parts, part, parts_of, part_list}
 use Rattle.shq_meaning.proofs.Bools.{and_exchange}
 use Rattle.shq_meaning.specs.Axiom.{Axiom}
-use Rattle.shq_meaning.specs.Axiom.TheVariants.{SubClassOf, EquivalentClasses, DisjointClasses, DisjointUnion, SubRole, EquivalentRoles, Domain, Range, Functional, Transitive}
+use Rattle.shq_meaning.specs.Axiom.TheVariants.{SubClassOf, EquivalentClasses, DisjointClasses, DisjointUnion, SubRole, EquivalentRoles, Domain, Range, Functional, Transitive, Member, Pair, SameAll, Different}
 use Rattle.calculus_specs.specs.Normal.{normal_form}
 use Rattle.calculus_specs.specs.Rows.{Part, inclusion, range, conjuncts_in, inclusion_of, range_of}
 use Rattle.shq_meaning.specs.Below.{all_below, count_below}
 use Rattle.shq_meaning.specs.Truth.{Interpretation, implies, same, each_successor, holds, hold_all, hold_any, all_same, none_twice, out_degree, meets}
 use Rattle.shq_nnf.specs.Parts.{disjoint_pair, disjoint_parts, chain_parts, equivalent_parts, union_parts, axiom_parts}
-use Rattle.shq_nnf.specs.Meeting.{meets_part, meets_parts, is_role_axiom}
+use Rattle.shq_nnf.specs.Meeting.{meets_part, meets_parts, is_role_axiom, is_assertion}
 use Rattle.shq_nnf.proofs.Truth.{some_is_some, some_cond, normal_truth}
 
 -- ---- tests below a bound
@@ -188,14 +188,18 @@ module _ (i : Interpretation) where
   everywhere : (ps : List Part) (p : ℕ → Bool) → ((x : ℕ) → obeyed x ps ≡ p x) → all_below i.size p ≡ meets_parts i ps
   everywhere ps p each = sym (all_met ps ∙ ap (all_below i.size) (λ j x. each x j))
 
-  pub axiom_is_parts : (a : Axiom) → is_role_axiom a ≡ false → meets i a ≡ meets_parts i (axiom_parts a)
-  axiom_is_parts (SubClassOf c d) h = everywhere (inclusion_of c d ∷ []) (λ x. implies (holds i c x) (holds i d x)) (λ x. alone_obeyed x c d)
-  axiom_is_parts (EquivalentClasses cs) h = everywhere (equivalent_parts cs) (λ x. all_same i cs x) (λ x. equivalent_obeyed x cs)
-  axiom_is_parts (DisjointClasses cs) h = everywhere (disjoint_parts cs) (λ x. none_twice i cs x) (λ x. disjoint_obeyed x cs)
-  axiom_is_parts (DisjointUnion a cs) h = everywhere (union_parts a cs) (λ x. same (holds i a x) (hold_any i (parts_of cs) x) && none_twice i cs x) (λ x. union_obeyed x a cs)
-  axiom_is_parts (Domain r c) h = everywhere (inclusion_of (some_of r top) c ∷ []) (λ x. implies (leb 1 (out_degree i r x)) (holds i c x)) (λ x. domain_obeyed x r c)
-  axiom_is_parts (Range r c) h = everywhere (range_of r c ∷ []) (λ x. each_successor i r (holds i c) x) (λ x. range_obeyed x r c)
-  axiom_is_parts (Functional r) h = everywhere (inclusion_of top (at_most 1 r top) ∷ []) (λ x. leb (out_degree i r x) 1) (λ x. functional_obeyed x r)
-  axiom_is_parts (SubRole r s) h = cc
-  axiom_is_parts (EquivalentRoles rs) h = cc
-  axiom_is_parts (Transitive r) h = cc
+  pub axiom_is_parts : (a : Axiom) → is_role_axiom a ≡ false → is_assertion a ≡ false → meets i a ≡ meets_parts i (axiom_parts a)
+  axiom_is_parts (SubClassOf c d) h e = everywhere (inclusion_of c d ∷ []) (λ x. implies (holds i c x) (holds i d x)) (λ x. alone_obeyed x c d)
+  axiom_is_parts (EquivalentClasses cs) h e = everywhere (equivalent_parts cs) (λ x. all_same i cs x) (λ x. equivalent_obeyed x cs)
+  axiom_is_parts (DisjointClasses cs) h e = everywhere (disjoint_parts cs) (λ x. none_twice i cs x) (λ x. disjoint_obeyed x cs)
+  axiom_is_parts (DisjointUnion a cs) h e = everywhere (union_parts a cs) (λ x. same (holds i a x) (hold_any i (parts_of cs) x) && none_twice i cs x) (λ x. union_obeyed x a cs)
+  axiom_is_parts (Domain r c) h e = everywhere (inclusion_of (some_of r top) c ∷ []) (λ x. implies (leb 1 (out_degree i r x)) (holds i c x)) (λ x. domain_obeyed x r c)
+  axiom_is_parts (Range r c) h e = everywhere (range_of r c ∷ []) (λ x. each_successor i r (holds i c) x) (λ x. range_obeyed x r c)
+  axiom_is_parts (Functional r) h e = everywhere (inclusion_of top (at_most 1 r top) ∷ []) (λ x. leb (out_degree i r x) 1) (λ x. functional_obeyed x r)
+  axiom_is_parts (SubRole r s) h e = cc
+  axiom_is_parts (EquivalentRoles rs) h e = cc
+  axiom_is_parts (Transitive r) h e = cc
+  axiom_is_parts (Member c a) h e = cc
+  axiom_is_parts (Pair r a b) h e = cc
+  axiom_is_parts (SameAll as_) h e = cc
+  axiom_is_parts (Different as_) h e = cc

@@ -7,16 +7,17 @@ use Rattle.calculus_specs.specs.Shape.{Shape, IsTable}
 use Rattle.calculus_specs.specs.Tree.{tree_of}
 use Rattle.shq_meaning.specs.Truth.{Interpretation, holds, meets}
 use Rattle.shq_nnf.specs.Parts.{axiom_parts}
-use Rattle.shq_nnf.specs.Meeting.{meets_parts, is_role_axiom}
+use Rattle.shq_nnf.specs.Meeting.{meets_parts, is_role_axiom, is_assertion}
 
 -- in each finite interpretation, at each element, the normal form of a class expression has its truth, and the normal
 -- form of its complement the opposite truth
 abbrev pub NormalFormsKeepTruth : Type 0
 NormalFormsKeepTruth = (i : Interpretation) (c : Concept) (x : ℕ) → (holds i (normal_form c) x ≡ holds i c x) × (holds i (negated_form c) x ≡ not (holds i c x))
 
--- each finite interpretation meets an axiom that is not of roles alone exactly where it meets all of its parts
+-- each finite interpretation meets an axiom that is neither of roles alone nor an assertion exactly where it meets all
+-- of its parts
 abbrev pub AxiomsAreTheirParts : Type 0
-AxiomsAreTheirParts = (i : Interpretation) (a : Axiom) → is_role_axiom a ≡ false → meets i a ≡ meets_parts i (axiom_parts a)
+AxiomsAreTheirParts = (i : Interpretation) (a : Axiom) → is_role_axiom a ≡ false → is_assertion a ≡ false → meets i a ≡ meets_parts i (axiom_parts a)
 
 -- what a number of a table stands for is its own normal form
 abbrev pub NumbersAreNormal : Type 0

@@ -2,7 +2,7 @@
 use Rattle.std.specs.Prelude.{Bool, true, false, List}
 use Rattle.std.specs.List.{list_all}
 use Rattle.shq_meaning.specs.Axiom.{Axiom}
-use Rattle.shq_meaning.specs.Axiom.TheVariants.{SubRole, EquivalentRoles, Transitive}
+use Rattle.shq_meaning.specs.Axiom.TheVariants.{SubClassOf, EquivalentClasses, DisjointClasses, DisjointUnion, SubRole, EquivalentRoles, Domain, Range, Functional, Transitive, Member, Pair, SameAll, Different}
 use Rattle.calculus_specs.specs.Rows.{Part, inclusion, range}
 use Rattle.shq_meaning.specs.Below.{all_below}
 use Rattle.shq_meaning.specs.Truth.{Interpretation, implies, holds}
@@ -18,7 +18,34 @@ meets_parts i ps = list_all (meets_part i) ps
 
 -- whether the axiom says something of roles alone
 abbrev pub is_role_axiom : Axiom → Bool
+is_role_axiom (SubClassOf c d) = false
+is_role_axiom (EquivalentClasses cs) = false
+is_role_axiom (DisjointClasses cs) = false
+is_role_axiom (DisjointUnion c cs) = false
 is_role_axiom (SubRole r s) = true
 is_role_axiom (EquivalentRoles rs) = true
+is_role_axiom (Domain r c) = false
+is_role_axiom (Range r c) = false
+is_role_axiom (Functional r) = false
 is_role_axiom (Transitive r) = true
-is_role_axiom _ = false
+is_role_axiom (Member c a) = false
+is_role_axiom (Pair r a b) = false
+is_role_axiom (SameAll as_) = false
+is_role_axiom (Different as_) = false
+
+-- whether the axiom says something of individuals
+abbrev pub is_assertion : Axiom → Bool
+is_assertion (SubClassOf c d) = false
+is_assertion (EquivalentClasses cs) = false
+is_assertion (DisjointClasses cs) = false
+is_assertion (DisjointUnion c cs) = false
+is_assertion (SubRole r s) = false
+is_assertion (EquivalentRoles rs) = false
+is_assertion (Domain r c) = false
+is_assertion (Range r c) = false
+is_assertion (Functional r) = false
+is_assertion (Transitive r) = false
+is_assertion (Member c a) = true
+is_assertion (Pair r a b) = true
+is_assertion (SameAll as_) = true
+is_assertion (Different as_) = true

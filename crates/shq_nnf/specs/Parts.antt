@@ -2,7 +2,7 @@
 use Rattle.std.specs.Prelude.{◌≡◌, ℕ, Bool, true, ◌&&◌, List, [], ◌∷◌, ◌++◌, map, slice_index_or}
 use Rattle.shq_meaning.specs.Concept.{Concept, top, complement, union, some_of, at_most, parts_of}
 use Rattle.shq_meaning.specs.Axiom.{Axiom}
-use Rattle.shq_meaning.specs.Axiom.TheVariants.{SubClassOf, EquivalentClasses, DisjointClasses, DisjointUnion, SubRole, EquivalentRoles, Domain, Range, Functional, Transitive}
+use Rattle.shq_meaning.specs.Axiom.TheVariants.{SubClassOf, EquivalentClasses, DisjointClasses, DisjointUnion, SubRole, EquivalentRoles, Domain, Range, Functional, Transitive, Member, Pair, SameAll, Different}
 use Rattle.calculus_specs.specs.Shape.{Shape}
 use Rattle.calculus_specs.specs.Normal.{normal_form}
 use Rattle.calculus_specs.specs.Tree.{tree_of}
@@ -40,7 +40,7 @@ covering a cs = inclusion_of a (union (parts_of cs))
 abbrev pub union_parts : Concept → List Concept → List Part
 union_parts a cs = covering a cs ∷ (map (λ c. inclusion_of c a) cs ++ disjoint_parts cs)
 
--- a role axiom has none
+-- a role axiom has none, and an assertion has none
 abbrev pub axiom_parts : Axiom → List Part
 axiom_parts (SubClassOf c d) = inclusion_of c d ∷ []
 axiom_parts (EquivalentClasses cs) = equivalent_parts cs
@@ -52,6 +52,10 @@ axiom_parts (Domain r c) = inclusion_of (some_of r top) c ∷ []
 axiom_parts (Range r c) = range_of r c ∷ []
 axiom_parts (Functional r) = inclusion_of top (at_most 1 r top) ∷ []
 axiom_parts (Transitive r) = []
+axiom_parts (Member c a) = []
+axiom_parts (Pair r a b) = []
+axiom_parts (SameAll as_) = []
+axiom_parts (Different as_) = []
 
 -- what is in the left side is in the right side, or in its complement
 abbrev pub signed_inclusion : Concept → Bool → Concept → Part
@@ -83,3 +87,7 @@ axiom_has_counts_within limit (Domain r c) = has_counts_within limit c
 axiom_has_counts_within limit (Range r c) = has_counts_within limit c
 axiom_has_counts_within limit (Functional r) = true
 axiom_has_counts_within limit (Transitive r) = true
+axiom_has_counts_within limit (Member c a) = has_counts_within limit c
+axiom_has_counts_within limit (Pair r a b) = true
+axiom_has_counts_within limit (SameAll as_) = true
+axiom_has_counts_within limit (Different as_) = true

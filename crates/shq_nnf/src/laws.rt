@@ -7,7 +7,7 @@ pub fn normal_forms_keep_truth()
 {}
 
 /// A finite interpretation meets an axiom exactly where it meets all of its parts, unless the axiom is one of roles
-/// alone.
+/// alone or an assertion.
 pub fn axioms_are_their_parts()
     ensures { AxiomsAreTheirParts }
 {}

@@ -57,6 +57,10 @@ impl Concepts {
             Axiom::SubRole(_, _) => unreachable!(),
             Axiom::EquivalentRoles(_) => unreachable!(),
             Axiom::Transitive(_) => unreachable!(),
+            Axiom::Member(_, _) => unreachable!(),
+            Axiom::Pair(_, _, _) => unreachable!(),
+            Axiom::SameAll(_) => unreachable!(),
+            Axiom::Different(_) => unreachable!(),
         }
     }
 
@@ -246,6 +250,7 @@ pub fn part_count(axiom: &Axiom) -> u32
         Axiom::SubRole(_, _) => 0,
         Axiom::EquivalentRoles(_) => 0,
         Axiom::Transitive(_) => 0,
+        Axiom::Member(_, _) | Axiom::Pair(_, _, _) | Axiom::SameAll(_) | Axiom::Different(_) => 0,
     }
 }
 

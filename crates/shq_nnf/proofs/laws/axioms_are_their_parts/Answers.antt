@@ -3,4 +3,4 @@ use Rattle.shq_nnf.proofs.Meeting.{axiom_is_parts}
 use Rattle.shq_nnf.proofs.laws.axioms_are_their_parts.Goals as goal
 
 pub returns : goal.returns
-returns c = λ i a h. axiom_is_parts i a h
+returns c = λ i a h e. axiom_is_parts i a h e
