@@ -1,17 +1,19 @@
 -- The limits of an ontology and of a query on it, together: what is read is within them, and each later call asks for
 -- them.
-use Rattle.std.specs.Prelude.{◌≡◌, ℕ, ◌+◌, ◌≤◌, Bool, true, ◌&&◌, List, [], ◌∷◌, length, nat_le}
+use Rattle.std.specs.Prelude.{◌≡◌, ℕ, ◌+◌, ◌≤◌, Bool, true, not, ◌&&◌, List, [], ◌∷◌, length, nat_le}
 use Rattle.std.specs.List.{list_all}
 use Rattle.role_box.specs.Concept.{Concept, top, bottom, name, complement, intersection, union, some_of, all_of, at_least, at_most, exactly, Parts, no_parts, part, parts_of, part_list}
 use Rattle.role_box.specs.Listed.{Listed}
 use Rattle.role_box.specs.Uses.{uses_listed, all_use_listed}
 use Rattle.role_box.specs.Axiom.{Axiom}
-use Rattle.role_box.specs.Axiom.TheVariants.{SubClassOf, EquivalentClasses, DisjointClasses, DisjointUnion, SubRole, EquivalentRoles, Domain, Range, Functional, Transitive}
+use Rattle.role_box.specs.Axiom.TheVariants.{SubClassOf, EquivalentClasses, DisjointClasses, DisjointUnion, SubRole, EquivalentRoles, Domain, Range, Functional, Transitive, Member, Pair, SameAll, Different}
 use Rattle.role_box.specs.Numbered.{Numbered}
 use Rattle.role_box.specs.Query.{Query}
+use Rattle.role_box.specs.On.TheVariants.{Any}
 use Rattle.role_box.specs.Counted.{counted_by_query}
 use Rattle.role_box.specs.Simple.{are_simple, counts_simple, all_role_axioms}
 use Rattle.shq_nnf.specs.Counts.{has_counts_within}
+use Rattle.shq_nnf.specs.Meeting.{is_assertion}
 use Rattle.shq_nnf.specs.Parts.{axiom_parts, axiom_has_counts_within}
 
 -- ---- numbers of items (OWL 2 Structural Specification, sections 8.1, 9.1 and 9.2)
@@ -35,7 +37,8 @@ abbrev mutual
   have_enough_parts no_parts = true
   have_enough_parts (part c cs) = has_enough_parts c && have_enough_parts cs
 
--- equivalent and disjoint classes are two at least, and so are equivalent roles and the parts of a disjoint union
+-- equivalent and disjoint classes are two at least, and so are equivalent roles, the parts of a disjoint union, and
+-- individuals that are the same or different
 abbrev pub has_enough_items : Axiom → Bool
 has_enough_items (SubClassOf c d) = has_enough_parts c && has_enough_parts d
 has_enough_items (EquivalentClasses cs) = nat_le 2 (length cs) && have_enough_parts (parts_of cs)
@@ -47,6 +50,17 @@ has_enough_items (Domain r c) = has_enough_parts c
 has_enough_items (Range r c) = has_enough_parts c
 has_enough_items (Functional r) = true
 has_enough_items (Transitive r) = true
+has_enough_items (Member c a) = has_enough_parts c
+has_enough_items (Pair r a b) = true
+has_enough_items (SameAll as_) = nat_le 2 (length as_)
+has_enough_items (Different as_) = nat_le 2 (length as_)
+
+-- ---- what is not searched yet
+
+-- no individual is listed, and no axiom is an assertion
+pub record IsWithoutIndividuals (o : Listed) : Type 0 where
+  pub none_listed : o.individuals ≡ []
+  pub no_assertions : list_all (λ (a : Numbered). not (is_assertion a.axiom)) o.axioms ≡ true
 
 -- ---- the limits
 
@@ -56,9 +70,10 @@ part_count [] = 0
 part_count (a ∷ as_) = length (axiom_parts a.axiom) + part_count as_
 
 -- The names of an ontology's axioms are listed, their groups have as many items as they need, no cardinality is above
--- 100, each role that is counted is simple, and there are not too many axioms, names and parts.
+-- 100, each role that is counted is simple, and there are not too many axioms, names and parts. There are no individuals
+-- yet.
 pub record IsOntologyInLimit (o : Listed) : Type 0 where
-  pub listed : all_use_listed (length o.classes) (length o.roles) o.axioms ≡ true
+  pub listed : all_use_listed (length o.classes) (length o.roles) (length o.individuals) o.axioms ≡ true
   pub items : list_all (λ (a : Numbered). has_enough_items a.axiom) o.axioms ≡ true
   pub counts : list_all (λ (a : Numbered). axiom_has_counts_within 100 a.axiom) o.axioms ≡ true
   pub simple : list_all (counts_simple (all_role_axioms o.axioms)) o.axioms ≡ true
@@ -66,11 +81,13 @@ pub record IsOntologyInLimit (o : Listed) : Type 0 where
   pub few_classes : length o.classes ≤ 20000
   pub few_roles : length o.roles ≤ 1000
   pub few_parts : part_count o.axioms ≤ 500000
+  pub without_individuals : IsWithoutIndividuals o
 
--- The same of an ontology and a query on it, where the ontology lists the names of both.
+-- The same of an ontology and a query on it, which speaks of each element, where the ontology lists the names of both.
 pub record IsInLimit (o : Listed) (q : Query) : Type 0 where
   pub ontology : IsOntologyInLimit o
   pub listed : (uses_listed (length o.classes) (length o.roles) q.sub && uses_listed (length o.classes) (length o.roles) q.sup) ≡ true
   pub items : (has_enough_parts q.sub && has_enough_parts q.sup) ≡ true
   pub counts : (has_counts_within 100 q.sub && has_counts_within 100 q.sup) ≡ true
   pub simple : are_simple (all_role_axioms o.axioms) (counted_by_query q) ≡ true
+  pub on_any : q.on ≡ Any

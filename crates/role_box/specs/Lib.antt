@@ -11,4 +11,5 @@ pub use Rattle.shq_terms.specs.Listed
 pub use Rattle.shq_terms.specs.Uses
 pub use Rattle.shq_terms.specs.declared.axioms.Axiom
 pub use Rattle.shq_terms.specs.declared.axioms.Numbered
+pub use Rattle.shq_terms.specs.declared.axioms.On
 pub use Rattle.shq_terms.specs.declared.axioms.Query
