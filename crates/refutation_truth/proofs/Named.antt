@@ -7,7 +7,7 @@ use Rattle.std.proofs.lemmas.Bool.{cases_Bool, and_parts, and_from, or_cases, eq
 use Rattle.std.proofs.lemmas.List.Folds.{list_all-append, list_any-append}
 use Rattle.shq_nnf.proofs.Bools.{or_only}
 use Rattle.shq_nnf.specs.Axiom.{Axiom}
-use Rattle.shq_nnf.specs.Axiom.TheVariants.{SubRole, EquivalentRoles, Transitive}
+use Rattle.shq_nnf.specs.Axiom.TheVariants.{SubClassOf, EquivalentClasses, DisjointClasses, DisjointUnion, SubRole, EquivalentRoles, Domain, Range, Functional, Transitive, Member, Pair, SameAll, Different}
 use Rattle.shq_nnf.specs.Numbered.{Numbered}
 use Rattle.calculus_specs.specs.Rows.{Part, NumberedPart, is_numbered}
 use Rattle.calculus_specs.specs.Roles.{IsBelow, itself, by_step}
@@ -59,7 +59,18 @@ module _ (i : Interpretation) where
       let up = and_parts (included i (get_or rs 0 0) r) (included i r (get_or rs 0 0)) (both_ways rs r m b.0) in
       let down = and_parts (included i (get_or rs 0 0) s) (included i s (get_or rs 0 0)) (both_ways rs s m b.1) in
       λ x y lt mt e. included_up (get_or rs 0 0) s down.0 x y lt mt (included_up r (get_or rs 0 0) up.1 x y lt mt e)
-  step_up _ r s h m = cc
+  step_up (SubClassOf c d) r s h m = cc
+  step_up (EquivalentClasses cs) r s h m = cc
+  step_up (DisjointClasses cs) r s h m = cc
+  step_up (DisjointUnion c cs) r s h m = cc
+  step_up (Domain p c) r s h m = cc
+  step_up (Range p c) r s h m = cc
+  step_up (Functional p) r s h m = cc
+  step_up (Transitive p) r s h m = cc
+  step_up (Member c a) r s h m = cc
+  step_up (Pair p a b) r s h m = cc
+  step_up (SameAll as_) r s h m = cc
+  step_up (Different as_) r s h m = cc
 
   step_on : (a : Axiom) (t : ℕ) → list_any (λ b. is_transitive_by b t) (role_part a) ≡ true → meets i a ≡ true → Onward t
   step_on (Transitive r) t h m =
@@ -72,9 +83,19 @@ module _ (i : Interpretation) where
       implied (i.in_role r x y) (all_below i.size (λ v. implies (i.in_role r y v) (i.in_role r x v)))
       (all_at i.size (λ w. implies (i.in_role r x w) (all_below i.size (λ v. implies (i.in_role r w v) (i.in_role r x v)))) y from_x mt) e in
       implied (i.in_role r y z) (i.in_role r x z) (all_at i.size (λ v. implies (i.in_role r y v) (i.in_role r x v)) z over_y nt) f)
-  step_on (SubRole lower upper) t h m = cc
+  step_on (SubClassOf c d) t h m = cc
+  step_on (EquivalentClasses cs) t h m = cc
+  step_on (DisjointClasses cs) t h m = cc
+  step_on (DisjointUnion c cs) t h m = cc
+  step_on (SubRole p q) t h m = cc
   step_on (EquivalentRoles rs) t h m = cc
-  step_on _ t h m = cc
+  step_on (Domain p c) t h m = cc
+  step_on (Range p c) t h m = cc
+  step_on (Functional p) t h m = cc
+  step_on (Member c a) t h m = cc
+  step_on (Pair p a b) t h m = cc
+  step_on (SameAll as_) t h m = cc
+  step_on (Different as_) t h m = cc
 
   up_at : (o : Option Numbered) (r s : ℕ) → leads (role_part_at o) r s ≡ true → list_all (meets i) (axioms_in o) ≡ true → Upward r s
   up_at None r s h m = cc
@@ -119,10 +140,20 @@ module _ (i : Interpretation) where
   -- ---- parts
 
   axiom_met : (a : Axiom) → meets i a ≡ true → meets_parts i (axiom_parts a) ≡ true
-  axiom_met (SubRole r s) m = refl
+  axiom_met (SubClassOf c d) m = sym (axiom_is_parts i (SubClassOf c d) refl refl) ∙ m
+  axiom_met (EquivalentClasses cs) m = sym (axiom_is_parts i (EquivalentClasses cs) refl refl) ∙ m
+  axiom_met (DisjointClasses cs) m = sym (axiom_is_parts i (DisjointClasses cs) refl refl) ∙ m
+  axiom_met (DisjointUnion c cs) m = sym (axiom_is_parts i (DisjointUnion c cs) refl refl) ∙ m
+  axiom_met (SubRole p q) m = refl
   axiom_met (EquivalentRoles rs) m = refl
-  axiom_met (Transitive r) m = refl
-  axiom_met a m = sym (axiom_is_parts i a refl) ∙ m
+  axiom_met (Domain p c) m = sym (axiom_is_parts i (Domain p c) refl refl) ∙ m
+  axiom_met (Range p c) m = sym (axiom_is_parts i (Range p c) refl refl) ∙ m
+  axiom_met (Functional p) m = sym (axiom_is_parts i (Functional p) refl refl) ∙ m
+  axiom_met (Transitive p) m = refl
+  axiom_met (Member c a) m = refl
+  axiom_met (Pair p a b) m = refl
+  axiom_met (SameAll as_) m = refl
+  axiom_met (Different as_) m = refl
 
   abbrev are_met : List NumberedPart → Bool
   are_met ns = list_all (λ n. meets_part i n.part) ns

@@ -2,6 +2,7 @@
 use Rattle.std.specs.Prelude.{◌≡◌, ℕ, List}
 use Rattle.shq_nnf.specs.Concept.{Concept}
 use Rattle.shq_nnf.specs.Numbered.{Numbered}
+use Rattle.role_box.specs.On.{On}
 use Rattle.shq_nnf.specs.Truth.{Entails}
 use Rattle.calculus_specs.specs.Shape.{Shape}
 use Rattle.calculus_specs.specs.Rows.{part_at}
@@ -21,12 +22,12 @@ abbrev pub TheoriesHaveRoles : Type 0
 TheoriesHaveRoles = (axioms : List Numbered) (ks : List ℕ) → HasRoles (theory_of axioms ks) (Leads (role_axioms axioms ks)) (IsTransitive (role_axioms axioms ks))
 
 -- where lines refute, over the named axioms, that something is in `sub` and not in `sup`, the named axioms entail that
--- what is in `sub` is in `sup`
+-- what is in `sub` is in `sup`, of whichever elements a query asks it
 abbrev pub RefutationsEntail : Type 0
-RefutationsEntail = (axioms : List Numbered) (ks : List ℕ) (sub sup : Concept) (shapes : List Shape) (lines : List Line)
-    → IsRefutation (theory_of axioms ks) sub sup shapes lines → Entails (named_axioms axioms ks) (record { sub = sub; sup = sup })
+RefutationsEntail = (axioms : List Numbered) (ks : List ℕ) (sub sup : Concept) (on : On) (shapes : List Shape) (lines : List Line)
+    → IsRefutation (theory_of axioms ks) sub sup shapes lines → Entails (named_axioms axioms ks) (record { sub = sub; sup = sup; on = on })
 
 -- and so do all axioms
 abbrev pub RefutationsEntailByAll : Type 0
-RefutationsEntailByAll = (axioms : List Numbered) (ks : List ℕ) (sub sup : Concept) (shapes : List Shape) (lines : List Line)
-    → IsRefutation (theory_of axioms ks) sub sup shapes lines → Entails (all_axioms axioms) (record { sub = sub; sup = sup })
+RefutationsEntailByAll = (axioms : List Numbered) (ks : List ℕ) (sub sup : Concept) (on : On) (shapes : List Shape) (lines : List Line)
+    → IsRefutation (theory_of axioms ks) sub sup shapes lines → Entails (all_axioms axioms) (record { sub = sub; sup = sup; on = on })
