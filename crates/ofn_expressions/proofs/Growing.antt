@@ -35,6 +35,7 @@ grows_same s = record {
   nodes = omega arith;
   classes = take_all (length s.counts.classes) s.counts.classes (omega arith);
   roles = take_all (length s.counts.roles) s.counts.roles (omega arith);
+  individuals = take_all (length s.counts.individuals) s.counts.individuals (omega arith);
   read = refl;
 }
 
@@ -45,5 +46,6 @@ grows_grows a b c f g = record {
   nodes = omega (arith, f.nodes, g.nodes);
   classes = front a.counts.classes b.counts.classes c.counts.classes f.classes g.classes;
   roles = front a.counts.roles b.counts.roles c.counts.roles f.roles g.roles;
+  individuals = front a.counts.individuals b.counts.individuals c.counts.individuals f.individuals g.individuals;
   read = g.read ∙ f.read;
 }

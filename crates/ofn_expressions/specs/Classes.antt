@@ -271,7 +271,7 @@ AreListedRoles s rs = list_all (λ r. nat_lt r (length s.roles)) rs ≡ true
 
 -- the names of the axiom are listed
 abbrev pub IsListedAxiom : Counts → Axiom → Type 0
-IsListedAxiom s a = axiom_uses_listed (length s.classes) (length s.roles) a ≡ true
+IsListedAxiom s a = axiom_uses_listed (length s.classes) (length s.roles) (length s.individuals) a ≡ true
 
 -- Which class expression is meant by the names, whatever names are listed later. Its own names are listed.
 abbrev pub MeansClass : Counts → (Counts → Concept) → Concept → Type 0

@@ -12,6 +12,7 @@ pub record Counts : Type 0 where
   pub nodes : ℕ
   pub classes : List (List ℕ)
   pub roles : List (List ℕ)
+  pub individuals : List (List ℕ)
 
 -- the counts, and the axioms that were read whole
 pub record State : Type 0 where
@@ -21,13 +22,13 @@ pub record State : Type 0 where
 -- where a reader goes on from an ontology for which so many axioms and nodes were counted
 abbrev pub first_state : Listed → ℕ → ℕ → State
 first_state o axioms nodes = record {
-  counts = record { axioms = axioms; parts = 0; nodes = nodes; classes = o.classes; roles = o.roles };
+  counts = record { axioms = axioms; parts = 0; nodes = nodes; classes = o.classes; roles = o.roles; individuals = o.individuals };
   read = o.axioms;
 }
 
 -- the ontology that was read
 abbrev pub ontology_of : State → Listed
-ontology_of s = record { axioms = s.read; classes = s.counts.classes; roles = s.counts.roles }
+ontology_of s = record { axioms = s.read; classes = s.counts.classes; roles = s.counts.roles; individuals = s.counts.individuals }
 
 -- one numbered axiom more is counted, or so many parts more
 abbrev pub with_axiom_counted : State → State
@@ -55,4 +56,5 @@ pub record Grows (old new : State) : Type 0 where
   pub nodes : old.counts.nodes ≤ new.counts.nodes
   pub classes : take (length old.counts.classes) new.counts.classes ≡ old.counts.classes
   pub roles : take (length old.counts.roles) new.counts.roles ≡ old.counts.roles
+  pub individuals : take (length old.counts.individuals) new.counts.individuals ≡ old.counts.individuals
   pub read : new.read ≡ old.read

@@ -28,7 +28,7 @@ impl Model for Reading {
 
     ghost coded = { Prim.hlevel (codes, concept_code) };
 
-    ghost view = { λ r. record { counts = record { axioms = r.axioms; parts = r.parts; nodes = r.nodes; classes = r.ontology.classes; roles = r.ontology.roles }; read = r.ontology.axioms } };
+    ghost view = { λ r. record { counts = record { axioms = r.axioms; parts = r.parts; nodes = r.nodes; classes = r.ontology.classes; roles = r.ontology.roles; individuals = r.ontology.individuals }; read = r.ontology.axioms } };
 
     ghost invariant = { λ r. (r.axioms ≤ 20000) × (r.parts ≤ 500000) × (r.nodes ≤ 262144) };
 }
