@@ -14,7 +14,7 @@ use Rattle.shq_meaning.specs.Below.{all_below, count_below}
 use Rattle.shq_meaning.specs.Truth.{Interpretation, implies, holds, hold_any, out_degree, meets}
 use Rattle.shq_meaning.proofs.Implied.{implied, implies_from}
 use Rattle.shq_nnf.specs.Parts.{axiom_parts}
-use Rattle.shq_nnf.specs.Meeting.{meets_part, meets_parts, is_role_axiom}
+use Rattle.shq_nnf.specs.Meeting.{meets_part, meets_parts, is_role_axiom, is_assertion}
 use Rattle.shq_nnf.proofs.Truth.{or_holds, negated_truth, some_is_some, some_cond}
 use Rattle.shq_nnf.proofs.Meeting.{axiom_is_parts}
 use Rattle.row_cache.proofs.Below.{all_at, all_from}
@@ -209,5 +209,5 @@ are_rows i (q ∷ qs) =
     let tail = are_rows i qs in
     λ j. head j && tail j
 
-pub axiom_is_rows : (i : Interpretation) (a : Axiom) → is_role_axiom a ≡ false → meets i a ≡ list_all (λ q. meets_row_if i q (trigger_for q) (fixed_concept q)) (axiom_parts a)
-axiom_is_rows i a h = axiom_is_parts i a h ∙ are_rows i (axiom_parts a)
+pub axiom_is_rows : (i : Interpretation) (a : Axiom) → is_role_axiom a ≡ false → is_assertion a ≡ false → meets i a ≡ list_all (λ q. meets_row_if i q (trigger_for q) (fixed_concept q)) (axiom_parts a)
+axiom_is_rows i a h e = axiom_is_parts i a h e ∙ are_rows i (axiom_parts a)

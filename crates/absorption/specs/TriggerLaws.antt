@@ -6,7 +6,7 @@ use Rattle.calculus_specs.specs.Rows.{Part, Trigger, row_of}
 use Rattle.shq_terms.specs.declared.axioms.Axiom.{Axiom}
 use Rattle.shq_meaning.specs.Truth.{Interpretation, meets}
 use Rattle.shq_nnf.specs.Parts.{axiom_parts}
-use Rattle.shq_nnf.specs.Meeting.{meets_part, is_role_axiom}
+use Rattle.shq_nnf.specs.Meeting.{meets_part, is_role_axiom, is_assertion}
 use Rattle.absorption.specs.Triggers.{trigger_for, fixed_concept}
 use Rattle.absorption.specs.Truth.{meets_row, meets_row_if}
 
@@ -18,7 +18,7 @@ EachPartHasItsRow = (q : Part) → IsSome (fixed_concept q)
 abbrev pub RowsAreTheirParts : Type 0
 RowsAreTheirParts = (i : Interpretation) (q : Part) (t : Trigger) (c : Concept) → row_of q t ≡ Some c → meets_part i q ≡ meets_row i q t c
 
--- and an axiom that is not of roles alone exactly where it meets the rows of its parts
+-- and an axiom that is neither of roles alone nor an assertion exactly where it meets the rows of its parts
 abbrev pub AxiomsAreTheirRows : Type 0
-AxiomsAreTheirRows = (i : Interpretation) (a : Axiom) → is_role_axiom a ≡ false
+AxiomsAreTheirRows = (i : Interpretation) (a : Axiom) → is_role_axiom a ≡ false → is_assertion a ≡ false
     → meets i a ≡ list_all (λ q. meets_row_if i q (trigger_for q) (fixed_concept q)) (axiom_parts a)

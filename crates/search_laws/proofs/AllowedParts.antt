@@ -9,7 +9,7 @@ use Rattle.shq_terms.specs.Concept.{Concept, top, union, some_of, at_most, compl
 use Rattle.shq_terms.proofs.Bools.{or_only}
 use Rattle.shq_terms.specs.Uses.{uses_listed, parts_use_listed, axiom_uses_listed, all_use_listed}
 use Rattle.shq_terms.specs.declared.axioms.Axiom.{Axiom}
-use Rattle.shq_terms.specs.declared.axioms.Axiom.TheVariants.{SubClassOf, EquivalentClasses, DisjointClasses, DisjointUnion, SubRole, EquivalentRoles, Domain, Range, Functional, Transitive}
+use Rattle.shq_terms.specs.declared.axioms.Axiom.TheVariants.{SubClassOf, EquivalentClasses, DisjointClasses, DisjointUnion, SubRole, EquivalentRoles, Domain, Range, Functional, Transitive, Member, Pair, SameAll, Different}
 use Rattle.shq_terms.specs.declared.axioms.Numbered.{Numbered}
 use Rattle.calculus_specs.specs.Normal.{normal_form, negated_form}
 use Rattle.calculus_specs.specs.Rows.{Part, NumberedPart, is_among, is_numbered, part_at, others_from, row_concept, are_name_positions, is_some_of, row_of, Trigger, inclusion_of}
@@ -31,7 +31,7 @@ some_if : (b : Bool) (x t : Concept) → cond b (Some x) None ≡ Some t → x �
 some_if true x t h = cc
 some_if false x t h = cc
 
-module _ (classes roles : ℕ) (p : ℕ → Bool) where
+module _ (classes roles individuals : ℕ) (p : ℕ → Bool) where
   abbrev Allowed : Concept → Type 0
   Allowed = IsAllowed classes roles p
 
@@ -110,7 +110,7 @@ module _ (classes roles : ℕ) (p : ℕ → Bool) where
 
   -- the names of the axiom are listed, and it counts roles of the kind alone
   abbrev AxiomAllowed : Axiom → Type 0
-  AxiomAllowed a = (axiom_uses_listed classes roles a ≡ true) × (list_all p (counted_by a) ≡ true)
+  AxiomAllowed a = (axiom_uses_listed classes roles individuals a ≡ true) × (list_all p (counted_by a) ≡ true)
 
   axiom_allowed : (a : Axiom) → AxiomAllowed a → EachAllowed (axiom_parts a)
   axiom_allowed (SubClassOf c d) h =
@@ -131,14 +131,18 @@ module _ (classes roles : ℕ) (p : ℕ → Bool) where
   axiom_allowed (Range r c) h = let t = and_parts (ltb r roles) (uses_listed classes roles c) h.0 in (allowed_normal classes roles p c (t.1, h.1), tt)
   axiom_allowed (Functional r) h = (inclusion_allowed top (at_most 1 r top) (refl, refl) (and_from (ltb r roles) true h.0 refl, h.1), tt)
   axiom_allowed (Transitive r) h = tt
+  axiom_allowed (Member c a) h = tt
+  axiom_allowed (Pair v a b) h = tt
+  axiom_allowed (SameAll as_) h = tt
+  axiom_allowed (Different as_) h = tt
 
   -- the same of all axioms
   abbrev pub AxiomsAllowed : List Numbered → Type 0
-  AxiomsAllowed axioms = (all_use_listed classes roles axioms ≡ true) × (list_all (λ (a : Numbered). list_all p (counted_by a.axiom)) axioms ≡ true)
+  AxiomsAllowed axioms = (all_use_listed classes roles individuals axioms ≡ true) × (list_all (λ (a : Numbered). list_all p (counted_by a.axiom)) axioms ≡ true)
 
   first_axiom : (a : Numbered) (axioms : List Numbered) → AxiomsAllowed (a ∷ axioms) → AxiomAllowed a.axiom × AxiomsAllowed axioms
   first_axiom a axioms h =
-      let t = and_parts (axiom_uses_listed classes roles a.axiom) (all_use_listed classes roles axioms) h.0 in
+      let t = and_parts (axiom_uses_listed classes roles individuals a.axiom) (all_use_listed classes roles individuals axioms) h.0 in
       let u = and_parts (list_all p (counted_by a.axiom)) (list_all (λ (b : Numbered). list_all p (counted_by b.axiom)) axioms) h.1 in
       ((t.0, u.0), (t.1, u.1))
 
@@ -182,7 +186,7 @@ module _ (classes roles : ℕ) (p : ℕ → Bool) where
 
   -- ---- roles
 
-  step_listed : (a : Axiom) (r s : ℕ) → axiom_uses_listed classes roles a ≡ true → leads (role_part a) r s ≡ true → s < roles
+  step_listed : (a : Axiom) (r s : ℕ) → axiom_uses_listed classes roles individuals a ≡ true → leads (role_part a) r s ≡ true → s < roles
   step_listed (SubRole lower upper) r s h l =
       let t = and_parts (ltb lower roles) (ltb upper roles) h in
       let e = and_parts (eqb lower r) (eqb upper s) (or_only (eqb lower r && eqb upper s) l) in
@@ -190,23 +194,44 @@ module _ (classes roles : ℕ) (p : ℕ → Bool) where
   step_listed (EquivalentRoles rs) r s h l =
       let e = and_parts (among rs r) (among rs s) (or_only (among rs r && among rs s) l) in
       ltb-true s roles (all_in (λ x. ltb x roles) rs s h e.1)
-  step_listed _ r s h l = cc
+  step_listed (SubClassOf c d) r s h l = cc
+  step_listed (EquivalentClasses cs) r s h l = cc
+  step_listed (DisjointClasses cs) r s h l = cc
+  step_listed (DisjointUnion c cs) r s h l = cc
+  step_listed (Domain v c) r s h l = cc
+  step_listed (Range v c) r s h l = cc
+  step_listed (Functional v) r s h l = cc
+  step_listed (Transitive v) r s h l = cc
+  step_listed (Member c a) r s h l = cc
+  step_listed (Pair v a b) r s h l = cc
+  step_listed (SameAll as_) r s h l = cc
+  step_listed (Different as_) r s h l = cc
 
-  transitive_listed : (a : Axiom) (t : ℕ) → axiom_uses_listed classes roles a ≡ true → is_transitive (role_part a) t ≡ true → t < roles
+  transitive_listed : (a : Axiom) (t : ℕ) → axiom_uses_listed classes roles individuals a ≡ true → is_transitive (role_part a) t ≡ true → t < roles
   transitive_listed (Transitive r) t h l = omega (arith, ltb-true r roles h, eqb-true r t (or_only (eqb r t) l))
-  transitive_listed (SubRole lower upper) t h l = cc
+  transitive_listed (SubClassOf c d) t h l = cc
+  transitive_listed (EquivalentClasses cs) t h l = cc
+  transitive_listed (DisjointClasses cs) t h l = cc
+  transitive_listed (DisjointUnion c cs) t h l = cc
+  transitive_listed (SubRole v q) t h l = cc
   transitive_listed (EquivalentRoles rs) t h l = cc
-  transitive_listed _ t h l = cc
+  transitive_listed (Domain v c) t h l = cc
+  transitive_listed (Range v c) t h l = cc
+  transitive_listed (Functional v) t h l = cc
+  transitive_listed (Member c a) t h l = cc
+  transitive_listed (Pair v a b) t h l = cc
+  transitive_listed (SameAll as_) t h l = cc
+  transitive_listed (Different as_) t h l = cc
 
   -- what follows from each axiom with listed names that says something of roles, follows where some of the axioms say
   -- it
-  module _ (says : RoleAxiom → Bool) (Q : Type 0) (one : (a : Axiom) → axiom_uses_listed classes roles a ≡ true → list_any says (role_part a) ≡ true → Q) where
-    by_one : (axioms : List Numbered) (n : ℕ) → all_use_listed classes roles axioms ≡ true → list_any says (role_part_at (slice_get axioms n)) ≡ true → Q
+  module _ (says : RoleAxiom → Bool) (Q : Type 0) (one : (a : Axiom) → axiom_uses_listed classes roles individuals a ≡ true → list_any says (role_part a) ≡ true → Q) where
+    by_one : (axioms : List Numbered) (n : ℕ) → all_use_listed classes roles individuals axioms ≡ true → list_any says (role_part_at (slice_get axioms n)) ≡ true → Q
     by_one [] n h l = absurd (false≢true l)
-    by_one (a ∷ axioms) zero h l = one a.axiom (and_parts (axiom_uses_listed classes roles a.axiom) (all_use_listed classes roles axioms) h).0 l
-    by_one (a ∷ axioms) (suc n) h l = by_one axioms n (and_parts (axiom_uses_listed classes roles a.axiom) (all_use_listed classes roles axioms) h).1 l
+    by_one (a ∷ axioms) zero h l = one a.axiom (and_parts (axiom_uses_listed classes roles individuals a.axiom) (all_use_listed classes roles individuals axioms) h).0 l
+    by_one (a ∷ axioms) (suc n) h l = by_one axioms n (and_parts (axiom_uses_listed classes roles individuals a.axiom) (all_use_listed classes roles individuals axioms) h).1 l
 
-    by_some : (axioms : List Numbered) (ks : List ℕ) → all_use_listed classes roles axioms ≡ true → list_any says (role_axioms axioms ks) ≡ true → Q
+    by_some : (axioms : List Numbered) (ks : List ℕ) → all_use_listed classes roles individuals axioms ≡ true → list_any says (role_axioms axioms ks) ≡ true → Q
     by_some axioms [] h l = absurd (false≢true l)
     by_some axioms (k ∷ ks) h l =
         elim (or_cases (list_any says (role_part_at (slice_get axioms (k - 1)))) (list_any says (role_axioms axioms ks)) (sym (list_any-append says (role_part_at (slice_get axioms (k - 1))) (role_axioms axioms ks)) ∙ l)) [
@@ -214,7 +239,7 @@ module _ (classes roles : ℕ) (p : ℕ → Bool) where
           | inr later ↦ by_some axioms ks h later
         ]
 
-  module _ (axioms : List Numbered) (h : all_use_listed classes roles axioms ≡ true) where
+  module _ (axioms : List Numbered) (h : all_use_listed classes roles individuals axioms ≡ true) where
     leads_listed : (ks : List ℕ) (r s : ℕ) → leads (role_axioms axioms ks) r s ≡ true → s < roles
     leads_listed ks r s l = by_some (λ a. leads_by a r s) (s < roles) (λ a. step_listed a r s) axioms ks h l
 

@@ -1,13 +1,13 @@
 -- An interpretation that meets a theory of named axioms meets these axioms.
-use Rattle.std.proofs.Common.{◌≡◌, ℕ, ◌+◌, ◌-◌, ◌<◌, ◌&&◌, eqb, leb, Bool, true, false, cond, List, [], ◌∷◌, length, get_or, Option, Some, None, refl, ap, ◌∙◌, sym, subst, arith, inl, inr, eq-eqb}
+use Rattle.std.proofs.Common.{◌≡◌, ℕ, zero, suc, ◌+◌, ◌-◌, ◌<◌, ◌&&◌, eqb, leb, Bool, true, false, not, cond, List, [], ◌∷◌, length, get_or, Option, Some, None, refl, ap, ◌∙◌, sym, subst, arith, inl, inr, eq-eqb}
 use Rattle.std.specs.Prelude.{slice_get}
 use Rattle.std.specs.List.{list_any, list_all, Contains}
-use Rattle.std.proofs.lemmas.Bool.{and_from, or_cases, or_left, or_right, le-leb, eqb-true, false≢true}
+use Rattle.std.proofs.lemmas.Bool.{and_from, and_parts, or_cases, or_left, or_right, le-leb, eqb-true, not-true, false≢true}
 use Rattle.std.proofs.lemmas.List.{get_or_default}
 use Rattle.std.proofs.lemmas.List.Folds.{list_all-append, list_any-append, list_any_at}
 use Rattle.shq_terms.specs.Concept.{top}
 use Rattle.shq_terms.specs.declared.axioms.Axiom.{Axiom}
-use Rattle.shq_terms.specs.declared.axioms.Axiom.TheVariants.{SubClassOf, EquivalentClasses, DisjointClasses, DisjointUnion, SubRole, EquivalentRoles, Domain, Range, Functional, Transitive}
+use Rattle.shq_terms.specs.declared.axioms.Axiom.TheVariants.{SubClassOf, EquivalentClasses, DisjointClasses, DisjointUnion, SubRole, EquivalentRoles, Domain, Range, Functional, Transitive, Member, Pair, SameAll, Different}
 use Rattle.shq_terms.specs.declared.axioms.Numbered.{Numbered}
 use Rattle.calculus_specs.specs.Rows.{Part, is_among, part_at}
 use Rattle.calculus_specs.specs.Rows.Part.{inclusion}
@@ -17,7 +17,7 @@ use Rattle.shq_meaning.specs.Truth.{Interpretation, implies, included, roles_equ
 use Rattle.shq_meaning.proofs.Members.{all_pass}
 use Rattle.shq_meaning.proofs.Implied.{implies_from}
 use Rattle.shq_nnf.specs.Parts.{axiom_parts, part_in}
-use Rattle.shq_nnf.specs.Meeting.{meets_part, meets_parts}
+use Rattle.shq_nnf.specs.Meeting.{meets_part, meets_parts, is_assertion}
 use Rattle.shq_nnf.proofs.Meeting.{axiom_is_parts}
 use Rattle.role_box.specs.declared.role_axiom.RoleAxiom.{RoleAxiom}
 use Rattle.role_box.specs.RoleAxioms.{role_part, role_part_at, role_axioms}
@@ -40,7 +40,17 @@ said_among axioms p (l ∷ ls) k is h =
       | inr later ↦ or_right here_said later_said (said_among axioms p ls k later h)
     ]
 
-module _ (i : Interpretation) (axioms : List Numbered) (ks : List ℕ) (m : MeetsTheory i (theory_of axioms ks)) where
+-- an axiom that is no assertion, where there is one
+abbrev IsPlainAt : Option Numbered → Type 0
+IsPlainAt None = Unit {0}
+IsPlainAt (Some n) = is_assertion n.axiom ≡ false
+
+plain_at : (axioms : List Numbered) (place : ℕ) → list_all (λ (n : Numbered). not (is_assertion n.axiom)) axioms ≡ true → IsPlainAt (slice_get axioms place)
+plain_at [] place h = tt
+plain_at (n ∷ ns) zero h = not-true (is_assertion n.axiom) (and_parts (not (is_assertion n.axiom)) (list_all (λ (k : Numbered). not (is_assertion k.axiom)) ns) h).0
+plain_at (n ∷ ns) (suc place) h = plain_at ns place (and_parts (not (is_assertion n.axiom)) (list_all (λ (k : Numbered). not (is_assertion k.axiom)) ns) h).1
+
+module _ (i : Interpretation) (axioms : List Numbered) (ks : List ℕ) (plain : list_all (λ (n : Numbered). not (is_assertion n.axiom)) axioms ≡ true) (m : MeetsTheory i (theory_of axioms ks)) where
   -- ---- parts
 
   part_found : (k p : ℕ) → is_among ks k ≡ true → p < length (parts_at axioms k) → part_at (theory_of axioms ks) k (p + 1) ≡ Some (part_in (parts_at axioms k) p)
@@ -87,29 +97,33 @@ module _ (i : Interpretation) (axioms : List Numbered) (ks : List ℕ) (m : Meet
       let is = is_member (q ∷ rs) s c in
       and_from (included i q s) (included i s q) (each q s (first_among q rs) is) (each s q is (first_among q rs)))
 
-  met_by : (a : Axiom) → ((r s : ℕ) → leads (role_part a) r s ≡ true → leads (role_axioms axioms ks) r s ≡ true)
+  met_by : (a : Axiom) → is_assertion a ≡ false → ((r s : ℕ) → leads (role_part a) r s ≡ true → leads (role_axioms axioms ks) r s ≡ true)
       → ((t : ℕ) → is_transitive (role_part a) t ≡ true → is_transitive (role_axioms axioms ks) t ≡ true) → meets_parts i (axiom_parts a) ≡ true → meets i a ≡ true
-  met_by (SubRole r s) up on h = up_included r s (below_leads r s (up r s (or_left (eqb r r && eqb s s) false (and_from (eqb r r) (eqb s s) (eq-eqb r r refl) (eq-eqb s s refl)))))
-  met_by (EquivalentRoles rs) up on h =
+  met_by (SubRole r s) no_assertion up on h = up_included r s (below_leads r s (up r s (or_left (eqb r r && eqb s s) false (and_from (eqb r r) (eqb s s) (eq-eqb r r refl) (eq-eqb s s refl)))))
+  met_by (EquivalentRoles rs) no_assertion up on h =
       equal_by rs (λ r s is its. up_included r s (below_leads r s (up r s (or_left (among rs r && among rs s) false (and_from (among rs r) (among rs s) is its)))))
-  met_by (Transitive t) up on h = on_transitive t (on t (or_left (eqb t t) false (eq-eqb t t refl)))
-  met_by (SubClassOf c d) up on h = axiom_is_parts i (SubClassOf c d) refl ∙ h
-  met_by (EquivalentClasses cs) up on h = axiom_is_parts i (EquivalentClasses cs) refl ∙ h
-  met_by (DisjointClasses cs) up on h = axiom_is_parts i (DisjointClasses cs) refl ∙ h
-  met_by (DisjointUnion a cs) up on h = axiom_is_parts i (DisjointUnion a cs) refl ∙ h
-  met_by (Domain r c) up on h = axiom_is_parts i (Domain r c) refl ∙ h
-  met_by (Range r c) up on h = axiom_is_parts i (Range r c) refl ∙ h
-  met_by (Functional r) up on h = axiom_is_parts i (Functional r) refl ∙ h
+  met_by (Transitive t) no_assertion up on h = on_transitive t (on t (or_left (eqb t t) false (eq-eqb t t refl)))
+  met_by (SubClassOf c d) no_assertion up on h = axiom_is_parts i (SubClassOf c d) refl refl ∙ h
+  met_by (EquivalentClasses cs) no_assertion up on h = axiom_is_parts i (EquivalentClasses cs) refl refl ∙ h
+  met_by (DisjointClasses cs) no_assertion up on h = axiom_is_parts i (DisjointClasses cs) refl refl ∙ h
+  met_by (DisjointUnion a cs) no_assertion up on h = axiom_is_parts i (DisjointUnion a cs) refl refl ∙ h
+  met_by (Domain r c) no_assertion up on h = axiom_is_parts i (Domain r c) refl refl ∙ h
+  met_by (Range r c) no_assertion up on h = axiom_is_parts i (Range r c) refl refl ∙ h
+  met_by (Functional r) no_assertion up on h = axiom_is_parts i (Functional r) refl refl ∙ h
+  met_by (Member c a) no_assertion up on h = cc
+  met_by (Pair r a b) no_assertion up on h = cc
+  met_by (SameAll as_) no_assertion up on h = cc
+  met_by (Different as_) no_assertion up on h = cc
 
-  at_met : (o : Option Numbered) → ((r s : ℕ) → leads (role_part_at o) r s ≡ true → leads (role_axioms axioms ks) r s ≡ true)
+  at_met : (o : Option Numbered) → IsPlainAt o → ((r s : ℕ) → leads (role_part_at o) r s ≡ true → leads (role_axioms axioms ks) r s ≡ true)
       → ((t : ℕ) → is_transitive (role_part_at o) t ≡ true → is_transitive (role_axioms axioms ks) t ≡ true) → meets_parts i (parts_in o) ≡ true → list_all (meets i) (axioms_in o) ≡ true
-  at_met None up on h = refl
-  at_met (Some n) up on h = and_from (meets i n.axiom) true (met_by n.axiom up on h) refl
+  at_met None plain_one up on h = refl
+  at_met (Some n) plain_one up on h = and_from (meets i n.axiom) true (met_by n.axiom plain_one up on h) refl
 
   -- ---- the axioms of some of the numbers
 
   axiom_at_met : (k : ℕ) → is_among ks k ≡ true → list_all (meets i) (axioms_in (slice_get axioms (k - 1))) ≡ true
-  axiom_at_met k is = at_met (slice_get axioms (k - 1)) (λ r s h. said_among axioms (λ x. leads_by x r s) ks k is h) (λ t h. said_among axioms (λ x. is_transitive_by x t) ks k is h) (parts_met k is)
+  axiom_at_met k is = at_met (slice_get axioms (k - 1)) (plain_at axioms (k - 1) plain) (λ r s h. said_among axioms (λ x. leads_by x r s) ks k is h) (λ t h. said_among axioms (λ x. is_transitive_by x t) ks k is h) (parts_met k is)
 
   some_met : (ls : List ℕ) → ((k : ℕ) → is_among ls k ≡ true → is_among ks k ≡ true) → meets_all i (named_axioms axioms ls) ≡ true
   some_met [] each = refl

@@ -74,6 +74,7 @@ module _ (w : SearchContext) (fs : List (Fact ℕ)) (less : (x p : ℕ) → pare
     pub computed_is_built : IsBuilt w fs (built w fs limit)
     computed_is_built = record {
       size_is = refl;
+      individuals_are = λ a. refl;
       classes_are = λ a v lt. refl;
       roles_are = λ s v u lt mt. (pair_is s v u, is_pair s v u (node_at fs v) (node_at fs u) lt refl refl);
     }

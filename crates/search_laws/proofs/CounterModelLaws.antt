@@ -1,5 +1,5 @@
 -- The laws.
-use Rattle.std.proofs.Common.{◌≡◌, ℕ, ◌<◌, not, eqb, true, List, length, refl, ap, ◌∙◌, sym, arith}
+use Rattle.std.proofs.Common.{◌≡◌, ℕ, ◌<◌, not, ◌&&◌, eqb, true, List, length, refl, ap, ◌∙◌, sym, subst, arith}
 use Rattle.std.proofs.lemmas.Bool.{and_parts, and_from}
 use Rattle.shq_terms.specs.Concept.{Concept}
 use Rattle.shq_terms.specs.Listed.{Listed}
@@ -7,7 +7,8 @@ use Rattle.shq_terms.specs.declared.axioms.Query.{Query}
 use Rattle.calculus_specs.specs.Shape.{Shape}
 use Rattle.calculus_specs.specs.Rows.{Row}
 use Rattle.calculus_specs.specs.Tree.{tree_of}
-use Rattle.shq_meaning.specs.Truth.{Interpretation, holds}
+use Rattle.shq_terms.specs.declared.axioms.On.{On}
+use Rattle.shq_meaning.specs.Truth.{Interpretation, holds, is_asked_at}
 use Rattle.shq_nnf.proofs.Truth.{normal_truth, negated_truth}
 use Rattle.role_box.specs.RoleAxioms.{role_axioms}
 use Rattle.role_box.specs.Paths.{role_limit}
@@ -121,8 +122,9 @@ module _ (o : Listed) (ks : List ℕ) (q : Query) (table : List Shape) (rows : L
       record {
         names_are_listed = names_are_listed o ks q table rows k trail s.in_limit s.reached i s.is_built;
         has_element = some;
-        meets_axioms = axioms_met i o.axioms ks meets_roles part_is_met;
-        refutes = and_from (holds i q.sub 0) (not (holds i q.sup 0))
+        places = λ a. subst (λ (v : ℕ). v < i.size) (sym (s.is_built.individuals_are a)) some;
+        meets_axioms = axioms_met i o.axioms ks s.in_limit.ontology.without_individuals.no_assertions meets_roles part_is_met;
+        refutes = ap (λ (on : On). is_asked_at i on 0 && (holds i q.sub 0 && not (holds i q.sup 0))) s.in_limit.on_any ∙ and_from (holds i q.sub 0) (not (holds i q.sup 0))
             (sym (normal_truth i q.sub 0) ∙ ap (λ (t : Concept). holds i t 0) (sym s.reached.sub_reads) ∙ at_first first s.reached.sub_listed stays.0 some)
             (sym (negated_truth i q.sup 0) ∙ ap (λ (t : Concept). holds i t 0) (sym s.reached.not_sup_reads) ∙ at_first second s.reached.not_sup_listed stays.1 some);
       }
@@ -154,6 +156,6 @@ saturated_does_not_entail o ks q table rows k trail limit reached saturated enta
     let is_built : IsBuilt context (facts_of trail) i =
     computed_interpretations_are_built context reached.sub_number reached.not_sup_number k trail reached.follows (role_limit roles) (transitive_within roles) in
     let c = counter_model o ks q table rows k trail i (record { in_limit = limit; reached = reached; is_saturated = saturated; is_built = is_built }) in
-    let no_counter = entails i c.has_element c.meets_axioms 0 (omega (arith, c.has_element)) in
+    let no_counter = entails i c.has_element c.places c.meets_axioms 0 (omega (arith, c.has_element)) in
     let counter = c.refutes in
     cc

@@ -98,7 +98,7 @@ module _ (o : Listed) (ks : List ℕ) (q : Query) (table : List Shape) (rows : L
   Named r = ltb r role_count ≡ true
 
   kept : IsKept (theory_of o.axioms ks) Allowed Named
-  kept = allowed_kept class_count role_count may_count o.axioms ks (limit.ontology.listed, limit.ontology.simple)
+  kept = allowed_kept class_count role_count (length o.individuals) may_count o.axioms ks (limit.ontology.listed, limit.ontology.simple)
 
   in_two : (list_all may_count (counted_roles q.sub) ≡ true) × (list_all may_count (counted_roles q.sup) ≡ true)
   in_two =
@@ -145,5 +145,5 @@ module _ (o : Listed) (ks : List ℕ) (q : Query) (table : List Shape) (rows : L
         let x = original fs (node_at fs v) in
         let e = pair_begins context fs (theory_is_order o.axioms ks) s (node_at fs v) (node_at fs u) ((built.roles_are s v u lt mt).0 h) in
         let r = edge_named kind x e.0 (successor_has_edge fs kind x e.0 e.1) in
-        upper_listed class_count role_count may_count o.axioms limit.ontology.listed ks r.0 s (ltb-true r.0 role_count r.2) r.1;
+        upper_listed class_count role_count (length o.individuals) may_count o.axioms limit.ontology.listed ks r.0 s (ltb-true r.0 role_count r.2) r.1;
   }

@@ -7,8 +7,10 @@ use Rattle.tableau_specs.specs.Steps.{SearchContext, has_name}
 use Rattle.search_laws.specs.Elements.{elements, node_at, original}
 use Rattle.search_laws.specs.Pairs.{IsPair}
 
--- its elements are those of the trail, by their places; a class has the elements that are like a node with it
+-- Its elements are those of the trail, by their places; a class has the elements that are like a node with it. No
+-- individual has a node of its own: each is the first element.
 pub record IsBuilt (w : SearchContext) (fs : List (Fact ℕ)) (i : Interpretation) : Type 0 where
   pub size_is : i.size ≡ length (elements fs)
   pub classes_are : (a v : ℕ) → v < i.size → i.in_class a v ≡ has_name w fs (original fs (node_at fs v)) (name a)
   pub roles_are : (s v u : ℕ) → v < i.size → u < i.size → (i.in_role s v u ≡ true) ↔ IsPair w fs s (node_at fs v) (node_at fs u)
+  pub individuals_are : (a : ℕ) → i.individual a ≡ 0

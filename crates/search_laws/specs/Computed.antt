@@ -27,4 +27,5 @@ module _ (w : SearchContext) (fs : List (Fact ℕ)) where
     size = length (elements fs);
     in_class = λ a v. has_name w fs (original fs (node_at fs v)) (name a);
     in_role = has_pair limit;
+    individual = λ a. 0;
   }

@@ -3,7 +3,7 @@ use Rattle.std.specs.Prelude.{◌≡◌, ℕ, ◌<◌, ◌≤◌, ◌==◌, Bool
 use Rattle.shq_terms.specs.Listed.{Listed}
 use Rattle.shq_terms.specs.declared.axioms.Query.{Query}
 use Rattle.shq_meaning.specs.Below.{count_below}
-use Rattle.shq_meaning.specs.Truth.{Interpretation, holds, meets_all, refutes_at, Entails}
+use Rattle.shq_meaning.specs.Truth.{Interpretation, PlacesIndividuals, holds, meets_all, refutes_at, Entails}
 use Rattle.calculus_specs.specs.Shape.{Shape, shape_of}
 use Rattle.calculus_specs.specs.Shape.Shape.{at_most}
 use Rattle.calculus_specs.specs.Tree.{tree_of}
@@ -113,11 +113,12 @@ pub record UsesListed (o : Listed) (i : Interpretation) : Type 0 where
   pub class_is : (a v : ℕ) → v < i.size → i.in_class a v ≡ true → a < length o.classes
   pub role_is : (s v u : ℕ) → v < i.size → u < i.size → i.in_role s v u ≡ true → s < length o.roles
 
--- The interpretation uses listed names alone, has an element, meets the axioms of these numbers, and has a
--- counter-example to the query in element 0.
+-- The interpretation uses listed names alone, has an element, and the individuals among its elements, meets the axioms of
+-- these numbers, and has a counter-example to the query in element 0.
 pub record IsCounterModel (o : Listed) (ks : List ℕ) (q : Query) (i : Interpretation) : Type 0 where
   pub names_are_listed : UsesListed o i
   pub has_element : 1 ≤ i.size
+  pub places : PlacesIndividuals i
   pub meets_axioms : meets_all i (named_axioms o.axioms ks) ≡ true
   pub refutes : refutes_at i q 0 ≡ true
 

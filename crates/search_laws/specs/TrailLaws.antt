@@ -11,7 +11,7 @@ use Rattle.tableau_specs.specs.Items.{facts_of}
 use Rattle.tableau_specs.specs.Clash.{filled_successors}
 use Rattle.tableau_specs.specs.Steps.{SearchContext, below_of, IsSaturated}
 use Rattle.tableau_specs.specs.Reached.{start, Follows}
-use Rattle.search_laws.specs.Theories.{MeetsRoles, MeetsParts}
+use Rattle.search_laws.specs.Theories.{MeetsRoles, MeetsParts, HasNoAssertions}
 
 -- the concepts of the start stay
 abbrev pub StartStays : Type 0
@@ -24,7 +24,7 @@ FewSuccessorsFit = (w : SearchContext) (trail : List Item) → IsSaturated w tra
     → (x c n s e : ℕ) → x < node_count (facts_of trail) → has (facts_of trail) x c ≡ true → shape_of w.table c ≡ at_most n s e
     → length (filled_successors (below_of w) (facts_of trail) x s e) ≤ n
 
--- the axioms of these numbers are met exactly where their theory is
+-- where no axiom is an assertion, the axioms of these numbers are met exactly where their theory is
 abbrev pub TheoriesAreTheirAxioms : Type 0
-TheoriesAreTheirAxioms = (i : Interpretation) (axioms : List Numbered) (ks : List ℕ)
+TheoriesAreTheirAxioms = (i : Interpretation) (axioms : List Numbered) (ks : List ℕ) → HasNoAssertions axioms
     → (meets_all i (named_axioms axioms ks) ≡ true) ↔ (MeetsRoles (theory_of axioms ks) i × MeetsParts (theory_of axioms ks) i)
