@@ -7,6 +7,7 @@ use Rattle.pinpointing_specs.specs.Nodes.{AreNodes}
 use Rattle.shq_terms.specs.Concept.{Concept, top, bottom, name}
 use Rattle.shq_terms.specs.Listed.{Listed}
 use Rattle.shq_terms.specs.declared.axioms.Axiom.{Axiom}
+use Rattle.shq_terms.specs.declared.axioms.On.TheVariants.{Any}
 use Rattle.shq_terms.specs.declared.axioms.Query.{Query}
 use Rattle.shq_meaning.specs.Truth.{Entails}
 use Rattle.pinpointing_specs.specs.LocalModule.{IsLocalModule, IsJustification}
@@ -118,9 +119,9 @@ IsClass o top = Unit {0}
 IsClass o bottom = Unit {0}
 IsClass o _ = ⊥
 
--- the entry tests, by all axioms, whether one class is part of another
+-- the entry tests, by all axioms and of all elements, whether one class is part of another
 abbrev pub IsClassTest : Listed → Entry → Type 0
-IsClassTest o (Test s q steps e) = IsWhole o s × IsClass o q.sub × IsClass o q.sup × ¬ (q.sub ≡ q.sup)
+IsClassTest o (Test s q steps e) = IsWhole o s × IsClass o q.sub × IsClass o q.sup × ¬ (q.sub ≡ q.sup) × (q.on ≡ Any)
 IsClassTest o (Node s) = ⊥
 
 abbrev pub AreClassTests : Listed → List Entry → Type 0
@@ -131,10 +132,10 @@ abbrev pub AsksNothingTwice : List Entry → Type 0
 AsksNothingTwice log = (i j : ℕ) (s t : Limited) (p q : Query) (m n : ℕ) (e f : TestEnd)
     → i < j → slice_get log i ≡ Some (Test s p m e) → slice_get log j ≡ Some (Test t q n f) → ¬ (p ≡ q)
 
--- one step from a class to one of which it is part: a test found so, or the latter has all things, or the former has
--- none
+-- one step from a class to one of which it is part: a test of all that is in the former found so, or the latter has all
+-- things, or the former has none
 pub data IsStep (log : List Entry) : Concept → Concept → Type 0 where
-  by_test : (s : Limited) (q : Query) (steps : ℕ) (u : Limited) → Contains log (Test s q steps (Yes u)) → IsStep log q.sub q.sup
+  by_test : (s : Limited) (q : Query) (steps : ℕ) (u : Limited) → q.on ≡ Any → Contains log (Test s q steps (Yes u)) → IsStep log q.sub q.sup
   in_top : (x : Concept) → IsStep log x top
   of_bottom : (y : Concept) → IsStep log bottom y
 

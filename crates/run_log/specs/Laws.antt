@@ -4,6 +4,7 @@ use Rattle.lane_sieve.specs.Sets.{IsPart}
 use Rattle.axiom_sets.specs.Sets.{Limited}
 use Rattle.shq_terms.specs.Concept.{Concept}
 use Rattle.shq_terms.specs.Listed.{Listed}
+use Rattle.shq_terms.specs.declared.axioms.On.TheVariants.{Any}
 use Rattle.shq_terms.specs.declared.axioms.Query.{Query}
 use Rattle.shq_meaning.specs.Truth.{Entails}
 use Rattle.pinpointing_specs.specs.LocalModule.{FollowsFrom}
@@ -41,4 +42,4 @@ AnswersAreTrue = (o : Listed) (log : List Entry) (asked s : Limited) (q : Query)
 -- where a chain of an honest classification leads from one class to another, the former is part of the latter
 abbrev pub ChainsAreTrue : Type 0
 ChainsAreTrue = (o : Listed) (log : List Entry) (x y : Concept) → EachIsHonest o log → AreClassTests o log → IsChain log x y
-    → Entails (all_axioms o.axioms) (record { sub = x; sup = y })
+    → Entails (all_axioms o.axioms) (record { sub = x; sup = y; on = Any })

@@ -8,6 +8,8 @@ use Rattle.std.specs.Ordering.{nat_cmp}
 use Rattle.axiom_sets.specs.Sets.{Limited, IsFull}
 use Rattle.shq_terms.specs.Concept.{Concept, top, name}
 use Rattle.shq_terms.specs.Listed.{Listed}
+use Rattle.shq_terms.specs.declared.axioms.On.{On}
+use Rattle.shq_terms.specs.declared.axioms.On.TheVariants.{Any, Individual}
 use Rattle.shq_terms.specs.declared.axioms.Query.{Query}
 use Rattle.run_log.specs.declared.entry.Entry.{Entry}
 use Rattle.run_log.specs.declared.entry.Entry.TheVariants.{Test, Node}
@@ -18,22 +20,29 @@ use Rattle.run_log.specs.HonestLog.{IsWhole, IsWithinBudget, EndsWhenSpent, IsOn
 use Rattle.run_log.specs.HonestLog.IsStep.{by_test, in_top, of_bottom}
 use Rattle.run_log.specs.HonestLog.IsChain.{none, onward}
 
--- three classes, and no axioms
+-- three classes, an individual, and no axioms
 abbrev pub bare : Listed
-bare = record { axioms = []; classes = (65 ∷ []) ∷ (66 ∷ []) ∷ (67 ∷ []) ∷ []; roles = [] }
+bare = record { axioms = []; classes = (65 ∷ []) ∷ (66 ∷ []) ∷ (67 ∷ []) ∷ []; roles = []; individuals = (97 ∷ []) ∷ [] }
 
 -- the set of no axioms
 abbrev pub no_axioms : Limited
 no_axioms = record { limit = 0; members = set.empty }
 
 abbrev pub inclusion : ℕ → ℕ → Query
-inclusion a b = record { sub = name a; sup = name b }
+inclusion a b = record { sub = name a; sup = name b; on = Any }
+
+-- the same, asked of the individual alone
+abbrev pub inclusion_at_one : ℕ → ℕ → Query
+inclusion_at_one a b = record { sub = name a; sup = name b; on = Individual 0 }
 
 abbrev pub sub_of : Query → Concept
 sub_of q = q.sub
 
 abbrev pub sup_of : Query → Concept
 sup_of q = q.sup
+
+abbrev pub on_of : Query → On
+on_of q = q.on
 
 -- ---- the budget
 
@@ -108,6 +117,9 @@ second_test = Test no_axioms (inclusion 1 2) 4 (Yes no_axioms)
 abbrev third_test : Entry
 third_test = Test no_axioms (inclusion 0 2) 4 No
 
+abbrev test_at_one : Entry
+test_at_one = Test no_axioms (inclusion_at_one 0 1) 4 (Yes no_axioms)
+
 abbrev two_tests : List Entry
 two_tests = first_test ∷ second_test ∷ []
 
@@ -118,7 +130,7 @@ zero_is_not_one : ¬ (name 0 ≡ name 1)
 zero_is_not_one h = let k : ◌≡◌ {A = ℕ} 0 1 = cc in omega (arith, k)
 
 pub is_class_test : AreClassTests bare (first_test ∷ [])
-is_class_test = All-cons (IsClassTest bare) first_test [] (no_axioms_are_whole, lit< tt, lit< tt, zero_is_not_one) (All-nil (IsClassTest bare))
+is_class_test = All-cons (IsClassTest bare) first_test [] (no_axioms_are_whole, lit< tt, lit< tt, zero_is_not_one, refl) (All-nil (IsClassTest bare))
 
 -- a class and itself are not asked about
 pub is_no_class_test : ¬ AreClassTests bare (Test no_axioms (inclusion 0 0) 4 (Yes no_axioms) ∷ [])
@@ -127,6 +139,10 @@ is_no_class_test h = (All-head (IsClassTest bare) (Test no_axioms (inclusion 0 0
 -- nor one that is not listed
 pub is_unlisted : ¬ AreClassTests bare (Test no_axioms (inclusion 0 3) 4 No ∷ [])
 is_unlisted h = let k = (All-head (IsClassTest bare) (Test no_axioms (inclusion 0 3) 4 No) [] h).2 in omega (arith, k)
+
+-- nor is an individual
+pub is_of_individual : ¬ AreClassTests bare (test_at_one ∷ [])
+is_of_individual h = let k : Individual 0 ≡ Any = (All-head (IsClassTest bare) test_at_one [] h).4 in cc
 
 pub asks_once : AsksNothingTwice two_tests
 asks_once zero (suc zero) s t p q m n e f lt at bt same =
@@ -155,13 +171,13 @@ is_top_or a (name b) = nat_le a b && nat_le b a
 is_top_or a _ = false
 
 pub none_leaves_zero : IsKeptBy (is_top_or 0) []
-none_leaves_zero _ _ (by_test s q steps u is) h = absurd (omega (arith, is.1))
+none_leaves_zero _ _ (by_test s q steps u any is) h = absurd (omega (arith, is.1))
 none_leaves_zero _ _ (in_top x) h = refl
 none_leaves_zero _ _ (of_bottom y) h = cc
 
 none_leaves_one : IsKeptBy (is_top_or 1) (first_test ∷ [])
-none_leaves_one _ _ (by_test s q steps u (zero, lt, is)) h = let e : q ≡ inclusion 0 1 = cc in let k : name 0 ≡ q.sub = ap sub_of (sym e) in let b : is_top_or 1 (name 0) ≡ true = ap (is_top_or 1) k ∙ h in cc
-none_leaves_one _ _ (by_test s q steps u (suc k, lt, is)) h = absurd (omega (arith, lt))
+none_leaves_one _ _ (by_test s q steps u any (zero, lt, is)) h = let e : q ≡ inclusion 0 1 = cc in let k : name 0 ≡ q.sub = ap sub_of (sym e) in let b : is_top_or 1 (name 0) ≡ true = ap (is_top_or 1) k ∙ h in cc
+none_leaves_one _ _ (by_test s q steps u any (suc k, lt, is)) h = absurd (omega (arith, lt))
 none_leaves_one _ _ (in_top x) h = refl
 none_leaves_one _ _ (of_bottom y) h = cc
 
@@ -184,5 +200,20 @@ asks_what_is_open (suc (suc place)) s q steps e at chain = cc
 pub asks_what_follows : ¬ AsksNoChain three_tests
 asks_what_follows h =
     h 2 no_axioms (inclusion 0 2) 4 No refl
-    (onward (name 0) (name 1) (name 2) (by_test no_axioms (inclusion 0 1) 4 no_axioms (0, lit< tt, refl))
-    (onward (name 1) (name 2) (name 2) (by_test no_axioms (inclusion 1 2) 4 no_axioms (1, lit< tt, refl)) (none (name 2))))
+    (onward (name 0) (name 1) (name 2) (by_test no_axioms (inclusion 0 1) 4 no_axioms refl (0, lit< tt, refl))
+    (onward (name 1) (name 2) (name 2) (by_test no_axioms (inclusion 1 2) 4 no_axioms refl (1, lit< tt, refl)) (none (name 2))))
+
+-- a test on an individual leads from no class to another
+none_leaves_by_individual : IsKeptBy (is_top_or 0) (test_at_one ∷ [])
+none_leaves_by_individual _ _ (by_test s q steps u any (zero, lt, is)) h =
+    let e : q ≡ inclusion_at_one 0 1 = cc in
+    let k : Individual 0 ≡ Any = ap on_of (sym e) ∙ any in
+    cc
+none_leaves_by_individual _ _ (by_test s q steps u any (suc k, lt, is)) h = absurd (omega (arith, lt))
+none_leaves_by_individual _ _ (in_top x) h = refl
+none_leaves_by_individual _ _ (of_bottom y) h = cc
+
+pub no_chain_by_individual : ¬ IsChain (test_at_one ∷ []) (name 0) (name 1)
+no_chain_by_individual chain =
+    let k : is_top_or 0 (name 1) ≡ true = stays (is_top_or 0) (test_at_one ∷ []) none_leaves_by_individual (name 0) (name 1) chain refl in
+    cc

@@ -14,7 +14,7 @@ use Rattle.pinpointing_specs.specs.Nodes.{IsChild}
 use Rattle.shq_terms.specs.Concept.{name}
 use Rattle.shq_terms.specs.Listed.{Listed}
 use Rattle.shq_terms.specs.declared.axioms.Axiom.{Axiom}
-use Rattle.shq_terms.specs.declared.axioms.Axiom.TheVariants.{SubClassOf, Transitive}
+use Rattle.shq_terms.specs.declared.axioms.Axiom.TheVariants.{SubClassOf, Transitive, Member}
 use Rattle.shq_terms.specs.declared.axioms.Numbered.{Numbered}
 use Rattle.shq_terms.specs.declared.axioms.Query.{Query}
 use Rattle.shq_meaning.specs.Below.{all_below}
@@ -108,7 +108,7 @@ asks_more h = h 1 (numbers 3 (1 ∷ 2 ∷ 3 ∷ [])) (inclusion 0 1) 4 (Yes (num
 
 -- one axiom: class 0 is part of class 1
 abbrev pub one_axiom : Listed
-one_axiom = record { axioms = record { «axiom» = SubClassOf (name 0) (name 1); line = 1 } ∷ []; classes = (65 ∷ []) ∷ (66 ∷ []) ∷ []; roles = [] }
+one_axiom = record { axioms = record { «axiom» = SubClassOf (name 0) (name 1); line = 1 } ∷ []; classes = (65 ∷ []) ∷ (66 ∷ []) ∷ []; roles = []; individuals = [] }
 
 with_it : (s : NumberSet) → set.contains s 1 ≡ true → axioms_in_set s one_axiom.axioms ≡ SubClassOf (name 0) (name 1) ∷ []
 with_it s h = ap (λ (b : Bool). if b then SubClassOf (name 0) (name 1) ∷ [] else []) h
@@ -126,17 +126,17 @@ is_false true h = absurd (h refl)
 is_false false h = refl
 
 it_is_enough : Entails (SubClassOf (name 0) (name 1) ∷ []) (inclusion 0 1)
-it_is_enough i some meets x lt = is_false (i.in_class 0 x && not (i.in_class 1 x)) (λ h.
+it_is_enough i some placed meets x lt = is_false (i.in_class 0 x && not (i.in_class 1 x)) (λ h.
     let k : all_below i.size (λ y. implies (i.in_class 0 y) (i.in_class 1 y)) ≡ false = all_below-false i.size (λ y. implies (i.in_class 0 y) (i.in_class 1 y)) x lt (refuted (i.in_class 0 x) (i.in_class 1 x) h) in
     let m : (false && true) ≡ true = ap (λ (b : Bool). b && true) (sym k) ∙ meets in
     cc)
 
 -- one element, in class 0 alone
 abbrev in_zero : Interpretation
-in_zero = record { size = 1; in_class = λ a x. nat_eq a 0; in_role = λ r x y. false }
+in_zero = record { size = 1; in_class = λ a x. nat_eq a 0; in_role = λ r x y. false; individual = λ a. 0 }
 
 none_is_not_enough : ¬ Entails [] (inclusion 0 1)
-none_is_not_enough h = let k : true ≡ false = h in_zero (omega arith) refl 0 (lit< tt) in cc
+none_is_not_enough h = let k : true ≡ false = h in_zero (omega arith) (λ a. lit< tt) refl 0 (lit< tt) in cc
 
 abbrev the_first : NumberSet
 the_first = set.from_list (1 ∷ [])
@@ -218,7 +218,7 @@ asks_thrice_at_a_node h = omega (arith, h)
 
 -- one axiom that has nothing to do with the query: role 0 is transitive
 abbrev apart_axiom : Listed
-apart_axiom = record { axioms = record { «axiom» = Transitive 0; line = 1 } ∷ []; classes = (65 ∷ []) ∷ (66 ∷ []) ∷ []; roles = (82 ∷ []) ∷ [] }
+apart_axiom = record { axioms = record { «axiom» = Transitive 0; line = 1 } ∷ []; classes = (65 ∷ []) ∷ (66 ∷ []) ∷ []; roles = (82 ∷ []) ∷ []; individuals = [] }
 
 empty_is_closed : IsClosed apart_axiom.axioms (inclusion 0 1) set.empty
 empty_is_closed zero a at out =
@@ -247,3 +247,11 @@ leaves_module h =
     let in_module : set.contains h.local_part 1 ≡ true = All-head (IsTestIn h.local_part) (Test (numbers 1 (1 ∷ [])) (inclusion 0 1) 4 No) [] h.within 1 (set.contains-from_list_nat (1 ∷ []) 1) in
     let k : false ≡ true = sym (set.contains-empty nat_cmp 1) ∙ h.is_module.least set.empty empty_is_closed 1 in_module in
     cc
+
+-- an axiom that has no name of the query either: an individual is in class 2
+abbrev one_assertion : Listed
+one_assertion =
+    record { axioms = record { «axiom» = Member (name 2) 0; line = 1 } ∷ []; classes = (65 ∷ []) ∷ (66 ∷ []) ∷ (67 ∷ []) ∷ []; roles = []; individuals = (97 ∷ []) ∷ [] }
+
+pub assertion_in_module : (m : NumberSet) → IsLocalModule one_assertion.axioms (inclusion 0 1) m → set.contains m 1 ≡ true
+assertion_in_module m is = is.closed 0 (record { «axiom» = Member (name 2) 0; line = 1 }) refl refl

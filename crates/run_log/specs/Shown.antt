@@ -5,6 +5,7 @@ use Rattle.lane_sieve.specs.Sets.{NumberSet}
 use Rattle.axiom_sets.specs.Sets.{Limited}
 use Rattle.shq_terms.specs.Concept.{Concept}
 use Rattle.shq_terms.specs.Listed.{Listed}
+use Rattle.shq_terms.specs.declared.axioms.On.TheVariants.{Any}
 use Rattle.shq_terms.specs.declared.axioms.Query.{Query}
 use Rattle.pinpointing_specs.specs.LocalModule.{IsLocalModule, IsJustification, IsRepair}
 use Rattle.run_log.specs.declared.entry.Entry.{Entry}
@@ -16,6 +17,7 @@ use Rattle.run_log.specs.HonestLog.{IsClass, IsChain}
 pub record IsRuledOut (log : List Entry) (x y : Concept) : Type 0 where
   pub tested : Limited
   pub query : Query
+  pub of_all : query.on ≡ Any
   pub steps : ℕ
   pub is_no : Contains log (Test tested query steps No)
   pub lower : IsChain log query.sub x

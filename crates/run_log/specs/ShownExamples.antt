@@ -9,6 +9,7 @@ use Rattle.axiom_sets.specs.Sets.{IsWithin}
 use Rattle.pinpointing_specs.specs.Smallest.{rest}
 use Rattle.shq_terms.specs.Concept.{Concept, top, bottom, name}
 use Rattle.shq_terms.specs.Listed.{Listed}
+use Rattle.shq_terms.specs.declared.axioms.On.TheVariants.{Any}
 use Rattle.shq_terms.specs.declared.axioms.Query.{Query}
 use Rattle.pinpointing_specs.specs.LocalModule.{of_axioms, FollowsFrom, IsJustification}
 use Rattle.run_log.specs.declared.entry.Entry.{Entry}
@@ -22,10 +23,10 @@ use Rattle.run_log.specs.LogExamples.{no_axioms, is_top_or, stays, none_leaves_z
 
 -- no classes and no axioms
 abbrev empty : Listed
-empty = record { axioms = []; classes = []; roles = [] }
+empty = record { axioms = []; classes = []; roles = []; individuals = [] }
 
 abbrev consistent : Query
-consistent = record { sub = top; sup = bottom }
+consistent = record { sub = top; sup = bottom; on = Any }
 
 -- ---- classes
 
@@ -36,7 +37,7 @@ one_no = Test no_axioms consistent 0 No ∷ []
 shown_each : (x y : Concept) → IsClass empty x → IsClass empty y → ¬ (x ≡ y) → IsChain one_no x y ⊎ IsRuledOut one_no x y
 shown_each bottom y cx cy differ = inl (onward bottom y y (of_bottom y) (none y))
 shown_each x top cx cy differ = inl (onward x top top (in_top x) (none top))
-shown_each top bottom cx cy differ = inr (record { tested = no_axioms; query = consistent; steps = 0; is_no = (0, lit< tt, refl); lower = none top; upper = none bottom })
+shown_each top bottom cx cy differ = inr (record { tested = no_axioms; query = consistent; of_all = refl; steps = 0; is_no = (0, lit< tt, refl); lower = none top; upper = none bottom })
 shown_each (name a) y cx cy differ = absurd (omega (arith, cx))
 shown_each x (name a) cx cy differ = absurd (omega (arith, cy))
 shown_each top y cx cy differ = absurd cy
@@ -61,10 +62,10 @@ shows_no_classes h = elim (h top bottom tt tt top_is_not_bottom) [
 
 -- what follows from no axioms has the empty set as its one justification, and no repairs
 abbrev trivial : Query
-trivial = record { sub = bottom; sup = top }
+trivial = record { sub = bottom; sup = top; on = Any }
 
 trivial_follows : (s : NumberSet) → FollowsFrom empty.axioms trivial s
-trivial_follows s i some meets x lt = refl
+trivial_follows s i some placed meets x lt = refl
 
 abbrev one_yes : List Entry
 one_yes = Test no_axioms trivial 0 (Yes no_axioms) ∷ []

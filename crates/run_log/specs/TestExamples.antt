@@ -11,6 +11,7 @@ use Rattle.std.proofs.Math.Bool.{and-not_self}
 use Rattle.axiom_sets.specs.Sets.{Limited, member_list}
 use Rattle.shq_terms.specs.Concept.{top, bottom, name, intersection, parts_of}
 use Rattle.shq_terms.specs.declared.axioms.Axiom.{Axiom}
+use Rattle.shq_terms.specs.declared.axioms.On.TheVariants.{Any}
 use Rattle.shq_terms.specs.declared.axioms.Query.{Query}
 use Rattle.shq_meaning.specs.Truth.{Interpretation, Entails}
 use Rattle.calculus_specs.specs.Shape.{Shape, shape_of, has_parts_below, is_normal, IsTable}
@@ -47,13 +48,13 @@ use Rattle.run_log.specs.LogExamples.{bare, no_axioms, no_axioms_are_whole}
 -- Whether class 0 is part of itself, which follows from no axioms; whether all things are in no class, which does not;
 -- and whether nothing is in both of two classes.
 abbrev itself : Query
-itself = record { sub = name 0; sup = name 0 }
+itself = record { sub = name 0; sup = name 0; on = Any }
 
 abbrev absurdity : Query
-absurdity = record { sub = top; sup = bottom }
+absurdity = record { sub = top; sup = bottom; on = Any }
 
 abbrev apart : Query
-apart = record { sub = intersection (parts_of (name 0 ∷ name 1 ∷ [])); sup = bottom }
+apart = record { sub = intersection (parts_of (name 0 ∷ name 1 ∷ [])); sup = bottom; on = Any }
 
 -- ---- what follows from no axioms
 
@@ -62,13 +63,13 @@ none_named [] = refl
 none_named (k ∷ ks) = none_named ks
 
 itself_follows : (s : Limited) → FollowsIn bare s itself
-itself_follows s i some meets x lt = and-not_self (i.in_class 0 x)
+itself_follows s i some placed meets x lt = and-not_self (i.in_class 0 x)
 
 abbrev one_element : Interpretation
-one_element = record { size = 1; in_class = λ a x. false; in_role = λ r x y. false }
+one_element = record { size = 1; in_class = λ a x. false; in_role = λ r x y. false; individual = λ a. 0 }
 
 absurdity_is_refuted : ¬ Entails [] absurdity
-absurdity_is_refuted h = let k : true ≡ false = h one_element (omega arith) refl 0 (lit< tt) in cc
+absurdity_is_refuted h = let k : true ≡ false = h one_element (omega arith) (λ a. lit< tt) refl 0 (lit< tt) in cc
 
 absurdity_follows_not : (s : Limited) → ¬ FollowsIn bare s absurdity
 absurdity_follows_not s h = absurdity_is_refuted (subst (λ (as_ : List Axiom). Entails as_ absurdity) (none_named (member_list s)) h)
