@@ -9,7 +9,7 @@ use Rattle.lane_sieve.specs.Sets.{passing}
 use Rattle.lane_sieve.proofs.Ranges.{any-passing}
 use Rattle.axiom_sets.specs.Sets.{Limited, member_list}
 use Rattle.shq_terms.specs.declared.axioms.Axiom.{Axiom}
-use Rattle.shq_terms.specs.declared.axioms.Axiom.TheVariants.{SubClassOf, EquivalentClasses, DisjointClasses, DisjointUnion, SubRole, EquivalentRoles, Domain, Range, Functional, Transitive}
+use Rattle.shq_terms.specs.declared.axioms.Axiom.TheVariants.{SubClassOf, EquivalentClasses, DisjointClasses, DisjointUnion, SubRole, EquivalentRoles, Domain, Range, Functional, Transitive, Member, Pair, SameAll, Different}
 use Rattle.shq_terms.specs.declared.axioms.Numbered.{Numbered}
 use Rattle.calculus_specs.specs.Rows.{Theory, is_among, part_at}
 use Rattle.shq_nnf.specs.Meeting.{is_role_axiom}
@@ -38,6 +38,10 @@ no_roles (Domain r c) h = refl
 no_roles (Range r c) h = refl
 no_roles (Functional r) h = refl
 no_roles (Transitive r) h = cc
+no_roles (Member c a) h = refl
+no_roles (Pair r a b) h = refl
+no_roles (SameAll as_) h = refl
+no_roles (Different as_) h = refl
 
 no_roles_at : (o : Option Numbered) → says_of_roles o ≡ false → role_part_at o ≡ []
 no_roles_at None h = refl

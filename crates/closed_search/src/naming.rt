@@ -120,8 +120,18 @@ fn axiom_in(line: &Line) -> Option<u32>
 fn is_role_axiom(axiom: &Axiom) -> bool
     ensures { result ≡ says_of_roles_alone «axiom».now }
 {
-    matches!(
-        axiom,
-        Axiom::SubRole(..) | Axiom::EquivalentRoles(_) | Axiom::Transitive(_)
-    )
+    match axiom {
+        Axiom::SubRole(_, _) | Axiom::EquivalentRoles(_) | Axiom::Transitive(_) => true,
+        Axiom::SubClassOf(_, _)
+        | Axiom::EquivalentClasses(_)
+        | Axiom::DisjointClasses(_)
+        | Axiom::DisjointUnion(_, _)
+        | Axiom::Domain(_, _)
+        | Axiom::Range(_, _)
+        | Axiom::Functional(_)
+        | Axiom::Member(_, _)
+        | Axiom::Pair(_, _, _)
+        | Axiom::SameAll(_)
+        | Axiom::Different(_) => false,
+    }
 }

@@ -145,6 +145,7 @@ module _ (o : Listed) (ks : List ℕ) (q : Query) (table : List Shape) (rows : L
   is_built : IsBuilt w fs i
   is_built = record {
     size_is = given.size_is;
+    individuals_are = given.individuals_are;
     classes_are = λ a v lt. given.classes_are a v ∙ are.members_are a v (omega (arith, given.size_is, lt));
     roles_are = λ s v u lt mt.
         let vt : v < size = omega (arith, given.size_is, lt) in

@@ -52,3 +52,4 @@ pub record IsInterpretation (size count : ℕ) (members : List Member) (roles : 
   pub size_is : i.size ≡ size
   pub classes_are : (a x : ℕ) → i.in_class a x ≡ is_member_of members a x
   pub roles_are : (s x y : ℕ) → x < size → y < size → i.in_role s x y ≡ (leads_listed count roles edges s x y || has_any_chain size count roles edges s x y)
+  pub individuals_are : (a : ℕ) → i.individual a ≡ 0

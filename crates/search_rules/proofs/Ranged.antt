@@ -5,7 +5,7 @@ use Rattle.std.specs.List.{All, list_all}
 use Rattle.std.proofs.lemmas.Bool.{and_parts, leb-true, cases_lt}
 use Rattle.shq_terms.specs.Concept.{Concept, top}
 use Rattle.shq_terms.specs.declared.axioms.Axiom.{Axiom}
-use Rattle.shq_terms.specs.declared.axioms.Axiom.TheVariants.{SubClassOf, EquivalentClasses, DisjointClasses, DisjointUnion, SubRole, EquivalentRoles, Domain, Range, Functional, Transitive}
+use Rattle.shq_terms.specs.declared.axioms.Axiom.TheVariants.{SubClassOf, EquivalentClasses, DisjointClasses, DisjointUnion, SubRole, EquivalentRoles, Domain, Range, Functional, Transitive, Member, Pair, SameAll, Different}
 use Rattle.shq_terms.specs.declared.axioms.Numbered.{Numbered}
 use Rattle.calculus_specs.specs.Rows.{Part, inclusion, range, part_at, is_among, inclusion_of}
 use Rattle.shq_nnf.specs.Parts.{axiom_parts, part_in, disjoint_pair, disjoint_parts, chain_parts, equivalent_parts, union_parts}
@@ -64,6 +64,10 @@ range_first (Domain r c) place s d lt is = absurd (no_range (axiom_parts (Domain
 range_first (Range r c) place s d lt is = omega arith
 range_first (Functional r) place s d lt is = absurd (no_range (axiom_parts (Functional r)) place s d refl is)
 range_first (Transitive r) place s d lt is = absurd (omega arith)
+range_first (Member c a) place s d lt is = absurd (omega arith)
+range_first (Pair r a b) place s d lt is = absurd (omega arith)
+range_first (SameAll as_) place s d lt is = absurd (omega arith)
+range_first (Different as_) place s d lt is = absurd (omega arith)
 
 in_option : (o : Option Numbered) (place s : ℕ) (d : Concept) → place < length (parts_in o) → part_in (parts_in o) place ≡ range s d → place ≡ 0
 in_option None place s d lt is = absurd (omega arith)

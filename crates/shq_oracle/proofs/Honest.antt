@@ -1,6 +1,7 @@
 -- What a search that ends says is honest.
 use Rattle.std.proofs.Common.{◌≡◌, ℕ, zero, suc, ◌+◌, ◌≤◌, List, [], ◌∷◌, ◌++◌, take, Some, ap, sym, subst, ◌∙◌, arith, inl, inr}
 use Rattle.std.specs.Prelude.{slice_get, Option, None, Result, Ok, Err, IfOk, IfSome}
+use Rattle.shq_terms.specs.declared.axioms.On.TheVariants.{Any}
 use Rattle.shq_terms.specs.Concept.{name}
 use Rattle.shq_terms.specs.NoMemory.{NoMemory}
 use Rattle.axiom_sets.specs.Sets.{Limited, member_list}
@@ -44,7 +45,7 @@ module _ (s : SearchState) (reached : IsReachedBy s) where
   pub honest_yes : (r : RefutationLists) → IsAxiomSet s.rules.ontology s.rules.set → IsAtRefutation r s → IsHonestYes s.rules.ontology s.rules.set s.query s.steps r.axioms
   honest_yes r is_set c =
       let named : IsAxiomSet s.rules.ontology r.axioms = record { limit_is = c.refutes.limit; within = c.refutes.writable.within } in
-      let follows : FollowsIn s.rules.ontology r.axioms s.query = entailed s.rules.ontology.axioms (member_list r.axioms) s.query.sub s.query.sup r.shapes r.lines c.refutes.refutes in
+      let follows : FollowsIn s.rules.ontology r.axioms s.query = entailed s.rules.ontology.axioms (member_list r.axioms) s.query.sub s.query.sup s.query.on r.shapes r.lines c.refutes.refutes in
       record {
         of_axioms = named;
         part = c.refutes.named;
@@ -112,8 +113,8 @@ left_out s k e (Some classes) h = record {
   limit_is = h.limit_is;
   honest = λ a lt member.
       let shown = h.apart a lt member in
-      let honest : IsHonestNo s.rules.ontology s.rules.set (record { sub = s.query.sub; sup = name a }) s.steps = record { follows_not = shown.follows_not; cost = shown.cost } in
-      subst (λ (n : ℕ). IsHonestNo s.rules.ontology s.rules.set (record { sub = s.query.sub; sup = name a }) n) (sym e) honest;
+      let honest : IsHonestNo s.rules.ontology s.rules.set (record { sub = s.query.sub; sup = name a; on = Any }) s.steps = record { follows_not = shown.follows_not; cost = shown.cost } in
+      subst (λ (n : ℕ). IsHonestNo s.rules.ontology s.rules.set (record { sub = s.query.sub; sup = name a; on = Any }) n) (sym e) honest;
 }
 
 -- ---- for the rules and the query of the search

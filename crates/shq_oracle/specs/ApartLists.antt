@@ -4,6 +4,7 @@ use Rattle.std.specs.FinSet as set
 use Rattle.axiom_sets.specs.Sets.{Limited}
 use Rattle.shq_terms.specs.Concept.{Concept, name}
 use Rattle.shq_terms.specs.Listed.{Listed}
+use Rattle.shq_terms.specs.declared.axioms.On.TheVariants.{Any}
 use Rattle.shq_terms.specs.declared.axioms.Query.{Query}
 use Rattle.run_log.specs.declared.entry.Entry.{Entry}
 use Rattle.run_log.specs.declared.entry.Entry.TheVariants.{Test}
@@ -25,7 +26,7 @@ pub record ApartLists : Type 0 where
 -- decide
 pub record AreApart (o : Listed) (s : Limited) (sub : Concept) (steps : ℕ) (classes : Limited) : Type 0 where
   pub limit_is : classes.limit ≡ length o.classes
-  pub honest : (a : ℕ) → a < length o.classes → set.contains classes.members (a + 1) ≡ true → IsHonestNo o s (record { sub = sub; sup = name a }) steps
+  pub honest : (a : ℕ) → a < length o.classes → set.contains classes.members (a + 1) ≡ true → IsHonestNo o s (record { sub = sub; sup = name a; on = Any }) steps
 
 -- what is kept is so, of axioms of the ontology
 pub record IsKeptApart (a : ApartLists) : Type 0 where
@@ -40,7 +41,7 @@ pub record IsAbout (o : Listed) (s : Limited) (sub : Concept) (a : ApartLists) :
 
 -- the question whether the class expression is part of a class, and the entry of a test that says it is not
 abbrev pub query_of : ApartLists → ℕ → Query
-query_of a class = record { sub = a.sub; sup = name class }
+query_of a class = record { sub = a.sub; sup = name class; on = Any }
 
 abbrev pub entry_of : ApartLists → ℕ → Entry
 entry_of a class = Test a.set (query_of a class) a.steps No

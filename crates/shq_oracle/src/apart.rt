@@ -6,7 +6,7 @@ ghost use Rattle.shq_oracle.specs.ApartLists.{query_of, entry_of, AreApart};
 
 use crate::NoMemory;
 use axiom_sets::AxiomSet;
-use shq_terms::{Concept, Node, Ontology, Query};
+use shq_terms::{Concept, Node, On, Ontology, Query};
 use std::alloc::Global;
 use std::marker::Model;
 
@@ -101,6 +101,7 @@ impl<'a> Apart<'a> {
         Ok(Query {
             sub,
             sup: Concept { node },
+            on: On::Any,
         })
     }
 }

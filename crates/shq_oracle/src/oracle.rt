@@ -533,5 +533,6 @@ fn copy_of(alloc: Global, query: &Query) -> Result<Query, NoMemory>
     Ok(Query {
         sub: query.sub.try_clone(alloc)?,
         sup: query.sup.try_clone(alloc)?,
+        on: query.on,
     })
 }

@@ -8,6 +8,7 @@ use Rattle.std.proofs.lemmas.List.Folds.{list_all-append}
 use Rattle.shq_terms.specs.Concept.{name}
 use Rattle.shq_terms.specs.Listed.{Listed}
 use Rattle.shq_terms.specs.Uses.{uses_listed}
+use Rattle.shq_terms.specs.declared.axioms.On.TheVariants.{Any}
 use Rattle.shq_terms.specs.declared.axioms.Query.{Query}
 use Rattle.axiom_sets.specs.Sets.{Limited, member_list}
 use Rattle.calculus_specs.specs.Shape.{Shape, shape_of}
@@ -30,7 +31,7 @@ use Rattle.tableau.specs.SearchState.{SearchState, room_for, context_of, trail_o
 use Rattle.tableau.specs.Steps.{IsAtModel, LeavesClassOut, query_for, IsShownApart, AreLeftOut}
 
 -- the query for a listed class is within the limits
-query_in_limit : (o : Listed) (q : Query) (a : ℕ) → IsInLimit o q → a < length o.classes → IsInLimit o (record { sub = q.sub; sup = name a })
+query_in_limit : (o : Listed) (q : Query) (a : ℕ) → IsInLimit o q → a < length o.classes → IsInLimit o (record { sub = q.sub; sup = name a; on = Any })
 query_in_limit o q a h lt = record {
   ontology = h.ontology;
   listed = and_from (uses_listed (length o.classes) (length o.roles) q.sub) _ (and_parts (uses_listed (length o.classes) (length o.roles) q.sub) (uses_listed (length o.classes) (length o.roles) q.sup) h.listed).0 (lt-ltb a (length o.classes) lt);
@@ -40,6 +41,7 @@ query_in_limit o q a h lt = record {
       ap (are_simple (all_role_axioms o.axioms)) (append-nil (counted_roles q.sub))
       ∙ (and_parts (are_simple (all_role_axioms o.axioms) (counted_roles q.sub)) (are_simple (all_role_axioms o.axioms) (counted_roles q.sup))
       (sym (list_all-append (is_simple (all_role_axioms o.axioms)) (counted_roles q.sub) (counted_roles q.sup)) ∙ h.simple)).0;
+  on_any = refl;
 }
 
 -- ---- what was not seen was left out

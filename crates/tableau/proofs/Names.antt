@@ -65,7 +65,7 @@ module _ (o : Listed) where
 
   names_kept : (ks : List ℕ) → IsOntologyInLimit o → IsKept (theory_of o.axioms ks) (λ c. uses c ≡ true) (λ r. ltb r (length o.roles) ≡ true)
   names_kept ks limit =
-      let k = allowed_kept (length o.classes) (length o.roles) any o.axioms ks (limit.listed, axioms_any o.axioms) in
+      let k = allowed_kept (length o.classes) (length o.roles) (length o.individuals) any o.axioms ks (limit.listed, axioms_any o.axioms) in
       record {
         top_is = k.top_is.0;
         conjunct = λ cs c h m. (k.conjunct cs c (allowed (intersection (parts_of cs)) h) m).0;

@@ -2,6 +2,7 @@
 use Rattle.std.specs.Prelude.{◌≡◌, ◌↔◌, ℕ, ◌+◌, ◌<◌, true, false, List, length, Option, Some, None}
 use Rattle.std.specs.FinSet as set
 use Rattle.shq_terms.specs.Concept.{name}
+use Rattle.shq_terms.specs.declared.axioms.On.TheVariants.{Any}
 use Rattle.shq_terms.specs.declared.axioms.Query.{Query}
 use Rattle.shq_meaning.specs.Truth.{Entails}
 use Rattle.lane_sieve.specs.Sets.{IsPart}
@@ -96,7 +97,7 @@ pub record LeavesClassOut (s : SearchState) (a : ℕ) : Type 0 where
 
 -- the query whether the search's subclass is in class a
 abbrev pub query_for : SearchState → ℕ → Query
-query_for s a = record { sub = s.query.sub; sup = name a }
+query_for s a = record { sub = s.query.sub; sup = name a; on = Any }
 
 -- it does not follow from the axioms of the set, and as many legal steps as the search has made decide that
 pub record IsShownApart (s : SearchState) (a : ℕ) : Type 0 where
