@@ -1,8 +1,9 @@
 // Names and axioms of small ontologies.
-ghost use Rattle.std.specs.Prelude.{◌≡◌, []};
+ghost use Rattle.std.specs.Prelude.{◌≡◌, ◌<◌, ◌≤◌, [], length};
 
 use shq_terms::{
-    AddFault, Axiom, Concept, ConceptList, MAX_ROLES, NoMemory, Node, NumberList, Ontology,
+    AddFault, Axiom, Concept, ConceptList, MAX_ROLES, NoMemory, Node, NumberList, Numbered,
+    Ontology,
 };
 use std::alloc::Global;
 use std::process::Abort;
@@ -10,6 +11,9 @@ use std::test::Fail;
 
 /// Names of classes in turn, and their numbers: each is listed once.
 const CLASSES: &[(&str, u32)] = &[("A", 0), ("B", 1), ("A", 0), ("C", 2), ("B", 1)];
+
+/// Names of individuals in turn, and their numbers. A class may have the same name.
+const INDIVIDUALS: &[(&str, u32)] = &[("a", 0), ("A", 1), ("a", 0), ("A", 1)];
 
 /// Bytes, and the class and the role whose name they are.
 const NAMES: &[(&[u8], Option<u32>, Option<u32>)] = &[
@@ -42,6 +46,11 @@ fn is_listed_as(ontology: &mut Ontology, iri: &str, number: u32) -> Result<bool,
     Ok(given == number && ontology.class_number(iri) == Some(number))
 }
 
+fn is_individual_as(ontology: &mut Ontology, iri: &str, number: u32) -> Result<bool, AddFault> {
+    let given = ontology.add_individual(iri)?;
+    Ok(given == number && ontology.individual_number(iri) == Some(number))
+}
+
 fn is_role(alloc: Global, ontology: &mut Ontology, number: u32) -> Result<bool, AddFault> {
     let iri = format!(in alloc; "r{number}")?;
     let given = ontology.add_role(&iri)?;
@@ -60,6 +69,9 @@ fn are_added(alloc: Global, ontology: &mut Ontology) -> Result<bool, AddFault> {
     for (iri, number) in CLASSES {
         are_so &= is_listed_as(ontology, iri, *number)?;
     }
+    for (iri, number) in INDIVIDUALS {
+        are_so &= is_individual_as(ontology, iri, *number)?;
+    }
     for number in 0..MAX_ROLES {
         are_so &= is_role(alloc, ontology, number)?;
     }
@@ -67,6 +79,21 @@ fn are_added(alloc: Global, ontology: &mut Ontology) -> Result<bool, AddFault> {
         are_so &= add_axiom(ontology, *line)? == *number;
     }
     Ok(are_so)
+}
+
+// The name of an individual.
+fn individual(ontology: &Ontology, number: u32) -> Option<&str> {
+    if number >= ontology.individual_count() {
+        return None;
+    }
+    Some(ontology.individual_name(number))
+}
+
+fn are_individuals(ontology: &Ontology) -> bool {
+    individual(ontology, 1) == Some("A")
+        && individual(ontology, 2).is_none()
+        && ontology.individual_of_bytes(b"a") == Some(0)
+        && ontology.individual_of_bytes(b"B").is_none()
 }
 
 fn are_counts(ontology: &Ontology) -> bool {
@@ -89,13 +116,54 @@ fn are_found(ontology: &Ontology) -> bool {
     are_so
 }
 
-// A class that is listed and cut off again.
+// A class, a role and two individuals that are listed, all but the first individual cut off again.
 fn is_cut_off(ontology: &mut Ontology) -> Result<bool, AddFault>
     requires { ontology.old.axioms ≡ [] }
 {
     ontology.add_class("A")?;
-    ontology.cut_names(0, 0);
-    Ok(ontology.class_number("A").is_none())
+    ontology.add_role("r")?;
+    ontology.add_individual("a")?;
+    ontology.add_individual("b")?;
+    cut_to_one(ontology);
+    Ok(is_one_left(ontology))
+}
+
+// Keeps the first individual alone.
+fn cut_to_one(ontology: &mut Ontology)
+    requires none { ontology.old.axioms ≡ [] }
+    requires one { 1 ≤ length ontology.old.individuals }
+{
+    ontology.cut_names(0, 0, 1);
+}
+
+fn is_one_left(ontology: &Ontology) -> bool {
+    ontology.class_number("A").is_none()
+        && ontology.role_number("r").is_none()
+        && ontology.individual_number("a") == Some(0)
+        && ontology.individual_number("b").is_none()
+}
+
+// An assertion about the individual.
+fn add_assertion(ontology: &mut Ontology, individual: u32) -> Result<u32, AddFault>
+    requires { individual < length ontology.old.individuals }
+{
+    let class = Concept { node: Node::Top };
+    ontology.add_axiom(Axiom::Member(class, individual), 1)
+}
+
+// One individual, and an assertion about it.
+fn is_asserted(alloc: Global) -> Result<bool, AddFault> {
+    let mut ontology = Ontology::new(alloc);
+    let individual = ontology.add_individual("a")?;
+    let number = add_assertion(&mut ontology, individual)?;
+    Ok(number == 1 && is_about(ontology.axiom(1), individual))
+}
+
+fn is_about(numbered: &Numbered, individual: u32) -> bool {
+    match &numbered.axiom {
+        Axiom::Member(_, named) => *named == individual,
+        _ => false,
+    }
 }
 
 fn is_cut(alloc: Global) -> Result<bool, AddFault> {
@@ -109,7 +177,7 @@ fn test_on(rt: &impl Abort, alloc: Global, ontology: &mut Ontology) -> Result<()
         "names and axioms that are added"
     );
     assert!(rt;
-        are_counts(ontology) && are_found(ontology),
+        are_counts(ontology) && are_found(ontology) && are_individuals(ontology),
         "names and axioms"
     );
     assert!(rt; is_full(ontology), "one role more");
@@ -174,7 +242,8 @@ fn are_listed(alloc: Global, items: &[u32]) -> Result<bool, NoMemory> {
 #[test]
 fn names_axioms_and_lists(rt: HostRuntime) -> Result<(), Fail> {
     test_ontology(&rt, rt.alloc())?;
-    assert!(rt; is_cut(rt.alloc())?, "a name that is cut off");
+    assert!(rt; is_cut(rt.alloc())?, "names that are cut off");
+    assert!(rt; is_asserted(rt.alloc())?, "an assertion");
     assert!(rt; is_copied(rt.alloc())?, "copy");
     assert!(rt; are_listed(rt.alloc(), &[0, 3, 6, 9, 12, 15])?, "numbers");
     Ok(())
