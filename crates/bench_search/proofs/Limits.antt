@@ -9,11 +9,12 @@ use Rattle.shq_terms.specs.Concept.{Concept, top, bottom, name, complement, inte
 use Rattle.shq_terms.specs.Listed.{Listed}
 use Rattle.shq_terms.specs.Uses.{uses_listed, parts_use_listed, axiom_uses_listed, all_use_listed}
 use Rattle.shq_terms.specs.declared.axioms.Axiom.{Axiom}
-use Rattle.shq_terms.specs.declared.axioms.Axiom.TheVariants.{SubClassOf, EquivalentClasses, DisjointClasses, DisjointUnion, SubRole, EquivalentRoles, Domain, Range, Functional, Transitive}
+use Rattle.shq_terms.specs.declared.axioms.Axiom.TheVariants.{SubClassOf, EquivalentClasses, DisjointClasses, DisjointUnion, SubRole, EquivalentRoles, Domain, Range, Functional, Transitive, Member, Pair, SameAll, Different}
 use Rattle.shq_terms.specs.declared.axioms.Numbered.{Numbered}
 use Rattle.role_box.specs.Simple.{counts_simple, all_role_axioms, first_not_simple, line_not_simple}
 use Rattle.role_box.specs.declared.role_axiom.RoleAxiom.{RoleAxiom}
 use Rattle.shq_nnf.specs.Counts.{has_counts_within, have_counts_within}
+use Rattle.shq_nnf.specs.Meeting.{is_assertion}
 use Rattle.shq_nnf.specs.Parts.{axiom_has_counts_within}
 use Rattle.ontology_limits.specs.Limits.{has_enough_parts, have_enough_parts, has_enough_items, part_count, IsInLimit}
 use Rattle.bench_search.specs.Small.{fits, all_fit, axiom_fits, IsSmall, AreSmall, asked}
@@ -82,27 +83,31 @@ mutual
 
 -- ---- one axiom more
 
-fitting_small : (classes roles : ℕ) (a : Axiom) → axiom_fits classes roles a ≡ true → (axiom_uses_listed classes roles a ≡ true) × IsSmall a
-fitting_small classes roles (SubClassOf c d) h =
+fitting_small : (classes roles individuals : ℕ) (a : Axiom) → axiom_fits classes roles a ≡ true → (axiom_uses_listed classes roles individuals a ≡ true) × IsSmall a
+fitting_small classes roles individuals (SubClassOf c d) h =
     let both = and_parts (fits classes roles c) (fits classes roles d) h in
     let wc = within classes roles c both.0 in
     let wd = within classes roles d both.1 in
-    (rw (wc.listed, wd.listed) refl, record { items = rw (wc.items, wd.items) refl; counts = rw (wc.counts, wd.counts) refl; few_parts = omega arith })
-fitting_small classes roles (Transitive r) h = (h, record { items = refl; counts = refl; few_parts = omega arith })
-fitting_small classes roles (EquivalentClasses cs) h = absurd (cc h)
-fitting_small classes roles (DisjointClasses cs) h = absurd (cc h)
-fitting_small classes roles (DisjointUnion c cs) h = absurd (cc h)
-fitting_small classes roles (SubRole r s) h = absurd (cc h)
-fitting_small classes roles (EquivalentRoles rs) h = absurd (cc h)
-fitting_small classes roles (Domain r c) h = absurd (cc h)
-fitting_small classes roles (Range r c) h = absurd (cc h)
-fitting_small classes roles (Functional r) h = absurd (cc h)
+    (rw (wc.listed, wd.listed) refl, record { items = rw (wc.items, wd.items) refl; counts = rw (wc.counts, wd.counts) refl; few_parts = omega arith; asserts_nothing = refl })
+fitting_small classes roles individuals (Transitive r) h = (h, record { items = refl; counts = refl; few_parts = omega arith; asserts_nothing = refl })
+fitting_small classes roles individuals (EquivalentClasses cs) h = absurd (cc h)
+fitting_small classes roles individuals (DisjointClasses cs) h = absurd (cc h)
+fitting_small classes roles individuals (DisjointUnion c cs) h = absurd (cc h)
+fitting_small classes roles individuals (SubRole r s) h = absurd (cc h)
+fitting_small classes roles individuals (EquivalentRoles rs) h = absurd (cc h)
+fitting_small classes roles individuals (Domain r c) h = absurd (cc h)
+fitting_small classes roles individuals (Range r c) h = absurd (cc h)
+fitting_small classes roles individuals (Functional r) h = absurd (cc h)
+fitting_small classes roles individuals (Member c a) h = absurd (cc h)
+fitting_small classes roles individuals (Pair r a b) h = absurd (cc h)
+fitting_small classes roles individuals (SameAll as_) h = absurd (cc h)
+fitting_small classes roles individuals (Different as_) h = absurd (cc h)
 
-pub fits_listed : (classes roles : ℕ) (a : Axiom) → axiom_fits classes roles a ≡ true → axiom_uses_listed classes roles a ≡ true
-fits_listed classes roles a h = (fitting_small classes roles a h).0
+pub fits_listed : (classes roles individuals : ℕ) (a : Axiom) → axiom_fits classes roles a ≡ true → axiom_uses_listed classes roles individuals a ≡ true
+fits_listed classes roles individuals a h = (fitting_small classes roles individuals a h).0
 
 pub one_more : (axioms more : List Numbered) (n : Numbered) (classes roles : ℕ) → AreSmall axioms → axiom_fits classes roles n.axiom ≡ true → more ≡ axioms ++ n ∷ [] → AreSmall more
-one_more axioms more n classes roles small h e = subst AreSmall (sym e) (All-push (λ m. IsSmall m.axiom) axioms n small (fitting_small classes roles n.axiom h).1)
+one_more axioms more n classes roles small h e = subst AreSmall (sym e) (All-push (λ m. IsSmall m.axiom) axioms n small (fitting_small classes roles 0 n.axiom h).1)
 
 -- ---- the ontology
 
@@ -118,6 +123,14 @@ each_counts : (axioms : List Numbered) → ByRecursion (λ n. IsSmall n.axiom) a
 each_counts [] small = refl
 each_counts (a ∷ as_) small = rw (small.0.counts, each_counts as_ small.1) refl
 
+each_plain : (axioms : List Numbered) → ByRecursion (λ n. IsSmall n.axiom) axioms → list_all (λ (a : Numbered). not (is_assertion a.axiom)) axioms ≡ true
+each_plain [] small = refl
+each_plain (a ∷ as_) small = rw (small.0.asserts_nothing, each_plain as_ small.1) refl
+
+none_listed : {A : Type 0} (xs : List A) → length xs ≡ 0 → xs ≡ []
+none_listed [] h = refl
+none_listed (x ∷ xs) h = absurd (omega (arith, h))
+
 each_simple : (roles : List RoleAxiom) (axioms : List Numbered) → first_not_simple roles axioms ≡ None → list_all (counts_simple roles) axioms ≡ true
 each_simple roles [] h = refl
 each_simple roles (n ∷ ns) h = by (counts_simple roles n) (each_simple roles ns) h
@@ -128,8 +141,8 @@ each_simple roles (n ∷ ns) h = by (counts_simple roles n) (each_simple roles n
     by false rest found = let clash : ◌≡◌ {A = Option ℕ} (Some n.line) None = found in absurd (cc clash)
 
 pub in_limit : (o : Listed) → AreSmall o.axioms → line_not_simple o.axioms ≡ None
-    → all_use_listed (length o.classes) (length o.roles) o.axioms ≡ true → length o.axioms ≤ 20000 → length o.classes ≤ 20000 → length o.roles ≤ 1000 → 0 < length o.classes → IsInLimit o asked
-in_limit o small simple listed axioms classes roles one =
+    → all_use_listed (length o.classes) (length o.roles) (length o.individuals) o.axioms ≡ true → length o.axioms ≤ 20000 → length o.classes ≤ 20000 → length o.roles ≤ 1000 → length o.individuals ≡ 0 → 0 < length o.classes → IsInLimit o asked
+in_limit o small simple listed axioms classes roles none one =
     let each = recursion_from_All (λ (n : Numbered). IsSmall n.axiom) o.axioms small in
     let class_listed : nat_lt 0 (length o.classes) ≡ true = lt-ltb 0 (length o.classes) one in
     record {
@@ -142,9 +155,11 @@ in_limit o small simple listed axioms classes roles one =
         few_classes = classes;
         few_roles = roles;
         few_parts = omega (arith, axioms, few o.axioms each);
+        without_individuals = record { none_listed = none_listed o.individuals none; no_assertions = each_plain o.axioms each };
       };
       listed = rw class_listed refl;
       items = refl;
       counts = refl;
       simple = refl;
+      on_any = refl;
     }

@@ -2,9 +2,11 @@
 use Rattle.std.specs.Prelude.{◌≡◌, ℕ, ◌≤◌, Bool, true, false, ◌&&◌, List, length, nat_le, nat_lt, All}
 use Rattle.shq_terms.specs.Concept.{Concept, top, bottom, name, complement, intersection, union, some_of, all_of, at_least, at_most, exactly, Parts, no_parts, part, part_list}
 use Rattle.shq_terms.specs.declared.axioms.Axiom.{Axiom}
-use Rattle.shq_terms.specs.declared.axioms.Axiom.TheVariants.{SubClassOf, EquivalentClasses, DisjointClasses, DisjointUnion, SubRole, EquivalentRoles, Domain, Range, Functional, Transitive}
+use Rattle.shq_terms.specs.declared.axioms.Axiom.TheVariants.{SubClassOf, EquivalentClasses, DisjointClasses, DisjointUnion, SubRole, EquivalentRoles, Domain, Range, Functional, Transitive, Member, Pair, SameAll, Different}
 use Rattle.shq_terms.specs.declared.axioms.Numbered.{Numbered}
+use Rattle.shq_terms.specs.declared.axioms.On.TheVariants.{Any}
 use Rattle.shq_terms.specs.declared.axioms.Query.{Query}
+use Rattle.shq_nnf.specs.Meeting.{is_assertion}
 use Rattle.shq_nnf.specs.Parts.{axiom_parts, axiom_has_counts_within}
 use Rattle.ontology_limits.specs.Limits.{has_enough_items}
 
@@ -39,16 +41,21 @@ axiom_fits classes roles (Domain r c) = false
 axiom_fits classes roles (Range r c) = false
 axiom_fits classes roles (Functional r) = false
 axiom_fits classes roles (Transitive r) = nat_lt r roles
+axiom_fits classes roles (Member c a) = false
+axiom_fits classes roles (Pair r a b) = false
+axiom_fits classes roles (SameAll as_) = false
+axiom_fits classes roles (Different as_) = false
 
--- groups and cardinalities are within their limits, and there is one part at most
+-- groups and cardinalities are within their limits, there is one part at most, and nothing is asserted
 pub record IsSmall (a : Axiom) : Type 0 where
   pub items : has_enough_items a ≡ true
   pub counts : axiom_has_counts_within 100 a ≡ true
   pub few_parts : length (axiom_parts a) ≤ 1
+  pub asserts_nothing : is_assertion a ≡ false
 
 abbrev pub AreSmall : List Numbered → Type 0
 AreSmall axioms = All (λ n. IsSmall n.axiom) axioms
 
 -- whether the first class has a member
 abbrev pub asked : Query
-asked = record { sub = name 0; sup = bottom }
+asked = record { sub = name 0; sup = bottom; on = Any }

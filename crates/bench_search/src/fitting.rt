@@ -22,7 +22,18 @@ pub(crate) fn axiom_fits(names: Names, axiom: &Axiom) -> bool
     match axiom {
         Axiom::SubClassOf(sub, sup) => fits(names, sub) && fits(names, sup),
         Axiom::Transitive(role) => *role < names.roles,
-        _ => false,
+        Axiom::EquivalentClasses(_)
+        | Axiom::DisjointClasses(_)
+        | Axiom::DisjointUnion(_, _)
+        | Axiom::SubRole(_, _)
+        | Axiom::EquivalentRoles(_)
+        | Axiom::Domain(_, _)
+        | Axiom::Range(_, _)
+        | Axiom::Functional(_)
+        | Axiom::Member(_, _)
+        | Axiom::Pair(_, _, _)
+        | Axiom::SameAll(_)
+        | Axiom::Different(_) => false,
     }
 }
 

@@ -85,7 +85,7 @@ fn check(alloc: Global, ontology: &Ontology) -> Result<(), AddFault>
     let _roles = ontology.role_count();
     let count = ontology.class_count();
     let is_simple = counts_simple(alloc, ontology)?;
-    if count == 0 || !is_simple {
+    if count == 0 || ontology.individual_count() > 0 || !is_simple {
         return Err(AddFault::Full);
     }
     Ok(())

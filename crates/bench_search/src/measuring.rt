@@ -9,7 +9,7 @@ use crate::making::ontology_of;
 use axiom_sets::AxiomSet;
 use bumpalo::Bump;
 use search_rules::SearchRules;
-use shq_terms::{Concept, NoMemory, Node, Ontology, Query};
+use shq_terms::{Concept, NoMemory, Node, On, Ontology, Query};
 use std::alloc::{Allocator, Global};
 use std::io;
 use std::num::nearest_u64_to_f64;
@@ -113,6 +113,7 @@ fn query() -> Query
             node: Node::Name(0),
         },
         sup: Concept { node: Node::Bottom },
+        on: On::Any,
     }
 }
 

@@ -231,7 +231,12 @@ fn are_parts(alloc: Global, concepts: &mut Concepts) -> Result<bool, NoMemory> {
     let whole = split(alloc)?;
     let are_so = have_sides(concepts, &whole);
     drop(whole);
-    Ok(are_named && part_count(&Axiom::Transitive(0)) == 0 && are_so?)
+    Ok(
+        are_named
+            && part_count(&Axiom::Transitive(0)) == 0
+            && part_count(&Axiom::Pair(0, 0, 1)) == 0
+            && are_so?,
+    )
 }
 
 fn is_so_in(alloc: Global, concepts: &mut Concepts, tried: Tried) -> Result<bool, NoMemory> {

@@ -1,7 +1,7 @@
 // Roles and counted roles of small ontologies.
 
 use role_box::{RoleBox, class_is_simple, first_not_simple, query_is_simple};
-use shq_terms::{AddFault, Axiom, Concept, NoMemory, Node, NumberList, Ontology, Query};
+use shq_terms::{AddFault, Axiom, Concept, NoMemory, Node, NumberList, On, Ontology, Query};
 use std::alloc::Global;
 use std::test::Fail;
 
@@ -163,7 +163,11 @@ fn nested(alloc: Global, role: u32) -> Result<Concept, NoMemory> {
 fn query(alloc: Global, role: u32) -> Result<Query, NoMemory> {
     let sub = nested(alloc, 0)?;
     let sup = nested(alloc, role)?;
-    Ok(Query { sub, sup })
+    Ok(Query {
+        sub,
+        sup,
+        on: On::Any,
+    })
 }
 
 // Whether both the right side of a query and the whole query are simple, or neither.

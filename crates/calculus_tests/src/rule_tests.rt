@@ -12,7 +12,7 @@ use branch_facts::BranchFacts;
 use calculus_specs::Fact;
 use refutation_rules::{NewNodes, NoMemory, Outcome, Rules};
 use refutation_tree::{CertFault, Line, Refutation, read_text};
-use shq_terms::{AddFault, Axiom, Concept, Node, Ontology, Query};
+use shq_terms::{AddFault, Axiom, Concept, Node, On, Ontology, Query};
 use std::alloc::Global;
 use std::process::Abort;
 use std::test::Fail;
@@ -286,6 +286,7 @@ fn left_for(
     let query = Query {
         sub: class(0),
         sup: class(1),
+        on: On::Any,
     };
     left_by(alloc, ontology, &query, refutation, begun)
 }

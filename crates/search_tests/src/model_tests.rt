@@ -7,7 +7,7 @@ use finite_model::Interp;
 use model_builder::interpretation_of_elements;
 use role_box::RoleBox;
 use shq_nnf::Shape;
-use shq_terms::{AddFault, Axiom, Concept, NoMemory, Node, Query};
+use shq_terms::{AddFault, Axiom, Concept, NoMemory, Node, On, Query};
 use std::alloc::Global;
 use std::process::Abort;
 use std::test::Fail;
@@ -147,6 +147,7 @@ fn refutes_query(model: &Interp) -> bool {
     let query = Query {
         sub: class(0),
         sup: class(1),
+        on: On::Any,
     };
     model.refutes(&query) == Some(0)
 }
