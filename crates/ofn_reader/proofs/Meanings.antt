@@ -7,6 +7,7 @@ use Rattle.shq_terms.specs.Uses.{uses_listed}
 use Rattle.shq_terms.specs.Concept.{Concept, Parts, parts_of, part_list}
 use Rattle.shq_terms.specs.declared.axioms.Axiom.{Axiom}
 use Rattle.shq_terms.specs.declared.axioms.Axiom.TheVariants as A
+use Rattle.shq_terms.specs.declared.axioms.On.TheVariants.{Any}
 use Rattle.shq_terms.specs.declared.axioms.Query.{Query}
 use Rattle.ofn_tree.specs.Items.{Item, item, items_of}
 use Rattle.ofn_expressions.specs.Counts.{Counts}
@@ -33,14 +34,14 @@ sub_class_means ps s a b q means later keeps =
     (ap sub_classes m.0, and_from (uses_listed (length later.classes) (length later.roles) q.sub) (uses_listed (length later.classes) (length later.roles) q.sup) m.1 m.2)
 
 module _ (ps : List Prefix) (mid new : Counts) where
-  pair_means : (a b : Item) (c d : Concept) → Means ps mid a c → walked mid (class_tests ps b) ≡ Ok new → Means ps new b d → MeansPair ps new (items_of (a ∷ b ∷ [])) (record { sub = c; sup = d })
+  pair_means : (a b : Item) (c d : Concept) → Means ps mid a c → walked mid (class_tests ps b) ≡ Ok new → Means ps new b d → MeansPair ps new (items_of (a ∷ b ∷ [])) (record { sub = c; sup = d; on = Any })
   pair_means a b c d first read second later keeps =
       let f = first later (keeps_keeps mid new later (walked_keeps mid (class_tests ps b) new read) keeps) in
       let s = second later keeps in
-      ((λ i. record { sub = f.0 i; sup = s.0 i } ∷ []), f.1, s.1)
+      ((λ i. record { sub = f.0 i; sup = s.0 i; on = Any } ∷ []), f.1, s.1)
 
   -- the pair of an expression that was read and one that is read now, if it is
-  pub pair_value : (a b : Item) (c : Concept) (r : Result Concept Refusal) (out : Result Query Refusal) → out ≡ result_map_both (λ d. record { sub = c; sup = d }) (λ e. e) r → Means ps mid a c
+  pub pair_value : (a b : Item) (c : Concept) (r : Result Concept Refusal) (out : Result Query Refusal) → out ≡ result_map_both (λ d. record { sub = c; sup = d; on = Any }) (λ e. e) r → Means ps mid a c
       → Judged r mid (class_tests ps b) new → IfOk r (Means ps new b) → IfOk out (MeansPair ps new (items_of (a ∷ b ∷ [])))
   pair_value a b c (Ok d) out is first read second = subst (λ o. IfOk o (MeansPair ps new (items_of (a ∷ b ∷ [])))) (sym is) (pair_means a b c d first read second)
   pair_value a b c (Err e) out is first read second = subst (λ o. IfOk o (MeansPair ps new (items_of (a ∷ b ∷ [])))) (sym is) tt

@@ -1,15 +1,15 @@
 -- The tests for simple roles, after those of the form.
-use Rattle.std.proofs.Common.{◌≡◌, ◌≢◌, ℕ, Bool, true, false, not, cond, List, [], ◌∷◌, ◌++◌, Option, Some, None, Result, Ok, Err, refl, ap, sym, ◌∙◌, subst}
-use Rattle.std.specs.Prelude.{IfOk, IfErr, OnOk}
+use Rattle.std.proofs.Common.{◌≡◌, ◌≢◌, ℕ, Bool, true, false, not, cond, List, [], ◌∷◌, ◌++◌, length, take, Option, Some, None, Result, Ok, Err, refl, ap, sym, ◌∙◌, subst}
+use Rattle.std.specs.Prelude.{IfOk, IfErr, OnOk, OnErr}
 use Rattle.std.specs.Result.{is_err}
 use Rattle.std.specs.List.{find}
 use Rattle.std.specs.Option.{option_map}
-use Rattle.shq_terms.specs.Listed.{Listed}
+use Rattle.shq_terms.specs.Listed.{Listed, with_names_cut}
 use Rattle.shq_terms.specs.declared.axioms.Numbered.{Numbered}
 use Rattle.role_box.specs.declared.role_axiom.RoleAxiom.{RoleAxiom}
 use Rattle.role_box.specs.Simple.{are_simple, counts_simple, first_not_simple, all_role_axioms}
 use Rattle.ofn_tree.specs.Items.{Item}
-use Rattle.ofn_expressions.specs.Counts.{Counts, State, Grows}
+use Rattle.ofn_expressions.specs.Counts.{Counts, State, ontology_of, Grows}
 use Rattle.ofn_expressions.specs.Walk.{Test, simple, after_all, outcomes, first_failing, verdict, walked, Judged}
 use Rattle.ofn_expressions.specs.Names.{Prefix}
 use Rattle.ofn_expressions.specs.declared.refusal.Refusal.{Refusal}
@@ -106,9 +106,30 @@ judged_err : {X : Type 0} (r : Result X Refusal) (s new : Counts) (ts : List Tes
 judged_err (Ok x) s new ts judged = tt
 judged_err (Err e) s new ts judged = judged
 
+pub not_err : {X : Type 0} (r : Result X Refusal) (P : Type 0) → is_err r ≡ false → OnErr r P
+not_err (Ok x) P h = tt
+not_err (Err e) P h = let clash : true ≡ false = h in absurd (cc clash)
+
+pub on_err : {X : Type 0} (r : Result X Refusal) (P : Type 0) → P → OnErr r P
+on_err (Ok x) P p = tt
+on_err (Err e) P p = p
+
+cut_back : (n : ℕ) (before grown known : List (List ℕ)) → n ≡ length known → before ≡ known → take (length before) grown ≡ before → take n grown ≡ known
+cut_back n before grown known count same front = ap (λ k. take k grown) (count ∙ sym (ap length same)) ∙ front ∙ same
+
+-- with the names alone that a document lists, all is as before a query was read
+pub names_cut : (o own left : Listed) (nodes classes roles individuals : ℕ) (old new : State) → old ≡ record { counts = query_start o nodes; read = o.axioms } → own ≡ ontology_of new → Grows old new
+    → classes ≡ length o.classes → roles ≡ length o.roles → individuals ≡ length o.individuals → left ≡ with_names_cut own classes roles individuals → left ≡ o
+names_cut o own left nodes classes roles individuals old new begun made grown class_count role_count individual_count cut =
+    let axioms : new.read ≡ o.axioms = grown.read ∙ ap (λ (s : State). s.read) begun in
+    let few_classes = cut_back classes old.counts.classes new.counts.classes o.classes class_count (ap (λ (s : State). s.counts.classes) begun) grown.classes in
+    let few_roles = cut_back roles old.counts.roles new.counts.roles o.roles role_count (ap (λ (s : State). s.counts.roles) begun) grown.roles in
+    let few_individuals = cut_back individuals old.counts.individuals new.counts.individuals o.individuals individual_count (ap (λ (s : State). s.counts.individuals) begun) grown.individuals in
+    cut ∙ ap (λ l. with_names_cut l classes roles individuals) made ∙ (λ i. record { axioms = axioms i; classes = few_classes i; roles = few_roles i; individuals = few_individuals i })
+
 -- what was read on a document, and then the test of its roles by the axioms of the document
 module _ {X : Type 0} (count : List X → List ℕ) (form : List Test) (firsts : Counts → List X) (o own : Listed) (line place nodes : ℕ) (old new : State) (read result : Result X Refusal)
-    (begun : old ≡ record { counts = query_start o nodes; read = o.axioms }) (made : own ≡ record { axioms = new.read; classes = new.counts.classes; roles = new.counts.roles }) (grown : Grows old new) (same_line : line ≡ place)
+    (begun : old ≡ record { counts = query_start o nodes; read = o.axioms }) (made : own ≡ record { axioms = new.read; classes = new.counts.classes; roles = new.counts.roles; individuals = new.counts.individuals }) (grown : Grows old new) (same_line : line ≡ place)
     (judged : Judged read old.counts form new.counts) (first : IfOk read (λ x. firsts new.counts ≡ x ∷ []))
     (tests : (s t : Counts) (ts : List Test) (xs : List X) → Judged read s ts t → IfOk read (λ x. xs ≡ x ∷ []) → Judged result s (ts ++ roles_test own.axioms line (count xs)) t) where
   same_axioms : new.read ≡ o.axioms
@@ -127,13 +148,13 @@ module _ {X : Type 0} (count : List X → List ℕ) (form : List Test) (firsts :
   query_faults = judged_err result (query_start o nodes) new.counts (form ++ roles_test o.axioms place (count (firsts (after_all (query_start o nodes) form)))) query_judged
 
   pub query_kept : (Q : Counts → X → Type 0) (left : Listed) → IfOk result (λ x. read ≡ Ok x) → IfOk read (Q new.counts) → OnOk result (left ≡ own)
-      → IfOk result (λ x. (behind : Counts) × (walked (query_start o nodes) (form ++ roles_test o.axioms place (count (firsts (after_all (query_start o nodes) form)))) ≡ Ok behind) × (firsts behind ≡ x ∷ []) × Q behind x × (left ≡ record { axioms = o.axioms; classes = behind.classes; roles = behind.roles }))
+      → IfOk result (λ x. (behind : Counts) × (walked (query_start o nodes) (form ++ roles_test o.axioms place (count (firsts (after_all (query_start o nodes) form)))) ≡ Ok behind) × (firsts behind ≡ x ∷ []) × Q behind x × (left ≡ record { axioms = o.axioms; classes = behind.classes; roles = behind.roles; individuals = behind.individuals }))
   query_kept Q left same listed kept = by result query_judged same kept
     where
       by : (r : Result X Refusal) → Judged r (query_start o nodes) (form ++ roles_test o.axioms place (count (firsts (after_all (query_start o nodes) form)))) new.counts → IfOk r (λ x. read ≡ Ok x) → OnOk r (left ≡ own)
-          → IfOk r (λ x. (behind : Counts) × (walked (query_start o nodes) (form ++ roles_test o.axioms place (count (firsts (after_all (query_start o nodes) form)))) ≡ Ok behind) × (firsts behind ≡ x ∷ []) × Q behind x × (left ≡ record { axioms = o.axioms; classes = behind.classes; roles = behind.roles }))
+          → IfOk r (λ x. (behind : Counts) × (walked (query_start o nodes) (form ++ roles_test o.axioms place (count (firsts (after_all (query_start o nodes) form)))) ≡ Ok behind) × (firsts behind ≡ x ∷ []) × Q behind x × (left ≡ record { axioms = o.axioms; classes = behind.classes; roles = behind.roles; individuals = behind.individuals }))
       by (Ok x) walk is stays =
-          let names : left ≡ record { axioms = o.axioms; classes = new.counts.classes; roles = new.counts.roles } = stays ∙ made ∙ (λ i. record { axioms = same_axioms i; classes = new.counts.classes; roles = new.counts.roles }) in
+          let names : left ≡ record { axioms = o.axioms; classes = new.counts.classes; roles = new.counts.roles; individuals = new.counts.individuals } = stays ∙ made ∙ (λ i. record { axioms = same_axioms i; classes = new.counts.classes; roles = new.counts.roles; individuals = new.counts.individuals }) in
           (new.counts, walk, same_ok (λ y. firsts new.counts ≡ y ∷ []) read (Ok x) is first, same_ok (Q new.counts) read (Ok x) is listed, names)
       by (Err e) walk is stays = tt
 

@@ -72,7 +72,7 @@ pub documents : (text : List ℕ) (o p : Listed) (j k : DocumentContext) (d e : 
 documents text o p j k d e a b =
     let same = same_items text a.items b.items d e a.made b.made in
     let behind = same_walk (all_tests text) start a.items b.items a.behind b.behind same a.holds b.holds in
-    let listed : o ≡ p = a.listed ∙ (λ i. record { axioms = document_axioms predeclared (behind i) (same i); classes = (behind i).classes; roles = (behind i).roles }) ∙ sym b.listed in
+    let listed : o ≡ p = a.listed ∙ (λ i. record { axioms = document_axioms predeclared (behind i) (same i); classes = (behind i).classes; roles = (behind i).roles; individuals = (behind i).individuals }) ∙ sym b.listed in
     let taken : j ≡ k = a.takes ∙ (λ i. record { prefixes = document_prefixes predeclared (same i); nodes = (behind i).nodes }) ∙ sym b.takes in
     (listed, taken, same_end text a.items b.items d e a.made b.made)
 

@@ -19,7 +19,7 @@ use Rattle.ofn_reader.specs.Texts.{HasItems, IsRefusedBy}
 
 -- nothing was counted or listed
 abbrev pub start : Counts
-start = record { axioms = 0; parts = 0; nodes = 0; classes = []; roles = [] }
+start = record { axioms = 0; parts = 0; nodes = 0; classes = []; roles = []; individuals = [] }
 
 abbrev pub is_prefix_group : Item → Bool
 is_prefix_group i = is_group (codes "Prefix") i
@@ -70,7 +70,7 @@ abbrev pub DocumentIsRead : (List Item → List Test) → List Item → Listed �
 DocumentIsRead tests is o kept =
     (behind : Counts)
     × (walked start (tests is) ≡ Ok behind)
-    × (o ≡ record { axioms = document_axioms predeclared behind is; classes = behind.classes; roles = behind.roles })
+    × (o ≡ record { axioms = document_axioms predeclared behind is; classes = behind.classes; roles = behind.roles; individuals = behind.individuals })
     × (kept ≡ record { prefixes = document_prefixes predeclared is; nodes = behind.nodes })
 
 -- The text up to the end is a document, no test of which fails. It lists the axioms and names of o. A query on it takes
@@ -80,7 +80,7 @@ pub record IsDocument (text : List ℕ) (o : Listed) (kept : DocumentContext) (e
   pub made : HasItems text items end
   pub behind : Counts
   pub holds : walked start (document_tests predeclared (end_line text) items) ≡ Ok behind
-  pub listed : o ≡ record { axioms = document_axioms predeclared behind items; classes = behind.classes; roles = behind.roles }
+  pub listed : o ≡ record { axioms = document_axioms predeclared behind items; classes = behind.classes; roles = behind.roles; individuals = behind.individuals }
   pub takes : kept ≡ record { prefixes = document_prefixes predeclared items; nodes = behind.nodes }
 
 -- why a text is no document

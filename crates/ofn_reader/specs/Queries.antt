@@ -3,6 +3,7 @@ use Rattle.std.specs.Prelude.{◌≡◌, ◌≢◌, ℕ, ◌^◌, ◌≤◌, ◌
 use Rattle.shq_terms.specs.Concept.{Concept}
 use Rattle.shq_terms.specs.Listed.{Listed}
 use Rattle.shq_terms.specs.declared.axioms.Numbered.{Numbered}
+use Rattle.shq_terms.specs.declared.axioms.On.TheVariants.{Any}
 use Rattle.shq_terms.specs.declared.axioms.Query.{Query}
 use Rattle.role_box.specs.Counted.{counted_roles, counted_by_query}
 use Rattle.role_box.specs.Simple.{are_simple, all_role_axioms}
@@ -61,7 +62,7 @@ class_form_tests ps end is = alone_tests (class_tests ps) end is
 
 -- the two class expressions of a query
 abbrev pub pair_in : List Prefix → Counts → Items → List Query
-pair_in ps s (item c (item d is)) = record { sub = concept_of ps s c; sup = concept_of ps s d } ∷ []
+pair_in ps s (item c (item d is)) = record { sub = concept_of ps s c; sup = concept_of ps s d; on = Any } ∷ []
 pair_in ps s _ = []
 
 abbrev pub query_in : List Prefix → Counts → Item → List Query
@@ -110,7 +111,7 @@ class_query_tests ps axioms s end is =
 
 -- the counts from which a query on the document goes on
 abbrev pub query_start : Listed → ℕ → Counts
-query_start o nodes = record { axioms = length o.axioms; parts = 0; nodes = nodes; classes = o.classes; roles = o.roles }
+query_start o nodes = record { axioms = length o.axioms; parts = 0; nodes = nodes; classes = o.classes; roles = o.roles; individuals = o.individuals }
 
 -- the text is a query on a document with these prefixes, axioms and counts, no test of which fails; after it are those
 pub record IsQuery (ps : List Prefix) (axioms : List Numbered) (s : Counts) (text : List ℕ) (behind : Counts) (q : Query) : Type 0 where
@@ -187,17 +188,17 @@ class_walk ps nodes o end is = walked (query_start o nodes) (class_query_tests p
 -- the items are a query, whose names are listed last
 abbrev pub QueryIsRead : List Prefix → ℕ → Listed → ℕ → List Item → Listed → Query → Type 0
 QueryIsRead ps nodes old end is new q =
-    (behind : Counts) × (query_walk ps nodes old end is ≡ Ok behind) × (first_query ps behind is ≡ q ∷ []) × AreBothListed behind q × (new ≡ record old { classes = behind.classes; roles = behind.roles })
+    (behind : Counts) × (query_walk ps nodes old end is ≡ Ok behind) × (first_query ps behind is ≡ q ∷ []) × AreBothListed behind q × (new ≡ record old { classes = behind.classes; roles = behind.roles; individuals = behind.individuals })
 
 abbrev pub ClassIsRead : List Prefix → ℕ → Listed → ℕ → List Item → Listed → Concept → Type 0
 ClassIsRead ps nodes old end is new c =
-    (behind : Counts) × (class_walk ps nodes old end is ≡ Ok behind) × (first_class ps behind is ≡ c ∷ []) × IsListed behind c × (new ≡ record old { classes = behind.classes; roles = behind.roles })
+    (behind : Counts) × (class_walk ps nodes old end is ≡ Ok behind) × (first_class ps behind is ≡ c ∷ []) × IsListed behind c × (new ≡ record old { classes = behind.classes; roles = behind.roles; individuals = behind.individuals })
 
 -- The text is a query on a document, with the names and axioms of the old ontology. Its names are listed in the new
 -- one, which else is the old one.
 abbrev pub IsQueryOn : DocumentContext → Listed → List ℕ → Listed → Query → Type 0
 IsQueryOn kept old text new q =
-    (behind : Counts) × IsQuery kept.prefixes old.axioms (query_start old kept.nodes) text behind q × AreBothListed behind q × (new ≡ record old { classes = behind.classes; roles = behind.roles })
+    (behind : Counts) × IsQuery kept.prefixes old.axioms (query_start old kept.nodes) text behind q × AreBothListed behind q × (new ≡ record old { classes = behind.classes; roles = behind.roles; individuals = behind.individuals })
 
 abbrev pub IsNoQueryOn : DocumentContext → Listed → List ℕ → Refusal → Type 0
 IsNoQueryOn kept old text e = IsNoQuery kept.prefixes old.axioms (query_start old kept.nodes) text e
@@ -205,7 +206,7 @@ IsNoQueryOn kept old text e = IsNoQuery kept.prefixes old.axioms (query_start ol
 -- the same for a class expression
 abbrev pub IsClassOn : DocumentContext → Listed → List ℕ → Listed → Concept → Type 0
 IsClassOn kept old text new c =
-    (behind : Counts) × IsClass kept.prefixes old.axioms (query_start old kept.nodes) text behind c × IsListed behind c × (new ≡ record old { classes = behind.classes; roles = behind.roles })
+    (behind : Counts) × IsClass kept.prefixes old.axioms (query_start old kept.nodes) text behind c × IsListed behind c × (new ≡ record old { classes = behind.classes; roles = behind.roles; individuals = behind.individuals })
 
 abbrev pub IsNoClassOn : DocumentContext → Listed → List ℕ → Refusal → Type 0
 IsNoClassOn kept old text e = IsNoClass kept.prefixes old.axioms (query_start old kept.nodes) text e

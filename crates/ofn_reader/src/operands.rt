@@ -15,7 +15,7 @@ use ofn_expressions::{
     Prefixes, Reading, Refusal, read_class, read_class_name, read_classes, read_role, read_roles,
 };
 use ofn_tree::Tree;
-use shq_terms::{Axiom, Concept, Query};
+use shq_terms::{Axiom, Concept, On, Query};
 use std::alloc::Global;
 
 /// Two class expressions.
@@ -41,10 +41,14 @@ pub(crate) fn read_pair(
 }
 
 fn pair_of(sub: Concept, sup: Result<Concept, Refusal>) -> Result<Query, Refusal>
-    ensures { result ≡ result_map_both (λ d. record { sub = sub; sup = d }) (λ e. e) sup }
+    ensures { result ≡ result_map_both (λ d. record { sub = sub; sup = d; on = On.Any }) (λ e. e) sup }
 {
     match sup {
-        Ok(sup) => Ok(Query { sub, sup }),
+        Ok(sup) => Ok(Query {
+            sub,
+            sup,
+            on: On::Any,
+        }),
         Err(refusal) => {
             drop(sub);
             Err(refusal)

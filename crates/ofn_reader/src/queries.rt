@@ -223,6 +223,7 @@ fn read_query_on(
 {
     let classes = ontology.class_count();
     let roles = ontology.role_count();
+    let individuals = ontology.individual_count();
     let axioms = ontology.axioms().len() as u32;
     let own = mem::replace(ontology, Ontology::new(alloc));
     let mut state = Reading::new(own, axioms, nodes);
@@ -230,7 +231,7 @@ fn read_query_on(
     let (mut own, _) = state.into_parts();
     let read = simple_query(alloc, &own, read, first_line(items, end_line));
     if read.is_err() {
-        own.cut_names(classes, roles);
+        own.cut_names(classes, roles, individuals);
     }
     *ontology = own;
     read
@@ -252,6 +253,7 @@ fn read_class_on(
 {
     let classes = ontology.class_count();
     let roles = ontology.role_count();
+    let individuals = ontology.individual_count();
     let axioms = ontology.axioms().len() as u32;
     let own = mem::replace(ontology, Ontology::new(alloc));
     let mut state = Reading::new(own, axioms, nodes);
@@ -259,7 +261,7 @@ fn read_class_on(
     let (mut own, _) = state.into_parts();
     let class = simple_class(alloc, &own, class, first_line(items, end_line));
     if class.is_err() {
-        own.cut_names(classes, roles);
+        own.cut_names(classes, roles, individuals);
     }
     *ontology = own;
     class
