@@ -1,5 +1,5 @@
 -- What is printed is accepted.
-use Rattle.std.proofs.Common.{◌≡◌, ℕ, ◌+◌, ◌^◌, ◌<◌, ◌≤◌, Bool, true, false, List, length, get_or, ap, ◌∙◌, subst, arith}
+use Rattle.std.proofs.Common.{◌≡◌, ℕ, ◌+◌, ◌^◌, ◌<◌, ◌≤◌, Bool, true, false, List, Ok, length, get_or, ap, ◌∙◌, subst, arith}
 use Rattle.std.specs.List.{All}
 use Rattle.std.proofs.lemmas.List.Elements.{Contains-get_or}
 use Rattle.axiom_sets.specs.Sets.{Limited, IsWithin}
@@ -12,6 +12,7 @@ use Rattle.audit_file.specs.AuditText.{audit_in}
 use Rattle.audit_file.specs.Written.{audit_text}
 use Rattle.audit_file.specs.declared.entries.Justification.{Justification}
 use Rattle.audit_file.proofs.Counted.{written_is_read}
+use Rattle.audit_check.specs.Sound.{ListsAll}
 use Rattle.audit_check.specs.declared.verdict.AuditVerdict.TheVariants as verdict
 use Rattle.audit_check.proofs.Accepted.{one_verdict}
 use Rattle.audit_check.proofs.Complete.{lists_all}
@@ -41,14 +42,20 @@ module _ (inclusion bytes out : List ℕ) (o : Listed) (q : Asked) (is : IsQuest
   few_lines : length (lines (audit_text o t.audit)) < 2 ^ 32
   few_lines = let same : length (lines out) ≡ length (lines (audit_text o t.audit)) = ap (λ (bs : List ℕ). length (lines bs)) t.text in omega (arith, same, short)
 
+  pub read_back : audit_in o (lines out) ≡ Ok t.audit
+  read_back = ap (λ (bs : List ℕ). audit_in o (lines bs)) t.text ∙ written_is_read o t.audit names.classes names.roles few_axioms t.of_axioms t.refutations t.kept few_lines
+
+  pub all_listed : ListsAll o q t.audit
+  all_listed = lists_all o q t.audit t.of_axioms (within_sets t.audit.justifications t.kept.justified) t.sound
+
   text_accepted : IsAcceptedText inclusion bytes out
   text_accepted = record {
     ontology = o;
     query = q;
     audit = t.audit;
     is_question = is;
-    is_read = ap (λ (bs : List ℕ). audit_in o (lines bs)) t.text ∙ written_is_read o t.audit names.classes names.roles few_axioms t.of_axioms t.refutations t.kept few_lines;
-    lists_all = lists_all o q t.audit t.of_axioms (within_sets t.audit.justifications t.kept.justified) t.sound;
+    is_read = read_back;
+    lists_all = all_listed;
     accepted = λ v says. one_verdict o q t.audit v verdict.Accepted t.kept.ordered says t.sound;
   }
 

@@ -10,3 +10,5 @@ mod Sound
 mod Witnessed
 mod Answered
 mod Accepted
+mod BlankLines
+mod Printed

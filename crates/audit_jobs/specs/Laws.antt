@@ -1,8 +1,10 @@
 -- What is printed is accepted.
-use Rattle.std.specs.Prelude.{◌≡◌, ℕ, ◌≤◌, List, length, Ok}
+use Rattle.std.specs.Prelude.{◌≡◌, ◌≢◌, ℕ, ◌≤◌, true, List, [], ◌∷◌, ◌++◌, length, take, codes, Ok}
 use Rattle.shq_terms.specs.Listed.{Listed}
 use Rattle.shq_terms.specs.declared.axioms.Query.{Query as Asked}
-use Rattle.certificate_lines.specs.Lines.{lines}
+use Rattle.certificate_lines.specs.Lines.{lines, is_blank}
+use Rattle.ofn_reader.specs.DocumentContext.{DocumentContext}
+use Rattle.ofn_reader.specs.Documents.{IsDocument}
 use Rattle.run_log.specs.declared.entry.Entry.{Entry}
 use Rattle.audit_file.specs.AuditLists.{AuditLists}
 use Rattle.audit_file.specs.AuditText.{audit_in}
@@ -10,9 +12,12 @@ use Rattle.audit_check.specs.Sound.{ListsAll}
 use Rattle.audit_check.specs.Verdicts.{IsVerdict}
 use Rattle.audit_check.specs.declared.verdict.AuditVerdict.{AuditVerdict}
 use Rattle.audit_check.specs.declared.verdict.AuditVerdict.TheVariants as verdict
-use Rattle.job_inputs.specs.declared.status.Status.TheVariants.{Done}
+use Rattle.job_inputs.specs.Answer.{line}
+use Rattle.job_inputs.specs.declared.status.Status.{Status}
+use Rattle.job_inputs.specs.declared.status.Status.TheVariants.{Done, NoMemory}
 use Rattle.job_inputs.specs.Questions.{follows, IsQuestion}
-use Rattle.audit_jobs.specs.Answers.{IsEvidenced}
+use Rattle.audit_jobs.specs.Answers.{IsEvidenced, AnswersEvidence}
+use Rattle.audit_jobs.specs.Audited.{Audited}
 
 -- the text is an audit of the inclusion on the document, which lists all justifications and all repairs, and no
 -- verdict on it is another one than that it is accepted
@@ -27,3 +32,21 @@ pub record IsAcceptedText (inclusion bytes out : List ℕ) : Type 0 where
 
 abbrev pub EvidenceIsAccepted : Type 0
 EvidenceIsAccepted = (inclusion : List ℕ) (budget : ℕ) (bytes out : List ℕ) (log : List Entry) → IsEvidenced inclusion budget bytes out Done log → length (lines out) ≤ 4294967293 → IsAcceptedText inclusion bytes out
+
+-- ---- the same of what a check answers
+
+-- whitespace that ends with a line feed
+pub record AreBlankLines (gap : List ℕ) : Type 0 where
+  pub before : List ℕ
+  pub made : gap ≡ before ++ 10 ∷ []
+  pub blank : is_blank before ≡ true
+
+-- Where the question for evidence was answered with Done, the text of the answer stands behind its document and blank
+-- lines, and the whole is as short as a check asks for: whatever a check of it answers, other than that memory was
+-- refused, is that the audit is accepted.
+abbrev pub PrintedEvidenceIsAccepted : Type 0
+PrintedEvidenceIsAccepted =
+    (inclusion : List ℕ) (budget : ℕ) (bytes out : List ℕ) (log : List Entry) → AnswersEvidence inclusion budget bytes out Done log
+    → (o : Listed) (kept : DocumentContext) (end : ℕ) → IsDocument bytes o kept end
+    → (gap : List ℕ) → AreBlankLines gap → length (take end bytes ++ (gap ++ out)) ≤ 4294967293
+    → (answer : List ℕ) (s : Status) → Audited inclusion (take end bytes ++ (gap ++ out)) answer s → s ≢ NoMemory → (s ≡ Done) × (answer ≡ line (codes "accepted audit"))

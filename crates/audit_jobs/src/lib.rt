@@ -30,4 +30,4 @@ mod witness;
 pub use answering::find_evidence;
 pub use auditing::verify_audit;
 pub use job_inputs::{Status, Text};
-pub use law::evidence_is_accepted;
+pub use law::{evidence_is_accepted, printed_evidence_is_accepted};

@@ -27,3 +27,6 @@ pub mod Simple
 pub mod Names
 pub mod Queries
 pub mod InLimit
+pub mod TextsBehind
+pub mod LastBracket
+pub mod LongerDocuments

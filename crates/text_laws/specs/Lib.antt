@@ -2,3 +2,4 @@ pub mod PartLaws
 pub mod Writable
 pub mod WritingLaws
 pub mod LimitLaws
+pub mod EndLaws

@@ -1,14 +1,17 @@
 //! Laws of texts that are read and written: what the reader's tests say of the values that it makes.
 //!
+//! - `end_laws`: a document ends with its last bracket, and what stands behind it is not read.
 //! - `part_laws`: the reader counts as many parts of an axiom as are made of it.
 //! - `limit_laws`: what is read without refusal is within the limits that later calls ask for.
 //! - `writing_laws`: the canonical text of what is read says the same again.
 #![tactic(auto)]
 
+mod end_laws;
 mod limit_laws;
 mod part_laws;
 mod writing_laws;
 
+pub use end_laws::{documents_end_in_their_text, texts_behind_documents_are_not_read};
 pub use limit_laws::{
     classes_are_in_limit, classes_list_names, documents_are_in_limit, queries_are_in_limit,
     queries_list_names,
