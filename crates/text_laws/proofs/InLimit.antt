@@ -29,7 +29,7 @@ use Rattle.text_laws.specs.Writable.{is_iri, is_class_iri, is_role_iri, CanBeWri
 use Rattle.text_laws.proofs.GoodTokens.{AreGoodItems, tokens_good, tree_good}
 use Rattle.text_laws.proofs.Counting.{IsWithin, held, both, nothing_held, walked_after}
 use Rattle.text_laws.proofs.CanWrite.{can_be_written, prefixes_kept, query_within}
-use Rattle.certificate_lines.specs.Names.{is_word_byte, AreNames}
+use Rattle.certificate_lines.specs.Names.{is_word_byte}
 use Rattle.text_laws.specs.LimitLaws.{with_names, DocumentsAreInLimit, QueriesAreInLimit, ClassesAreInLimit, AreWritable, QueriesListNames, ClassesListNames}
 use Rattle.text_laws.proofs.Names.{no_shorter}
 use Rattle.text_laws.proofs.Queries.{IsAsked, first_query_asked, first_class_asked}
