@@ -7,7 +7,7 @@ use Rattle.shq_terms.specs.Concept.{Concept, top, bottom, name, complement, inte
 use Rattle.shq_terms.specs.Listed.{Listed}
 use Rattle.shq_terms.specs.Uses.{uses_listed, parts_use_listed, axiom_uses_listed}
 use Rattle.shq_terms.specs.declared.axioms.Axiom.{Axiom}
-use Rattle.shq_terms.specs.declared.axioms.Axiom.TheVariants.{SubClassOf, EquivalentClasses, DisjointClasses, DisjointUnion, SubRole, EquivalentRoles, Domain, Range, Functional, Transitive}
+use Rattle.shq_terms.specs.declared.axioms.Axiom.TheVariants.{SubClassOf, EquivalentClasses, DisjointClasses, DisjointUnion, SubRole, EquivalentRoles, Domain, Range, Functional, Transitive, Member, Pair, SameAll, Different}
 use Rattle.shq_terms.specs.declared.axioms.Numbered.{Numbered}
 use Rattle.ofn_tree.specs.Items.{Item, name_item, Items, no_items, item}
 use Rattle.ofn_expressions.specs.Counts.{Counts}
@@ -189,7 +189,7 @@ module _ (ps : List Prefix) (knows : KnowsOwl ps) (o : Listed) (names : AreKnown
       ∙ alone mid (counted o (x + 1) (p + 1) (n + expressions c + expressions d)) us (concept_walk ps knows o names (x + 1) (p + 1) (n + expressions c) line d (and_parts (listed c) (listed d) known).1 (and_parts (is_whole c) (is_whole d) whole).1 few_second)
       ∙ same_nodes (x + 1) (p + 1) (n + expressions c + expressions d) (n + (expressions c + expressions d)) nodes_are
 
-  axiom_walk_by : (x p n line : ℕ) (a : Axiom) → axiom_uses_listed (length o.classes) (length o.roles) a ≡ true → has_item_count a ≡ true → has_whole_items a ≡ true → x + 1 ≤ 20000 → p + counted_parts a ≤ 500000 → n + axiom_expressions a ≤ 262144 → Walks x p n line a
+  axiom_walk_by : (x p n line : ℕ) (a : Axiom) → axiom_uses_listed (length o.classes) (length o.roles) (length o.individuals) a ≡ true → has_item_count a ≡ true → has_whole_items a ≡ true → x + 1 ≤ 20000 → p + counted_parts a ≤ 500000 → n + axiom_expressions a ≤ 262144 → Walks x p n line a
   axiom_walk_by x p n line (SubClassOf c d) known enough whole few few_parts few_nodes = sub_class_walk x p n line c d known whole few few_parts few_nodes
   axiom_walk_by x p n line (EquivalentClasses cs) known enough whole few few_parts few_nodes =
       let items : Items = all_items line (part_phrases o (parts_of cs)) in
@@ -221,8 +221,12 @@ module _ (ps : List Prefix) (knows : KnowsOwl ps) (o : Listed) (names : AreKnown
   axiom_walk_by x p n line (Transitive r) known enough whole few few_parts few_nodes =
       let items : Items = all_items line (role_phrases o (r ∷ [])) in
       all_roles_walk x p n line (r ∷ []) (axiom_tests ps (item_of line (axiom_phrase o (Transitive r)))) true 0 (keywords.transitive_tests ps line items items refl) (one_role r known) refl few few_parts
+  axiom_walk_by x p n line (Member c a) known enough whole few few_parts few_nodes = cc
+  axiom_walk_by x p n line (Pair r a b) known enough whole few few_parts few_nodes = cc
+  axiom_walk_by x p n line (SameAll as_) known enough whole few few_parts few_nodes = cc
+  axiom_walk_by x p n line (Different as_) known enough whole few few_parts few_nodes = cc
 
-  pub axiom_walk : (x p n line : ℕ) (a : Axiom) → axiom_uses_listed (length o.classes) (length o.roles) a ≡ true → is_whole_axiom a ≡ true → x + 1 ≤ 20000 → p + counted_parts a ≤ 500000 → n + axiom_expressions a ≤ 262144 → Walks x p n line a
+  pub axiom_walk : (x p n line : ℕ) (a : Axiom) → axiom_uses_listed (length o.classes) (length o.roles) (length o.individuals) a ≡ true → is_whole_axiom a ≡ true → x + 1 ≤ 20000 → p + counted_parts a ≤ 500000 → n + axiom_expressions a ≤ 262144 → Walks x p n line a
   axiom_walk x p n line a known whole few few_parts few_nodes =
       axiom_walk_by x p n line a known (and_parts (has_item_count a) (has_whole_items a) whole).0 (and_parts (has_item_count a) (has_whole_items a) whole).1 few few_parts few_nodes
 
@@ -321,7 +325,7 @@ module _ (ps : List Prefix) (knows : KnowsOwl ps) (o : Listed) (names : AreKnown
     listed_parts : (line : ℕ) (cs : List Concept) → all_listed (parts_of cs) ≡ true → are_whole (parts_of cs) ≡ true → part_list (concepts_of ps s (all_items line (part_phrases o (parts_of cs)))) ≡ cs
     listed_parts line cs known whole = ap part_list (parts_value line (parts_of cs) known whole) ∙ list_of_parts cs
 
-    axiom_value_by : (line : ℕ) (a : Axiom) → axiom_uses_listed (length o.classes) (length o.roles) a ≡ true → has_whole_items a ≡ true → axiom_in ps s (item_of line (axiom_phrase o a)) ≡ one_axiom line a
+    axiom_value_by : (line : ℕ) (a : Axiom) → axiom_uses_listed (length o.classes) (length o.roles) (length o.individuals) a ≡ true → has_whole_items a ≡ true → axiom_in ps s (item_of line (axiom_phrase o a)) ≡ one_axiom line a
     axiom_value_by line (SubClassOf c d) known whole =
         let is : Items = item (item_of line (concept_phrase o c)) (item (item_of line (concept_phrase o d)) no_items) in
         let first : concept_of ps s (item_of line (concept_phrase o c)) ≡ c = concept_value line c (and_parts (listed c) (listed d) known).0 (and_parts (is_whole c) (is_whole d) whole).0 in
@@ -364,6 +368,10 @@ module _ (ps : List Prefix) (knows : KnowsOwl ps) (o : Listed) (names : AreKnown
     axiom_value_by line (Transitive r) known whole =
         let is : Items = all_items line (role_phrases o (r ∷ [])) in
         keywords.transitive_value ps line is is refl s ∙ ap (λ k. one_axiom line (Transitive k)) (role_value line r known)
+    axiom_value_by line (Member c a) known whole = cc
+    axiom_value_by line (Pair r a b) known whole = cc
+    axiom_value_by line (SameAll as_) known whole = cc
+    axiom_value_by line (Different as_) known whole = cc
 
-    pub axiom_value : (line : ℕ) (a : Axiom) → axiom_uses_listed (length o.classes) (length o.roles) a ≡ true → is_whole_axiom a ≡ true → axiom_in ps s (item_of line (axiom_phrase o a)) ≡ one_axiom line a
+    pub axiom_value : (line : ℕ) (a : Axiom) → axiom_uses_listed (length o.classes) (length o.roles) (length o.individuals) a ≡ true → is_whole_axiom a ≡ true → axiom_in ps s (item_of line (axiom_phrase o a)) ≡ one_axiom line a
     axiom_value line a known whole = axiom_value_by line a known (and_parts (has_item_count a) (has_whole_items a) whole).1

@@ -74,6 +74,7 @@ pub record IsWithin (s : Counts) : Type 0 where
   pub few_axioms : s.axioms ≤ 20000
   pub few_parts : s.parts ≤ 500000
   pub few_nodes : s.nodes ≤ 262144
+  pub no_individuals : s.individuals ≡ []
 
 all_with : (p : List ℕ → Bool) (names : List (List ℕ)) (w : List ℕ) → list_all p names ≡ true → p w ≡ true → list_all p (with_name names w) ≡ true
 all_with p names w all good = by (position (bytes_eq w) names)
@@ -100,6 +101,7 @@ class_within s n w h good within = record {
   few_axioms = within.few_axioms;
   few_parts = within.few_parts;
   few_nodes = within.few_nodes;
+  no_individuals = within.no_individuals;
 }
 
 pub role_within : (s : Counts) (n : ℕ) (w : List ℕ) → holds s (role n w) ≡ true → is_role_iri w ≡ true → IsWithin s → IsWithin (counts_after s (role n w))
@@ -113,6 +115,7 @@ role_within s n w h good within = record {
   few_axioms = within.few_axioms;
   few_parts = within.few_parts;
   few_nodes = within.few_nodes;
+  no_individuals = within.no_individuals;
 }
 
 pub nodes_within : (s : Counts) (n k : ℕ) → holds s (nodes n k) ≡ true → IsWithin s → IsWithin (counts_after s (nodes n k))
@@ -126,6 +129,7 @@ nodes_within s n k h within = record {
   few_axioms = within.few_axioms;
   few_parts = within.few_parts;
   few_nodes = true_le (s.nodes + k) 262144 h;
+  no_individuals = within.no_individuals;
 }
 
 pub numbered_within : (s : Counts) (n : ℕ) → holds s (numbered n) ≡ true → IsWithin s → IsWithin (counts_after s (numbered n))
@@ -139,6 +143,7 @@ numbered_within s n h within = record {
   few_axioms = true_le (s.axioms + 1) 20000 h;
   few_parts = within.few_parts;
   few_nodes = within.few_nodes;
+  no_individuals = within.no_individuals;
 }
 
 pub parts_within : (s : Counts) (n k : ℕ) → holds s (parts n k) ≡ true → IsWithin s → IsWithin (counts_after s (parts n k))
@@ -152,6 +157,7 @@ parts_within s n k h within = record {
   few_axioms = within.few_axioms;
   few_parts = true_le (s.parts + k) 500000 h;
   few_nodes = within.few_nodes;
+  no_individuals = within.no_individuals;
 }
 
 -- ---- how far the counts rise

@@ -70,7 +70,7 @@ no_names = []
 
 -- so many names are listed
 abbrev pub naming : List (List ℕ) → List (List ℕ) → Counts
-naming classes roles = record { axioms = 0; parts = 0; nodes = 0; classes = classes; roles = roles }
+naming classes roles = record { axioms = 0; parts = 0; nodes = 0; classes = classes; roles = roles; individuals = [] }
 
 with_new : (before : List (List ℕ)) (w : List ℕ) → position (bytes_eq w) before ≡ None → with_name before w ≡ before ++ w ∷ []
 with_new before w new = ap (λ r. with_at r before w) new
@@ -130,16 +130,16 @@ declarations_value kind s (w ∷ ws) n ps =
 
 module _ (o : Listed) (names : AreKnown o) where
   abbrev known : Numbered → Bool
-  known a = axiom_uses_listed (length o.classes) (length o.roles) a.axiom
+  known a = axiom_uses_listed (length o.classes) (length o.roles) (length o.individuals) a.axiom
 
-  pub axioms_walk : (as_ : List Numbered) (x p k n : ℕ) → all_use_listed (length o.classes) (length o.roles) as_ ≡ true → list_all (λ (a : Numbered). is_whole_axiom a.axiom) as_ ≡ true
+  pub axioms_walk : (as_ : List Numbered) (x p k n : ℕ) → all_use_listed (length o.classes) (length o.roles) (length o.individuals) as_ ≡ true → list_all (λ (a : Numbered). is_whole_axiom a.axiom) as_ ≡ true
       → x + length as_ ≤ 20000 → p + total counted_parts as_ ≤ 500000 → k + total axiom_expressions as_ ≤ 262144
       → walked (counted o x p k) (tests_on n (axiom_phrases o as_)) ≡ Ok (counted o (x + length as_) (p + total counted_parts as_) (k + total axiom_expressions as_))
   axioms_walk [] x p k n listed whole few few_parts few_nodes = λ i. Ok (counted o (no_more x i) (no_more p i) (no_more k i))
   axioms_walk (a ∷ more) x p k n listed whole few few_parts few_nodes =
       let e : ℕ = axiom_expressions a.axiom in
       let q : ℕ = counted_parts a.axiom in
-      let others : Bool = all_use_listed (length o.classes) (length o.roles) more in
+      let others : Bool = all_use_listed (length o.classes) (length o.roles) (length o.individuals) more in
       let good : Bool = list_all (λ (b : Numbered). is_whole_axiom b.axiom) more in
       let x_is : x + 1 + length more ≡ x + suc (length more) = omega arith in
       let p_is : p + q + total counted_parts more ≡ p + (q + total counted_parts more) = omega arith in
@@ -149,12 +149,12 @@ module _ (o : Listed) (names : AreKnown o) where
       ∙ axioms_walk more (x + 1) (p + q) (k + e) (n + 1) (and_parts (known a) others listed).1 (and_parts (is_whole_axiom a.axiom) good whole).1 (omega (arith, few)) (omega (arith, few_parts)) (omega (arith, few_nodes))
       ∙ (λ i. Ok (counted o (x_is i) (p_is i) (k_is i)))
 
-  pub axioms_value : (x p k : ℕ) (as_ : List Numbered) (n : ℕ) → all_use_listed (length o.classes) (length o.roles) as_ ≡ true → list_all (λ (a : Numbered). is_whole_axiom a.axiom) as_ ≡ true
+  pub axioms_value : (x p k : ℕ) (as_ : List Numbered) (n : ℕ) → all_use_listed (length o.classes) (length o.roles) (length o.individuals) as_ ≡ true → list_all (λ (a : Numbered). is_whole_axiom a.axiom) as_ ≡ true
       → axioms_of (axioms_in predeclared (counted o x p k) (lines_items n (axiom_phrases o as_))) ≡ axioms_of as_
   axioms_value x p k [] n listed whole = refl
   axioms_value x p k (a ∷ more) n listed whole =
       let s : Counts = counted o x p k in
-      let others : Bool = all_use_listed (length o.classes) (length o.roles) more in
+      let others : Bool = all_use_listed (length o.classes) (length o.roles) (length o.individuals) more in
       let good : Bool = list_all (λ (b : Numbered). is_whole_axiom b.axiom) more in
       ap (λ l. axioms_of (l ++ axioms_in predeclared s (lines_items (n + 1) (axiom_phrases o more)))) (axiom_value predeclared owl_known o names x p k n a.axiom (and_parts (known a) others listed).0 (and_parts (is_whole_axiom a.axiom) good whole).0)
       ∙ ap (λ l. a.axiom ∷ l) (axioms_value x p k more (n + 1) (and_parts (known a) others listed).1 (and_parts (is_whole_axiom a.axiom) good whole).1)

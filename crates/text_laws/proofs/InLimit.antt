@@ -10,6 +10,7 @@ use Rattle.ofn_expressions.specs.Classes.{is_thing, is_nothing}
 use Rattle.shq_terms.specs.Concept.{Concept, bottom}
 use Rattle.shq_terms.specs.Listed.{Listed}
 use Rattle.shq_terms.specs.declared.axioms.Numbered.{Numbered}
+use Rattle.shq_terms.specs.declared.axioms.On.TheVariants.{Any}
 use Rattle.shq_terms.specs.declared.axioms.Query.{Query}
 use Rattle.shq_terms.proofs.Uses.{all_use_more}
 use Rattle.ontology_limits.specs.Counted.{counted_roles, counted_by_query}
@@ -28,8 +29,8 @@ use Rattle.ofn_reader.specs.Queries.{IsQuery, IsClass, query_form_tests, class_f
 use Rattle.text_laws.specs.Writable.{is_iri, is_class_iri, is_role_iri, CanBeWritten}
 use Rattle.text_laws.proofs.GoodTokens.{AreGoodItems, tokens_good, tree_good}
 use Rattle.text_laws.proofs.Counting.{IsWithin, held, both, nothing_held, walked_after}
-use Rattle.text_laws.proofs.CanWrite.{can_be_written, prefixes_kept, query_within}
-use Rattle.certificate_lines.specs.Names.{is_word_byte}
+use Rattle.text_laws.proofs.CanWrite.{no_names_distinct, can_be_written, prefixes_kept, query_within}
+use Rattle.certificate_lines.specs.Names.{AreNames, is_word_byte}
 use Rattle.text_laws.specs.LimitLaws.{with_names, DocumentsAreInLimit, QueriesAreInLimit, ClassesAreInLimit, AreWritable, QueriesListNames, ClassesListNames}
 use Rattle.text_laws.proofs.Names.{no_shorter}
 use Rattle.text_laws.proofs.Queries.{IsAsked, first_query_asked, first_class_asked}
@@ -43,8 +44,9 @@ still_in_limit : (o : Listed) (nodes : ℕ) (after : Counts) → CanBeWritten o 
 still_in_limit o nodes after can keeps within =
     let classes = no_shorter o.classes after.classes can.distinct_classes keeps.classes in
     let roles = no_shorter o.roles after.roles can.distinct_roles keeps.roles in
+    let none_before : o.individuals ≡ [] = can.within.without_individuals.none_listed in
     record {
-      listed = all_use_more (length o.classes) (length after.classes) (length o.roles) (length after.roles) classes roles o.axioms can.within.listed;
+      listed = all_use_more (length o.classes) (length after.classes) (length o.roles) (length after.roles) (length o.individuals) (length after.individuals) classes roles (omega (arith, ap length none_before)) o.axioms can.within.listed;
       items = can.within.items;
       counts = can.within.counts;
       simple = can.within.simple;
@@ -52,6 +54,7 @@ still_in_limit o nodes after can keeps within =
       few_classes = within.few_classes;
       few_roles = within.few_roles;
       few_parts = can.within.few_parts;
+      without_individuals = record { none_listed = within.no_individuals; no_assertions = can.within.without_individuals.no_assertions };
     }
 
 items_good : (text : List ℕ) (items : List Item) (end : ℕ) → HasItems text items end → AreGoodItems (items_of items)
@@ -83,6 +86,7 @@ module _ (text : List ℕ) (o : Listed) (kept : DocumentContext) (end : ℕ) (d 
     items = asked.items;
     counts = asked.counts;
     simple = simple_are;
+    on_any = asked.on_any;
   }
 
 -- ---- what was walked
@@ -110,7 +114,7 @@ query_walks text o kept end d query after q x =
 
 class_walks : (text : List ℕ) (o : Listed) (kept : DocumentContext) (end : ℕ) → IsDocument text o kept end
     → (class : List ℕ) (after : Counts) (c : Concept) → IsClass kept.prefixes o.axioms (query_start o kept.nodes) class after c
-    → Walks (query_start o kept.nodes) after o.axioms (record { sub = c; sup = bottom })
+    → Walks (query_start o kept.nodes) after o.axioms (record { sub = c; sup = bottom; on = Any })
 class_walks text o kept end d class after c x =
     let s : Counts = query_start o kept.nodes in
     let last : ℕ = end_line class in
@@ -134,7 +138,7 @@ queries_in_limit text o kept end d query after q x =
 pub classes_in_limit : ClassesAreInLimit
 classes_in_limit text o kept end d class after c x =
     let w = class_walks text o kept end d class after c x in
-    asked_in_limit text o kept end d after (record { sub = c; sup = bottom }) w.asked w.keeps w.simple_are
+    asked_in_limit text o kept end d after (record { sub = c; sup = bottom; on = Any }) w.asked w.keeps w.simple_are
 
 -- each byte of an IRI is one of a word
 iri_is_word : (b : ℕ) → is_iri_byte b ≡ true → is_word_byte b ≡ true
@@ -171,10 +175,11 @@ names_written text o kept end d after q w =
     record {
       classes = record { distinct = within.distinct_classes; plain = plain after.classes (iris_of_classes after.classes within.class_iris) };
       roles = record { distinct = within.distinct_roles; plain = plain after.roles (iris_of_roles after.roles within.role_iris) };
+      individuals = subst AreNames (sym within.no_individuals) (record { distinct = no_names_distinct; plain = refl });
     }
 
 pub queries_list_names : QueriesListNames
 queries_list_names text o kept end d query after q x = names_written text o kept end d after q (query_walks text o kept end d query after q x)
 
 pub classes_list_names : ClassesListNames
-classes_list_names text o kept end d class after c x = names_written text o kept end d after (record { sub = c; sup = bottom }) (class_walks text o kept end d class after c x)
+classes_list_names text o kept end d class after c x = names_written text o kept end d after (record { sub = c; sup = bottom; on = Any }) (class_walks text o kept end d class after c x)

@@ -13,6 +13,7 @@ same_read text o p first second =
     record {
       classes = sym first.classes ∙ ap (λ (l : Listed). l.classes) read ∙ second.classes;
       roles = sym first.roles ∙ ap (λ (l : Listed). l.roles) read ∙ second.roles;
+      individuals = sym first.individuals ∙ ap (λ (l : Listed). l.individuals) read ∙ second.individuals;
       axioms = sym first.axioms ∙ ap (λ (l : Listed). axioms_of l.axioms) read ∙ second.axioms;
     }
 

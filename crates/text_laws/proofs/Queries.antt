@@ -4,6 +4,7 @@ use Rattle.std.specs.Prelude.{nat_eq}
 use Rattle.std.proofs.lemmas.Bool.{and_parts, and_from}
 use Rattle.shq_terms.specs.Concept.{Concept, bottom, Parts, part}
 use Rattle.shq_terms.specs.Uses.{uses_listed, parts_use_listed}
+use Rattle.shq_terms.specs.declared.axioms.On.TheVariants.{Any}
 use Rattle.shq_terms.specs.declared.axioms.Query.{Query}
 use Rattle.shq_nnf.specs.Counts.{has_counts_within}
 use Rattle.ontology_limits.specs.Limits.{has_enough_parts}
@@ -31,13 +32,14 @@ pub record IsAsked (f s new : Counts) (q : Query) : Type 0 where
   pub listed : (uses_listed (length f.classes) (length f.roles) q.sub && uses_listed (length f.classes) (length f.roles) q.sup) ≡ true
   pub items : (has_enough_parts q.sub && has_enough_parts q.sup) ≡ true
   pub counts : (has_counts_within 100 q.sub && has_counts_within 100 q.sup) ≡ true
+  pub on_any : q.on ≡ Any
 
 -- the limits of an expression, by the test of both
 both_parts : (c : Concept) → is_whole c ≡ true → (has_enough_parts c ≡ true) × (has_counts_within 100 c ≡ true)
 both_parts c h = and_parts (has_enough_parts c) (has_counts_within 100 c) (sym (whole_is c) ∙ h)
 
 asked : (f s new : Counts) (c d : Concept) → (IsWithin s → IsWithin new) → uses_listed (length f.classes) (length f.roles) c ≡ true → uses_listed (length f.classes) (length f.roles) d ≡ true → is_whole c ≡ true → is_whole d ≡ true
-    → IsAsked f s new (record { sub = c; sup = d })
+    → IsAsked f s new (record { sub = c; sup = d; on = Any })
 asked f s new c d within c_listed d_listed c_whole d_whole =
     let first = both_parts c c_whole in
     let second = both_parts d d_whole in
@@ -46,6 +48,7 @@ asked f s new c d within c_listed d_listed c_whole d_whole =
       listed = and_from (uses_listed (length f.classes) (length f.roles) c) (uses_listed (length f.classes) (length f.roles) d) c_listed d_listed;
       items = and_from (has_enough_parts c) (has_enough_parts d) first.0 second.0;
       counts = and_from (has_counts_within 100 c) (has_counts_within 100 d) first.1 second.1;
+      on_any = refl;
     }
 
 no_query : (q : Query) → [] ≡ q ∷ [] → ⊥
@@ -68,7 +71,7 @@ module _ (ps : List Prefix) (prefixes : AreGoodPrefixes ps) (f : Counts) where
       let m = and_parts (uses_listed (length f.classes) (length f.roles) d) (parts_use_listed (length f.classes) (length f.roles) rest) l.1 in
       let w = and_parts (is_whole c) (are_whole (part d rest)) all.whole in
       let v = and_parts (is_whole d) (are_whole rest) w.1 in
-      let made : Query = record { sub = c; sup = d } in
+      let made : Query = record { sub = c; sup = d; on = Any } in
       let same : made ≡ q = cc pair in
       subst (λ (x : Query). IsAsked f s new x) same (asked f s new c d all.rises.within l.0 m.0 w.0 v.0)
 
@@ -134,12 +137,12 @@ module _ (ps : List Prefix) (prefixes : AreGoodPrefixes ps) (f : Counts) where
 
   -- ---- class expressions
 
-  pub first_class_asked : (end : ℕ) (is : List Item) → AreGoodItems (items_of is) → (c : Concept) → first_class ps f is ≡ c ∷ [] → (s new : Counts) → walked s (class_form_tests ps end is) ≡ Ok new → Keeps new f → IsAsked f s new (record { sub = c; sup = bottom })
+  pub first_class_asked : (end : ℕ) (is : List Item) → AreGoodItems (items_of is) → (c : Concept) → first_class ps f is ≡ c ∷ [] → (s new : Counts) → walked s (class_form_tests ps end is) ≡ Ok new → Keeps new f → IsAsked f s new (record { sub = c; sup = bottom; on = Any })
   first_class_asked end [] good c class s new h keeps = let clash : [] ≡ c ∷ [] = class in absurd (cc clash)
   first_class_asked end (i ∷ is) good c class s new h keeps =
       let b = both s (class_tests ps i) (nothing_tests is) new h in
       let d : Concept = concept_of ps f i in
       let read = class_read ps prefixes f i good.0 s b.mid b.first (keeps_before s b.mid new f (nothing_tests is) b.second keeps) in
       let same : d ≡ c = cc class in
-      subst (λ (t : Counts). IsAsked f s t (record { sub = c; sup = bottom })) (nothing_after is b.mid new b.second)
-      (subst (λ (x : Concept). IsAsked f s b.mid (record { sub = x; sup = bottom })) same (asked f s b.mid d bottom read.rises.within read.listed refl read.whole refl))
+      subst (λ (t : Counts). IsAsked f s t (record { sub = c; sup = bottom; on = Any })) (nothing_after is b.mid new b.second)
+      (subst (λ (x : Concept). IsAsked f s b.mid (record { sub = x; sup = bottom; on = Any })) same (asked f s b.mid d bottom read.rises.within read.listed refl read.whole refl))

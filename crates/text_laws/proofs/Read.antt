@@ -7,7 +7,7 @@ use Rattle.std.proofs.lemmas.Bool.{and_parts}
 use Rattle.shq_terms.proofs.Bools.{false_from_not}
 use Rattle.shq_terms.specs.Listed.{Listed}
 use Rattle.shq_terms.specs.declared.axioms.Axiom.{Axiom}
-use Rattle.shq_terms.specs.declared.axioms.Axiom.TheVariants.{SubClassOf, EquivalentClasses, DisjointClasses, DisjointUnion, SubRole, EquivalentRoles, Domain, Range, Functional, Transitive}
+use Rattle.shq_terms.specs.declared.axioms.Axiom.TheVariants.{SubClassOf, EquivalentClasses, DisjointClasses, DisjointUnion, SubRole, EquivalentRoles, Domain, Range, Functional, Transitive, Member, Pair, SameAll, Different}
 use Rattle.shq_terms.specs.declared.axioms.Numbered.{Numbered}
 use Rattle.ofn_tree.specs.declared.token.Kind.TheVariants.{OpenBracket, CloseBracket, Name}
 use Rattle.ofn_tree.specs.Token.{PlainToken}
@@ -135,6 +135,10 @@ axiom_first o n (Domain r c) is = refl
 axiom_first o n (Range r c) is = refl
 axiom_first o n (Functional r) is = refl
 axiom_first o n (Transitive r) is = refl
+axiom_first o n (Member c a) is = refl
+axiom_first o n (Pair r a b) is = refl
+axiom_first o n (SameAll as_) is = refl
+axiom_first o n (Different as_) is = refl
 
 axioms_first : (o : Listed) (n : ℕ) (as_ : List Numbered) → axiom_items (lines_items n (axiom_phrases o as_)) ≡ lines_items n (axiom_phrases o as_)
 axioms_first o n [] = refl
@@ -201,6 +205,7 @@ module _ (o : Listed) (can : CanBeWritten o) where
       ∙ ap (λ is. walked start (axioms_tests predeclared is)) (no_name_first o 2)
       ∙ classes_walk o.classes 2 (declarations (codes "ObjectProperty") o.roles ++ axiom_phrases o o.axioms) can.distinct_classes can.class_iris can.within.few_classes
       ∙ roles_walk o.classes o.roles (2 + length o.classes) (axiom_phrases o o.axioms) can.distinct_roles can.role_iris can.within.few_roles
+      ∙ ap (λ (l : List (List ℕ)). walked (record { axioms = 0; parts = 0; nodes = 0; classes = o.classes; roles = o.roles; individuals = l }) (axioms_tests predeclared (lines_items first_axiom (axiom_phrases o o.axioms)))) (sym can.within.without_individuals.none_listed)
       ∙ axioms_walk o (known o can) o.axioms 0 0 0 first_axiom can.within.listed (whole_of o can) (omega (arith, can.within.few_axioms)) (omega (arith, can.within.few_parts, part_total o.axioms)) (omega (arith, can.few_expressions, expression_total o.axioms))
 
   same_axioms : axioms_of (document_axioms predeclared behind (document_items (document_phrases o))) ≡ axioms_of o.axioms
@@ -222,7 +227,7 @@ module _ (o : Listed) (can : CanBeWritten o) where
   says =
       let stands = document_stands o (spelled o can) can in
       record {
-        read = record { axioms = document_axioms predeclared behind (document_items (document_phrases o)); classes = o.classes; roles = o.roles };
+        read = record { axioms = document_axioms predeclared behind (document_items (document_phrases o)); classes = o.classes; roles = o.roles; individuals = o.individuals };
         kept = record { prefixes = predeclared; nodes = behind.nodes };
         end = 10 + length (lines_text (document_phrases o)) + 1;
         is_document = record {
@@ -235,8 +240,9 @@ module _ (o : Listed) (can : CanBeWritten o) where
         };
         classes = refl;
         roles = refl;
+        individuals = refl;
         axioms = same_axioms;
       }
 
 pub written_is_read : (o : Listed) → CanBeWritten o → IsDocumentOf (ontology_text o) o
-written_is_read o can = subst (λ t. IsDocumentOf t o) (sym (text_is o)) (says o can)
+written_is_read o can = subst (λ t. IsDocumentOf t o) (sym (text_is o can.within.without_individuals.none_listed)) (says o can)

@@ -7,7 +7,7 @@ use Rattle.std.proofs.lemmas.Bool.{and_parts, and_from}
 use Rattle.shq_terms.specs.Concept.{Concept, Parts, no_parts, part, parts_of, part_list}
 use Rattle.shq_terms.specs.Uses.{uses_listed, parts_use_listed, axiom_uses_listed, all_use_listed}
 use Rattle.shq_terms.specs.declared.axioms.Axiom.{Axiom}
-use Rattle.shq_terms.specs.declared.axioms.Axiom.TheVariants.{SubClassOf, EquivalentClasses, DisjointClasses, DisjointUnion, SubRole, EquivalentRoles, Domain, Range, Functional, Transitive}
+use Rattle.shq_terms.specs.declared.axioms.Axiom.TheVariants.{SubClassOf, EquivalentClasses, DisjointClasses, DisjointUnion, SubRole, EquivalentRoles, Domain, Range, Functional, Transitive, Member, Pair, SameAll, Different}
 use Rattle.shq_terms.specs.declared.axioms.Numbered.{Numbered}
 use Rattle.ofn_tree.specs.Items.{Item, name_item, iri_item, literal_item, sign_item, group_item, Items, no_items, item, nesting, nesting_all}
 use Rattle.ofn_expressions.specs.Counts.{Counts}
@@ -39,10 +39,10 @@ total_append : (g : Axiom → ℕ) (xs ys : List Numbered) → total g (xs ++ ys
 total_append g [] ys = omega arith
 total_append g (x ∷ xs) ys = omega (arith, total_append g xs ys)
 
-uses_append : (m n : ℕ) (xs ys : List Numbered) → all_use_listed m n xs ≡ true → all_use_listed m n ys ≡ true → all_use_listed m n (xs ++ ys) ≡ true
-uses_append m n [] ys first second = second
-uses_append m n (x ∷ xs) ys first second =
-    and_from (axiom_uses_listed m n x.axiom) (all_use_listed m n (xs ++ ys)) (and_parts (axiom_uses_listed m n x.axiom) (all_use_listed m n xs) first).0 (uses_append m n xs ys (and_parts (axiom_uses_listed m n x.axiom) (all_use_listed m n xs) first).1 second)
+uses_append : (m n k : ℕ) (xs ys : List Numbered) → all_use_listed m n k xs ≡ true → all_use_listed m n k ys ≡ true → all_use_listed m n k (xs ++ ys) ≡ true
+uses_append m n k [] ys first second = second
+uses_append m n k (x ∷ xs) ys first second =
+    and_from (axiom_uses_listed m n k x.axiom) (all_use_listed m n k (xs ++ ys)) (and_parts (axiom_uses_listed m n k x.axiom) (all_use_listed m n k xs) first).0 (uses_append m n k xs ys (and_parts (axiom_uses_listed m n k x.axiom) (all_use_listed m n k xs) first).1 second)
 
 -- items behind annotations
 pub plain_good : (is : Items) → AreGoodItems is → AreGoodItems (without_annotations is)
@@ -65,21 +65,21 @@ module _ (ps : List Prefix) (prefixes : AreGoodPrefixes ps) (f : Counts) where
   -- these axioms are read
   pub record AreSaid (s new : Counts) (as_ : List Numbered) : Type 0 where
     pub rises : Rises s new (length as_) (total counted_parts as_) (total axiom_expressions as_)
-    pub listed : all_use_listed (length f.classes) (length f.roles) as_ ≡ true
+    pub listed : all_use_listed (length f.classes) (length f.roles) (length f.individuals) as_ ≡ true
     pub whole : list_all (λ (a : Numbered). is_whole_axiom a.axiom) as_ ≡ true
     pub nested : list_all (λ (a : Numbered). nat_le (axiom_brackets a.axiom) 63) as_ ≡ true
 
   none_said : (s new : Counts) → Rises s new 0 0 0 → AreSaid s new []
   none_said s new rises = record { rises = rises; listed = refl; whole = refl; nested = refl }
 
-  one_said : (s new : Counts) (n : ℕ) (a : Axiom) → Rises s new 1 (counted_parts a) (axiom_expressions a) → axiom_uses_listed (length f.classes) (length f.roles) a ≡ true → has_item_count a ≡ true → has_whole_items a ≡ true → axiom_brackets a ≤ 63
+  one_said : (s new : Counts) (n : ℕ) (a : Axiom) → Rises s new 1 (counted_parts a) (axiom_expressions a) → axiom_uses_listed (length f.classes) (length f.roles) (length f.individuals) a ≡ true → has_item_count a ≡ true → has_whole_items a ≡ true → axiom_brackets a ≤ 63
       → AreSaid s new (numbered_at n (a ∷ []))
   one_said s new n a rises listed enough whole nested =
       let p : counted_parts a ≡ counted_parts a + 0 = omega arith in
       let e : axiom_expressions a ≡ axiom_expressions a + 0 = omega arith in
       record {
         rises = rises_as s new 1 (counted_parts a) (axiom_expressions a) 1 (counted_parts a + 0) (axiom_expressions a + 0) refl p e rises;
-        listed = and_from (axiom_uses_listed (length f.classes) (length f.roles) a) true listed refl;
+        listed = and_from (axiom_uses_listed (length f.classes) (length f.roles) (length f.individuals) a) true listed refl;
         whole = and_from (is_whole_axiom a) true (and_from (has_item_count a) (has_whole_items a) enough whole) refl;
         nested = and_from (nat_le (axiom_brackets a) 63) true (le_true (axiom_brackets a) 63 nested) refl;
       }
@@ -92,7 +92,7 @@ module _ (ps : List Prefix) (prefixes : AreGoodPrefixes ps) (f : Counts) where
     rises = rises_as s new (length xs + length ys) (total counted_parts xs + total counted_parts ys) (total axiom_expressions xs + total axiom_expressions ys) (length (xs ++ ys)) (total counted_parts (xs ++ ys)) (total axiom_expressions (xs ++ ys))
         (sym (length-append xs ys)) (sym (total_append counted_parts xs ys)) (sym (total_append axiom_expressions xs ys))
         (rises_both s mid new (length xs) (total counted_parts xs) (total axiom_expressions xs) (length ys) (total counted_parts ys) (total axiom_expressions ys) first.rises second.rises);
-    listed = uses_append (length f.classes) (length f.roles) xs ys first.listed second.listed;
+    listed = uses_append (length f.classes) (length f.roles) (length f.individuals) xs ys first.listed second.listed;
     whole = list_all-append (λ (a : Numbered). is_whole_axiom a.axiom) xs ys ∙ and_from (list_all (λ (a : Numbered). is_whole_axiom a.axiom) xs) (list_all (λ (a : Numbered). is_whole_axiom a.axiom) ys) first.whole second.whole;
     nested = list_all-append (λ (a : Numbered). nat_le (axiom_brackets a.axiom) 63) xs ys ∙ and_from (list_all (λ (a : Numbered). nat_le (axiom_brackets a.axiom) 63) xs) (list_all (λ (a : Numbered). nat_le (axiom_brackets a.axiom) 63) ys) first.nested second.nested;
   }
@@ -152,7 +152,7 @@ module _ (ps : List Prefix) (prefixes : AreGoodPrefixes ps) (f : Counts) where
       (omega (arith, inner.nested, deep))
 
   -- equivalent and disjoint classes
-  many_said : (con : List Concept → Axiom) → ((cs : List Concept) → axiom_uses_listed (length f.classes) (length f.roles) (con cs) ≡ parts_use_listed (length f.classes) (length f.roles) (parts_of cs)) → ((cs : List Concept) → has_item_count (con cs) ≡ nat_le 2 (length cs))
+  many_said : (con : List Concept → Axiom) → ((cs : List Concept) → axiom_uses_listed (length f.classes) (length f.roles) (length f.individuals) (con cs) ≡ parts_use_listed (length f.classes) (length f.roles) (parts_of cs)) → ((cs : List Concept) → has_item_count (con cs) ≡ nat_le 2 (length cs))
       → ((cs : List Concept) → has_whole_items (con cs) ≡ are_whole (parts_of cs)) → ((cs : List Concept) → axiom_expressions (con cs) ≡ all_expressions (parts_of cs)) → ((cs : List Concept) → axiom_brackets (con cs) ≡ most_brackets (parts_of cs) + 1)
       → (count : ℕ → ℕ) → ((cs : List Concept) → counted_parts (con cs) ≡ count (length cs)) → (n : ℕ) (is : Items) → AreGoodItems is → nesting_all is ≤ 62 → (s new : Counts)
       → walked s (axiom_group_tests n (nat_le 2 (item_count is)) (count (item_count is)) (joined (each_class ps is))) ≡ Ok new → Keeps new f → Said s new n (con (part_list (concepts_of ps f is)) ∷ [])

@@ -2,6 +2,9 @@
 use Rattle.std.proofs.Common.{◌≡◌, ℕ, ◌+◌, ◌≤◌, ◌^◌, max, Bool, true, List, [], ◌∷◌, ◌++◌, length, Ok, refl, ap, sym, ◌∙◌, subst, arith, append-nil}
 use Rattle.std.specs.Prelude.{nat_eq}
 use Rattle.std.proofs.lemmas.Bool.{and_parts, and_from}
+use Rattle.shq_terms.specs.declared.axioms.On.{On}
+use Rattle.shq_terms.specs.declared.axioms.On.TheVariants.{Any}
+use Rattle.shq_terms.specs.declared.axioms.Query.{Query}
 use Rattle.shq_terms.specs.Concept.{Concept, top, bottom, name, complement, intersection, union, some_of, all_of, at_least, at_most, exactly}
 use Rattle.shq_terms.specs.Listed.{Listed}
 use Rattle.shq_terms.specs.Uses.{uses_listed}
@@ -19,6 +22,7 @@ use Rattle.ofn_expressions.specs.Classes.{item_count, joined, class_tests, each_
 use Rattle.ofn_expressions.proofs.Walks.{goes_on}
 use Rattle.ofn_reader.specs.Keywords.{axiom_keyword}
 use Rattle.ofn_reader.specs.Queries.{axiom_query_tests, class_form_tests, query_form_tests, first_query, counted_by_first, class_query_tests, query_tests, query_in, pair_in, roles_test, query_start, IsClass, IsQuery}
+use Rattle.ofn_writer.specs.Canonical.{axiom_text}
 use Rattle.text_laws.specs.Writable.{brackets, expressions, CanBeWritten}
 use Rattle.text_laws.specs.WritingLaws.{KnowsOwl, ClassTextsAreRead, QueryTextsAreRead}
 use Rattle.text_laws.proofs.Whole.{is_whole, whole_is}
@@ -118,11 +122,11 @@ module _ (o : Listed) (ps : List Prefix) (can : CanBeWritten o) (knows : KnowsOw
       ∙ ap (λ n. Ok (query_start o n)) sum
 
   query_value : (nodes : ℕ) (c d : Concept) → is_listed c ≡ true → is_listed d ≡ true → is_whole c ≡ true → is_whole d ≡ true
-      → query_in ps (query_start o nodes) (query_item c d) ≡ record { sub = c; sup = d } ∷ []
+      → query_in ps (query_start o nodes) (query_item c d) ≡ record { sub = c; sup = d; on = Any } ∷ []
   query_value nodes c d c_listed d_listed c_good d_good =
       let first = value nodes c c_listed c_good in
       let second = value nodes d d_listed d_good in
-      ap (pair_in ps (query_start o nodes)) (plain_first o 1 c (item (concept_item d) no_items)) ∙ (λ i. record { sub = first i; sup = second i } ∷ [])
+      ap (pair_in ps (query_start o nodes)) (plain_first o 1 c (item (concept_item d) no_items)) ∙ (λ i. record { sub = first i; sup = second i; on = Any } ∷ [])
 
   query_holds : (nodes : ℕ) (c d : Concept) (last : ℕ) → is_listed c ≡ true → is_listed d ≡ true → is_whole c ≡ true → is_whole d ≡ true → nodes + (expressions c + expressions d) ≤ 262144 → are_simple (all_role_axioms o.axioms) (counted_roles c ++ counted_roles d) ≡ true
       → walked (query_start o nodes) (query_tests ps o.axioms (query_start o nodes) last (query_item c d ∷ [])) ≡ Ok (query_start o (nodes + (expressions c + expressions d)))
@@ -138,7 +142,7 @@ module _ (o : Listed) (ps : List Prefix) (can : CanBeWritten o) (knows : KnowsOw
 
   query_is_read : (nodes : ℕ) (c d : Concept) → is_listed c ≡ true → is_listed d ≡ true → is_whole c ≡ true → is_whole d ≡ true → nodes + (expressions c + expressions d) ≤ 262144 → are_simple (all_role_axioms o.axioms) (counted_roles c ++ counted_roles d) ≡ true
       → length (text_of (axiom_phrase o (SubClassOf c d))) ≤ 2 ^ 24 → max (brackets c) (brackets d) + 1 ≤ 64
-      → IsQuery ps o.axioms (query_start o nodes) (text_of (axiom_phrase o (SubClassOf c d))) (query_start o (nodes + (expressions c + expressions d))) (record { sub = c; sup = d })
+      → IsQuery ps o.axioms (query_start o nodes) (text_of (axiom_phrase o (SubClassOf c d))) (query_start o (nodes + (expressions c + expressions d))) (record { sub = c; sup = d; on = Any })
   query_is_read nodes c d c_listed d_listed c_good d_good few simple_are short deep =
       let p : Phrase = axiom_phrase o (SubClassOf c d) in
       let both_listed = and_from (is_listed c) (is_listed d) c_listed d_listed in
@@ -168,6 +172,8 @@ query_texts_read o q ps nodes can limit knows short deep few =
     let items = and_parts (has_enough_parts q.sub) (has_enough_parts q.sup) limit.items in
     let counts = and_parts (has_counts_within 100 q.sub) (has_counts_within 100 q.sup) limit.counts in
     let written = axiom_written o (SubClassOf q.sub q.sup) in
-    subst (λ (t : List ℕ). IsQuery ps o.axioms (query_start o nodes) t (query_start o (nodes + (expressions q.sub + expressions q.sup))) q) written
+    let on_any : ◌≡◌ {A = Query} (record { sub = q.sub; sup = q.sup; on = Any }) q = ap (λ (on : On). record { sub = q.sub; sup = q.sup; on = on }) (sym limit.on_any) in
+    subst (λ (x : Query). IsQuery ps o.axioms (query_start o nodes) (axiom_text o (SubClassOf q.sub q.sup)) (query_start o (nodes + (expressions q.sub + expressions q.sup))) x) on_any
+    (subst (λ (t : List ℕ). IsQuery ps o.axioms (query_start o nodes) t (query_start o (nodes + (expressions q.sub + expressions q.sup))) (record { sub = q.sub; sup = q.sup; on = Any })) written
     (query_is_read o ps can knows nodes q.sub q.sup listed.0 listed.1 (whole o ps can knows q.sub items.0 counts.0) (whole o ps can knows q.sup items.1 counts.1) few limit.simple
-    (subst (λ (t : List ℕ). length t ≤ 2 ^ 24) (sym written) short) deep)
+    (subst (λ (t : List ℕ). length t ≤ 2 ^ 24) (sym written) short) deep))

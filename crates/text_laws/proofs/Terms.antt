@@ -13,12 +13,12 @@ use Rattle.shq_terms.specs.Concept.{Concept, top, bottom, name, complement, inte
 use Rattle.shq_terms.specs.Listed.{Listed}
 use Rattle.shq_terms.specs.Uses.{uses_listed, parts_use_listed, axiom_uses_listed}
 use Rattle.shq_terms.specs.declared.axioms.Axiom.{Axiom}
-use Rattle.shq_terms.specs.declared.axioms.Axiom.TheVariants.{SubClassOf, EquivalentClasses, DisjointClasses, DisjointUnion, SubRole, EquivalentRoles, Domain, Range, Functional, Transitive}
+use Rattle.shq_terms.specs.declared.axioms.Axiom.TheVariants.{SubClassOf, EquivalentClasses, DisjointClasses, DisjointUnion, SubRole, EquivalentRoles, Domain, Range, Functional, Transitive, Member, Pair, SameAll, Different}
 use Rattle.ofn_tree.specs.Lexemes.{is_iri_byte, is_name_byte}
 use Rattle.ofn_tree.specs.Items.{nesting, nesting_all}
 use Rattle.ofn_expressions.specs.Constructs.{excluded_role_name}
 use Rattle.ofn_expressions.specs.Classes.{is_digit, cardinality_in, is_thing, is_nothing}
-use Rattle.ofn_writer.specs.Canonical.{group_text, concept_text, part_texts, role_text, role_texts, axiom_text}
+use Rattle.ofn_writer.specs.Canonical.{individual_text, individual_texts, group_text, concept_text, part_texts, role_text, role_texts, axiom_text}
 use Rattle.text_laws.specs.Writable.{is_iri, is_class_iri, is_role_iri, brackets, most_brackets, is_named, axiom_brackets, expressions}
 use Rattle.text_laws.proofs.Whole.{is_whole, are_whole, has_whole_items}
 use Rattle.text_laws.proofs.Checks.{true_lt, true_le}
@@ -61,6 +61,13 @@ abbrev pub role_phrases : Listed → List ℕ → Phrases
 role_phrases o [] = none
 role_phrases o (r ∷ rs) = more (role_phrase o r) (role_phrases o rs)
 
+abbrev pub individual_phrase : Listed → ℕ → Phrase
+individual_phrase o a = iri (slice_index_or o.individuals a [])
+
+abbrev pub individual_phrases : Listed → List ℕ → Phrases
+individual_phrases o [] = none
+individual_phrases o (a ∷ as_) = more (individual_phrase o a) (individual_phrases o as_)
+
 abbrev pub axiom_phrase : Listed → Axiom → Phrase
 axiom_phrase o (SubClassOf c d) = call (codes "SubClassOf") (two (concept_phrase o c) (concept_phrase o d))
 axiom_phrase o (EquivalentClasses cs) = call (codes "EquivalentClasses") (part_phrases o (parts_of cs))
@@ -72,6 +79,10 @@ axiom_phrase o (Domain r c) = call (codes "ObjectPropertyDomain") (two (role_phr
 axiom_phrase o (Range r c) = call (codes "ObjectPropertyRange") (two (role_phrase o r) (concept_phrase o c))
 axiom_phrase o (Functional r) = call (codes "FunctionalObjectProperty") (one (role_phrase o r))
 axiom_phrase o (Transitive r) = call (codes "TransitiveObjectProperty") (one (role_phrase o r))
+axiom_phrase o (Member c a) = call (codes "ClassAssertion") (two (concept_phrase o c) (individual_phrase o a))
+axiom_phrase o (Pair r a b) = call (codes "ObjectPropertyAssertion") (more (role_phrase o r) (two (individual_phrase o a) (individual_phrase o b)))
+axiom_phrase o (SameAll as_) = call (codes "SameIndividual") (individual_phrases o as_)
+axiom_phrase o (Different as_) = call (codes "DifferentIndividuals") (individual_phrases o as_)
 
 -- a class that is named has no parts
 pub named_alone : (c : Concept) → is_named c ≡ true → (is_whole c ≡ true) × (expressions c ≡ 1)
@@ -112,6 +123,10 @@ module _ (o : Listed) where
   roles_written [] = refl
   roles_written (r ∷ rs) = ap (λ ts. role_text o r ∷ ts) (roles_written rs)
 
+  individuals_written : (as_ : List ℕ) → texts_of (individual_phrases o as_) ≡ individual_texts o as_
+  individuals_written [] = refl
+  individuals_written (a ∷ as_) = ap (λ ts. individual_text o a ∷ ts) (individuals_written as_)
+
   pub axiom_written : (a : Axiom) → text_of (axiom_phrase o a) ≡ axiom_text o a
   axiom_written (SubClassOf c d) = λ i. group_text (codes "SubClassOf") (concept_written c i ∷ concept_written d i ∷ [])
   axiom_written (EquivalentClasses cs) = ap (group_text (codes "EquivalentClasses")) (parts_written (parts_of cs))
@@ -123,6 +138,10 @@ module _ (o : Listed) where
   axiom_written (Range r c) = ap (λ t. group_text (codes "ObjectPropertyRange") (role_text o r ∷ t ∷ [])) (concept_written c)
   axiom_written (Functional r) = refl
   axiom_written (Transitive r) = refl
+  axiom_written (Member c a) = ap (λ t. group_text (codes "ClassAssertion") (t ∷ individual_text o a ∷ [])) (concept_written c)
+  axiom_written (Pair r a b) = refl
+  axiom_written (SameAll as_) = ap (group_text (codes "SameIndividual")) (individuals_written as_)
+  axiom_written (Different as_) = ap (group_text (codes "DifferentIndividuals")) (individuals_written as_)
 
   -- ---- how deep they nest
 
@@ -172,6 +191,10 @@ module _ (o : Listed) where
   axiom_nests n (Range r c) h = omega (arith, concept_nests n c)
   axiom_nests n (Functional r) h = refl
   axiom_nests n (Transitive r) h = refl
+  axiom_nests n (Member c a) h = cc
+  axiom_nests n (Pair r a b) h = cc
+  axiom_nests n (SameAll as_) h = cc
+  axiom_nests n (Different as_) h = cc
 
 -- ---- they may stand in a text
 
@@ -330,7 +353,7 @@ module _ (o : Listed) (names : AreSpelled o) where
       let others : Bool = list_all (λ s. nat_lt s (length o.roles)) rs in
       stand_more (role_phrase o r) (role_phrases o rs) (role_stands r (and_parts here others known).0) (roles_stand rs (and_parts here others known).1)
 
-  pub axiom_stands : (a : Axiom) → axiom_uses_listed (length o.classes) (length o.roles) a ≡ true → has_whole_items a ≡ true → Stands (axiom_phrase o a)
+  pub axiom_stands : (a : Axiom) → axiom_uses_listed (length o.classes) (length o.roles) (length o.individuals) a ≡ true → has_whole_items a ≡ true → Stands (axiom_phrase o a)
   axiom_stands (SubClassOf c d) known whole =
       stands_call (codes "SubClassOf") (two (concept_phrase o c) (concept_phrase o d)) refl refl
       (stand_two (concept_phrase o c) (concept_phrase o d)
@@ -353,3 +376,7 @@ module _ (o : Listed) (names : AreSpelled o) where
       valued_stands (codes "ObjectPropertyRange") r c refl refl (and_parts (nat_lt r (length o.roles)) (listed c) known).0 (concept_stands c (and_parts (nat_lt r (length o.roles)) (listed c) known).1 whole)
   axiom_stands (Functional r) known whole = stands_call (codes "FunctionalObjectProperty") (one (role_phrase o r)) refl refl (stand_one (role_phrase o r) (role_stands r known))
   axiom_stands (Transitive r) known whole = stands_call (codes "TransitiveObjectProperty") (one (role_phrase o r)) refl refl (stand_one (role_phrase o r) (role_stands r known))
+  axiom_stands (Member c a) known whole = cc
+  axiom_stands (Pair r a b) known whole = cc
+  axiom_stands (SameAll as_) known whole = cc
+  axiom_stands (Different as_) known whole = cc

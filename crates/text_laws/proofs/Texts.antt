@@ -71,16 +71,18 @@ opened inner = codes "Ontology" ++ (40 ∷ (10 ∷ (inner ++ (41 ∷ (10 ∷ [])
 brought : (a b c end : List ℕ) → a ++ (b ++ (c ++ end)) ≡ (a ++ (b ++ c)) ++ end
 brought a b c end = ap (λ l. a ++ l) (sym (append_assoc b c end)) ∙ sym (append_assoc a (b ++ c) end)
 
-pub text_is : (o : Listed) → ontology_text o ≡ opened (lines_text (document_phrases o))
-text_is o =
+-- where no individual is listed
+pub text_is : (o : Listed) → o.individuals ≡ [] → ontology_text o ≡ opened (lines_text (document_phrases o))
+text_is o none_listed =
+    let d3 : declaration_lines (codes "NamedIndividual") o.individuals ≡ [] = ap (declaration_lines (codes "NamedIndividual")) none_listed in
     let d1 : declaration_lines (codes "Class") o.classes ≡ lines_text (declarations (codes "Class") o.classes) = declared_lines (codes "Class") o.classes in
     let d2 : declaration_lines (codes "ObjectProperty") o.roles ≡ lines_text (declarations (codes "ObjectProperty") o.roles) = declared_lines (codes "ObjectProperty") o.roles in
     let a : axiom_lines o o.axioms ≡ lines_text (axiom_phrases o o.axioms) = said_lines o o.axioms in
     let inner : lines_text (document_phrases o) ≡ lines_text (declarations (codes "Class") o.classes) ++ (lines_text (declarations (codes "ObjectProperty") o.roles) ++ lines_text (axiom_phrases o o.axioms)) =
     lines_append (declarations (codes "Class") o.classes) (declarations (codes "ObjectProperty") o.roles ++ axiom_phrases o o.axioms)
     ∙ ap (λ l. lines_text (declarations (codes "Class") o.classes) ++ l) (lines_append (declarations (codes "ObjectProperty") o.roles) (axiom_phrases o o.axioms)) in
-    let whole : declaration_lines (codes "Class") o.classes ++ (declaration_lines (codes "ObjectProperty") o.roles ++ (axiom_lines o o.axioms ++ (41 ∷ (10 ∷ [])))) ≡ lines_text (document_phrases o) ++ (41 ∷ (10 ∷ [])) =
-    (λ i. d1 i ++ (d2 i ++ (a i ++ (41 ∷ (10 ∷ [])))))
+    let whole : declaration_lines (codes "Class") o.classes ++ (declaration_lines (codes "ObjectProperty") o.roles ++ (declaration_lines (codes "NamedIndividual") o.individuals ++ (axiom_lines o o.axioms ++ (41 ∷ (10 ∷ []))))) ≡ lines_text (document_phrases o) ++ (41 ∷ (10 ∷ [])) =
+    (λ i. d1 i ++ (d2 i ++ (d3 i ++ (a i ++ (41 ∷ (10 ∷ []))))))
     ∙ brought (lines_text (declarations (codes "Class") o.classes)) (lines_text (declarations (codes "ObjectProperty") o.roles)) (lines_text (axiom_phrases o o.axioms)) (41 ∷ (10 ∷ []))
     ∙ ap (λ l. l ++ (41 ∷ (10 ∷ []))) (sym inner) in
     ap (λ l. codes "Ontology" ++ (40 ∷ (10 ∷ l))) whole
@@ -122,12 +124,12 @@ declarations_stand kind stands also (w ∷ ws) h =
 
 module _ (o : Listed) (names : AreSpelled o) where
   abbrev known : Numbered → Bool
-  known a = axiom_uses_listed (length o.classes) (length o.roles) a.axiom
+  known a = axiom_uses_listed (length o.classes) (length o.roles) (length o.individuals) a.axiom
 
-  axioms_stand : (as_ : List Numbered) → all_use_listed (length o.classes) (length o.roles) as_ ≡ true → list_all (λ (a : Numbered). is_whole_axiom a.axiom) as_ ≡ true → AllStand (axiom_phrases o as_)
+  axioms_stand : (as_ : List Numbered) → all_use_listed (length o.classes) (length o.roles) (length o.individuals) as_ ≡ true → list_all (λ (a : Numbered). is_whole_axiom a.axiom) as_ ≡ true → AllStand (axiom_phrases o as_)
   axioms_stand [] listed whole = (refl, tt)
   axioms_stand (a ∷ rest) listed whole =
-      let others : Bool = all_use_listed (length o.classes) (length o.roles) rest in
+      let others : Bool = all_use_listed (length o.classes) (length o.roles) (length o.individuals) rest in
       let good : Bool = list_all (λ (b : Numbered). is_whole_axiom b.axiom) rest in
       let here : is_whole_axiom a.axiom ≡ true = (and_parts (is_whole_axiom a.axiom) good whole).0 in
       cons_stand (axiom_phrase o a.axiom) (axiom_phrases o rest)

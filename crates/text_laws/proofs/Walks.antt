@@ -41,7 +41,7 @@ pub record AreKnown (o : Listed) : Type 0 where
 
 -- all names are listed, and so many axioms, parts and nodes are counted
 abbrev pub counted : Listed → ℕ → ℕ → ℕ → Counts
-counted o a p n = record { axioms = a; parts = p; nodes = n; classes = o.classes; roles = o.roles }
+counted o a p n = record { axioms = a; parts = p; nodes = n; classes = o.classes; roles = o.roles; individuals = o.individuals }
 
 module _ (ps : List Prefix) (knows : KnowsOwl ps) (o : Listed) (names : AreKnown o) (a p : ℕ) where
   with_known : (w : List ℕ) (all : List (List ℕ)) (k : ℕ) → place w all ≡ Some k → with_name all w ≡ all
@@ -55,14 +55,14 @@ module _ (ps : List Prefix) (knows : KnowsOwl ps) (o : Listed) (names : AreKnown
       let w : List ℕ = slice_index_or o.classes c [] in
       let same : with_name o.classes w ≡ o.classes = with_known w o.classes c (names.class_place c less) in
       step (counted o a p n) (class line w) ts (ap (λ l. nat_le (length l) 20000) same ∙ le_true (length o.classes) 20000 names.few_classes)
-      ∙ ap (λ l. walked (record { axioms = a; parts = p; nodes = n; classes = l; roles = o.roles }) ts) same
+      ∙ ap (λ l. walked (record { axioms = a; parts = p; nodes = n; classes = l; roles = o.roles; individuals = o.individuals }) ts) same
 
   role_step : (n line r : ℕ) (ts : List Test) → r < length o.roles → walked (counted o a p n) (role line (slice_index_or o.roles r []) ∷ ts) ≡ walked (counted o a p n) ts
   role_step n line r ts less =
       let w : List ℕ = slice_index_or o.roles r [] in
       let same : with_name o.roles w ≡ o.roles = with_known w o.roles r (names.role_place r less) in
       step (counted o a p n) (role line w) ts (ap (λ l. nat_le (length l) 1000) same ∙ le_true (length o.roles) 1000 names.few_roles)
-      ∙ ap (λ l. walked (record { axioms = a; parts = p; nodes = n; classes = o.classes; roles = l }) ts) same
+      ∙ ap (λ l. walked (record { axioms = a; parts = p; nodes = n; classes = o.classes; roles = l; individuals = o.individuals }) ts) same
 
   -- ---- names
 

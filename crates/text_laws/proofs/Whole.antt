@@ -8,7 +8,7 @@ use Rattle.shq_terms.specs.Concept.{Concept, top, bottom, name, complement, inte
 use Rattle.shq_terms.proofs.Bools.{and_turned, and_exchange}
 use Rattle.shq_terms.specs.Listed.{Listed}
 use Rattle.shq_terms.specs.declared.axioms.Axiom.{Axiom}
-use Rattle.shq_terms.specs.declared.axioms.Axiom.TheVariants.{SubClassOf, EquivalentClasses, DisjointClasses, DisjointUnion, SubRole, EquivalentRoles, Domain, Range, Functional, Transitive}
+use Rattle.shq_terms.specs.declared.axioms.Axiom.TheVariants.{SubClassOf, EquivalentClasses, DisjointClasses, DisjointUnion, SubRole, EquivalentRoles, Domain, Range, Functional, Transitive, Member, Pair, SameAll, Different}
 use Rattle.shq_terms.specs.declared.axioms.Numbered.{Numbered}
 use Rattle.shq_nnf.specs.Counts.{has_counts_within, have_counts_within}
 use Rattle.shq_nnf.specs.Parts.{axiom_parts, axiom_has_counts_within}
@@ -16,7 +16,7 @@ use Rattle.shq_nnf.proofs.Pairs.{length_equivalent, length_union}
 use Rattle.ontology_limits.specs.Limits.{has_enough_parts, have_enough_parts, has_enough_items, part_count}
 use Rattle.ofn_reader.specs.Axioms.{pair_count}
 use Rattle.text_laws.proofs.Counted.{pairs_counted}
-use Rattle.text_laws.specs.Writable.{is_named, unites_named, axiom_expressions, expression_count, CanBeWritten}
+use Rattle.text_laws.specs.Writable.{is_named, is_readable, axiom_expressions, expression_count, CanBeWritten}
 
 -- both tests of an expression: two parts at least, and cardinalities of 100 at most
 abbrev mutual
@@ -48,6 +48,10 @@ has_whole_items (Domain r c) = is_whole c
 has_whole_items (Range r c) = is_whole c
 has_whole_items (Functional r) = true
 has_whole_items (Transitive r) = true
+has_whole_items (Member c a) = false
+has_whole_items (Pair r a b) = false
+has_whole_items (SameAll as_) = false
+has_whole_items (Different as_) = false
 
 -- the items alone
 abbrev pub has_item_count : Axiom → Bool
@@ -61,6 +65,10 @@ has_item_count (Domain r c) = true
 has_item_count (Range r c) = true
 has_item_count (Functional r) = true
 has_item_count (Transitive r) = true
+has_item_count (Member c a) = true
+has_item_count (Pair r a b) = true
+has_item_count (SameAll as_) = nat_le 2 (length as_)
+has_item_count (Different as_) = nat_le 2 (length as_)
 
 abbrev pub is_whole_axiom : Axiom → Bool
 is_whole_axiom a = has_item_count a && has_whole_items a
@@ -77,6 +85,10 @@ counted_parts (Domain r c) = 1
 counted_parts (Range r c) = 1
 counted_parts (Functional r) = 1
 counted_parts (Transitive r) = 0
+counted_parts (Member c a) = 0
+counted_parts (Pair r a b) = 0
+counted_parts (SameAll as_) = 0
+counted_parts (Different as_) = 0
 
 abbrev pub total : (Axiom → ℕ) → List Numbered → ℕ
 total f [] = 0
@@ -109,7 +121,7 @@ no_name : (enough whole : Bool) → (enough && (false && whole)) ≡ false
 no_name true whole = refl
 no_name false whole = refl
 
-union_whole : (c : Concept) (cs : List Concept) → is_whole_axiom (DisjointUnion c cs) ≡ (unites_named (DisjointUnion c cs) && (has_enough_items (DisjointUnion c cs) && axiom_has_counts_within 100 (DisjointUnion c cs)))
+union_whole : (c : Concept) (cs : List Concept) → is_whole_axiom (DisjointUnion c cs) ≡ (is_readable (DisjointUnion c cs) && (has_enough_items (DisjointUnion c cs) && axiom_has_counts_within 100 (DisjointUnion c cs)))
 union_whole top cs = many_whole (nat_le 2 (length cs)) (parts_of cs)
 union_whole bottom cs = many_whole (nat_le 2 (length cs)) (parts_of cs)
 union_whole (name a) cs = many_whole (nat_le 2 (length cs)) (parts_of cs)
@@ -122,7 +134,11 @@ union_whole (at_least n r c) cs = no_name (nat_le 2 (length cs)) (are_whole (par
 union_whole (at_most n r c) cs = no_name (nat_le 2 (length cs)) (are_whole (parts_of cs))
 union_whole (exactly n r c) cs = no_name (nat_le 2 (length cs)) (are_whole (parts_of cs))
 
-axiom_whole_is : (a : Axiom) → is_whole_axiom a ≡ (unites_named a && (has_enough_items a && axiom_has_counts_within 100 a))
+never_whole : (b : Bool) → (b && false) ≡ false
+never_whole true = refl
+never_whole false = refl
+
+axiom_whole_is : (a : Axiom) → is_whole_axiom a ≡ (is_readable a && (has_enough_items a && axiom_has_counts_within 100 a))
 axiom_whole_is (SubClassOf c d) = (λ i. whole_is c i && whole_is d i) ∙ and_exchange (has_enough_parts c) (has_counts_within 100 c) (has_enough_parts d) (has_counts_within 100 d)
 axiom_whole_is (EquivalentClasses cs) = many_whole (nat_le 2 (length cs)) (parts_of cs)
 axiom_whole_is (DisjointClasses cs) = many_whole (nat_le 2 (length cs)) (parts_of cs)
@@ -133,11 +149,15 @@ axiom_whole_is (Domain r c) = whole_is c
 axiom_whole_is (Range r c) = whole_is c
 axiom_whole_is (Functional r) = refl
 axiom_whole_is (Transitive r) = refl
+axiom_whole_is (Member c a) = refl
+axiom_whole_is (Pair r a b) = refl
+axiom_whole_is (SameAll as_) = never_whole (nat_le 2 (length as_))
+axiom_whole_is (Different as_) = never_whole (nat_le 2 (length as_))
 
 -- ---- of all axioms
 
-abbrev all_named : List Numbered → Bool
-all_named xs = list_all (λ (a : Numbered). unites_named a.axiom) xs
+abbrev all_readable : List Numbered → Bool
+all_readable xs = list_all (λ (a : Numbered). is_readable a.axiom) xs
 
 abbrev all_enough : List Numbered → Bool
 all_enough xs = list_all (λ (a : Numbered). has_enough_items a.axiom) xs
@@ -148,32 +168,32 @@ all_counts xs = list_all (λ (a : Numbered). axiom_has_counts_within 100 a.axiom
 abbrev pub all_whole : List Numbered → Bool
 all_whole xs = list_all (λ (a : Numbered). is_whole_axiom a.axiom) xs
 
-axioms_whole_are : (xs : List Numbered) → all_whole xs ≡ (all_named xs && (all_enough xs && all_counts xs))
+axioms_whole_are : (xs : List Numbered) → all_whole xs ≡ (all_readable xs && (all_enough xs && all_counts xs))
 axioms_whole_are [] = refl
 axioms_whole_are (a ∷ xs) =
-    let n = unites_named a.axiom in
+    let n = is_readable a.axiom in
     let e = has_enough_items a.axiom in
     let k = axiom_has_counts_within 100 a.axiom in
     (λ i. axiom_whole_is a.axiom i && axioms_whole_are xs i)
-    ∙ and_exchange n (e && k) (all_named xs) (all_enough xs && all_counts xs)
-    ∙ ap (λ b. (n && all_named xs) && b) (and_exchange e k (all_enough xs) (all_counts xs))
+    ∙ and_exchange n (e && k) (all_readable xs) (all_enough xs && all_counts xs)
+    ∙ ap (λ b. (n && all_readable xs) && b) (and_exchange e k (all_enough xs) (all_counts xs))
 
-whole_from_limits : (xs : List Numbered) → all_named xs ≡ true → all_enough xs ≡ true → all_counts xs ≡ true → all_whole xs ≡ true
-whole_from_limits xs named enough counts = axioms_whole_are xs ∙ (λ i. named i && (enough i && counts i))
+whole_from_limits : (xs : List Numbered) → all_readable xs ≡ true → all_enough xs ≡ true → all_counts xs ≡ true → all_whole xs ≡ true
+whole_from_limits xs readable enough counts = axioms_whole_are xs ∙ (λ i. readable i && (enough i && counts i))
 
 pub whole_of : (o : Listed) → CanBeWritten o → all_whole o.axioms ≡ true
-whole_of o can = whole_from_limits o.axioms can.named can.within.items can.within.counts
+whole_of o can = whole_from_limits o.axioms can.readable can.within.items can.within.counts
 
 pub record AreInLimits (xs : List Numbered) : Type 0 where
-  pub named : list_all (λ (a : Numbered). unites_named a.axiom) xs ≡ true
+  pub readable : list_all (λ (a : Numbered). is_readable a.axiom) xs ≡ true
   pub items : list_all (λ (a : Numbered). has_enough_items a.axiom) xs ≡ true
   pub counts : list_all (λ (a : Numbered). axiom_has_counts_within 100 a.axiom) xs ≡ true
 
 pub limits_from_whole : (xs : List Numbered) → all_whole xs ≡ true → AreInLimits xs
 limits_from_whole xs h =
-    let b = and_parts (all_named xs) (all_enough xs && all_counts xs) (sym (axioms_whole_are xs) ∙ h) in
+    let b = and_parts (all_readable xs) (all_enough xs && all_counts xs) (sym (axioms_whole_are xs) ∙ h) in
     let c = and_parts (all_enough xs) (all_counts xs) b.1 in
-    record { named = b.0; items = c.0; counts = c.1 }
+    record { readable = b.0; items = c.0; counts = c.1 }
 
 -- ---- numbers of parts and of expressions
 
@@ -188,6 +208,10 @@ parts_are (Domain r c) = refl
 parts_are (Range r c) = refl
 parts_are (Functional r) = refl
 parts_are (Transitive r) = refl
+parts_are (Member c a) = refl
+parts_are (Pair r a b) = refl
+parts_are (SameAll as_) = refl
+parts_are (Different as_) = refl
 
 pub part_total : (xs : List Numbered) → total counted_parts xs ≡ part_count xs
 part_total [] = refl

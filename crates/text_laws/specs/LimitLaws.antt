@@ -2,6 +2,7 @@
 use Rattle.std.specs.Prelude.{ℕ, List}
 use Rattle.shq_terms.specs.Concept.{Concept, bottom}
 use Rattle.shq_terms.specs.Listed.{Listed}
+use Rattle.shq_terms.specs.declared.axioms.On.TheVariants.{Any}
 use Rattle.shq_terms.specs.declared.axioms.Query.{Query}
 use Rattle.ontology_limits.specs.Limits.{IsOntologyInLimit, IsInLimit}
 use Rattle.certificate_lines.specs.Names.{AreNames}
@@ -16,7 +17,7 @@ DocumentsAreInLimit = (text : List ℕ) (o : Listed) (kept : DocumentContext) (e
 
 -- the ontology with the names that it and a query on it list together
 abbrev pub with_names : Listed → Counts → Listed
-with_names o after = record o { classes = after.classes; roles = after.roles }
+with_names o after = record o { classes = after.classes; roles = after.roles; individuals = after.individuals }
 
 -- with the query on the document, which lists the names of both
 abbrev pub QueriesAreInLimit : Type 0
@@ -29,12 +30,13 @@ abbrev pub ClassesAreInLimit : Type 0
 ClassesAreInLimit =
     (text : List ℕ) (o : Listed) (kept : DocumentContext) (end : ℕ) → IsDocument text o kept end
     → (class : List ℕ) (after : Counts) (c : Concept) → IsClass kept.prefixes o.axioms (query_start o kept.nodes) class after c
-    → IsInLimit (with_names o after) (record { sub = c; sup = bottom })
+    → IsInLimit (with_names o after) (record { sub = c; sup = bottom; on = Any })
 
 -- the names of both can be written into a certificate and read back
 pub record AreWritable (o : Listed) : Type 0 where
   pub classes : AreNames o.classes
   pub roles : AreNames o.roles
+  pub individuals : AreNames o.individuals
 
 abbrev pub QueriesListNames : Type 0
 QueriesListNames =

@@ -6,7 +6,7 @@ use Rattle.shq_terms.specs.Concept.{Concept, top, bottom, name, complement, inte
 use Rattle.shq_terms.specs.Listed.{Listed}
 use Rattle.shq_terms.specs.Distinct.{AreDistinct}
 use Rattle.shq_terms.specs.declared.axioms.Axiom.{Axiom}
-use Rattle.shq_terms.specs.declared.axioms.Axiom.TheVariants.{SubClassOf, EquivalentClasses, DisjointClasses, DisjointUnion, SubRole, EquivalentRoles, Domain, Range, Functional, Transitive}
+use Rattle.shq_terms.specs.declared.axioms.Axiom.TheVariants.{SubClassOf, EquivalentClasses, DisjointClasses, DisjointUnion, SubRole, EquivalentRoles, Domain, Range, Functional, Transitive, Member, Pair, SameAll, Different}
 use Rattle.shq_terms.specs.declared.axioms.Numbered.{Numbered}
 use Rattle.ontology_limits.specs.Limits.{IsOntologyInLimit}
 use Rattle.ofn_tree.specs.Lexemes.{is_iri_byte}
@@ -87,6 +87,10 @@ axiom_brackets (Domain r c) = brackets c + 1
 axiom_brackets (Range r c) = brackets c + 1
 axiom_brackets (Functional r) = 1
 axiom_brackets (Transitive r) = 1
+axiom_brackets (Member c a) = brackets c + 1
+axiom_brackets (Pair r a b) = 1
+axiom_brackets (SameAll as_) = 1
+axiom_brackets (Different as_) = 1
 
 abbrev pub axiom_expressions : Axiom → ℕ
 axiom_expressions (SubClassOf c d) = expressions c + expressions d
@@ -99,19 +103,27 @@ axiom_expressions (Domain r c) = expressions c
 axiom_expressions (Range r c) = expressions c
 axiom_expressions (Functional r) = 0
 axiom_expressions (Transitive r) = 0
+axiom_expressions (Member c a) = expressions c
+axiom_expressions (Pair r a b) = 0
+axiom_expressions (SameAll as_) = 0
+axiom_expressions (Different as_) = 0
 
--- whether the class of a disjoint union is named; other axioms have none
-abbrev pub unites_named : Axiom → Bool
-unites_named (SubClassOf c d) = true
-unites_named (EquivalentClasses cs) = true
-unites_named (DisjointClasses cs) = true
-unites_named (DisjointUnion c cs) = is_named c
-unites_named (SubRole r s) = true
-unites_named (EquivalentRoles rs) = true
-unites_named (Domain r c) = true
-unites_named (Range r c) = true
-unites_named (Functional r) = true
-unites_named (Transitive r) = true
+-- whether an axiom of this form is read: the class of a disjoint union has to be named, and assertions are not read yet
+abbrev pub is_readable : Axiom → Bool
+is_readable (SubClassOf c d) = true
+is_readable (EquivalentClasses cs) = true
+is_readable (DisjointClasses cs) = true
+is_readable (DisjointUnion c cs) = is_named c
+is_readable (SubRole r s) = true
+is_readable (EquivalentRoles rs) = true
+is_readable (Domain r c) = true
+is_readable (Range r c) = true
+is_readable (Functional r) = true
+is_readable (Transitive r) = true
+is_readable (Member c a) = false
+is_readable (Pair r a b) = false
+is_readable (SameAll as_) = false
+is_readable (Different as_) = false
 
 -- ---- ontologies
 
@@ -128,6 +140,6 @@ pub record CanBeWritten (o : Listed) : Type 0 where
   pub role_iris : list_all is_role_iri o.roles ≡ true
   pub distinct_classes : AreDistinct o.classes
   pub distinct_roles : AreDistinct o.roles
-  pub named : list_all (λ (a : Numbered). unites_named a.axiom) o.axioms ≡ true
+  pub readable : list_all (λ (a : Numbered). is_readable a.axiom) o.axioms ≡ true
   pub nested : list_all (λ (a : Numbered). nat_le (axiom_brackets a.axiom) 63) o.axioms ≡ true
   pub few_expressions : expression_count o.axioms ≤ 262144

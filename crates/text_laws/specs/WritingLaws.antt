@@ -5,6 +5,7 @@ use Rattle.shq_terms.specs.Listed.{Listed}
 use Rattle.shq_terms.specs.declared.axioms.Axiom.{Axiom}
 use Rattle.shq_terms.specs.declared.axioms.Axiom.TheVariants.{SubClassOf}
 use Rattle.shq_terms.specs.declared.axioms.Numbered.{Numbered}
+use Rattle.shq_terms.specs.declared.axioms.On.TheVariants.{Any}
 use Rattle.shq_terms.specs.declared.axioms.Query.{Query}
 use Rattle.ontology_limits.specs.Limits.{IsInLimit}
 use Rattle.ofn_expressions.specs.Names.{Prefix, prefix_iri}
@@ -27,6 +28,7 @@ pub record IsDocumentOf (text : List ℕ) (o : Listed) : Type 0 where
   pub is_document : IsDocument text read kept end
   pub classes : read.classes ≡ o.classes
   pub roles : read.roles ≡ o.roles
+  pub individuals : read.individuals ≡ o.individuals
   pub axioms : axioms_of read.axioms ≡ axioms_of o.axioms
 
 abbrev pub WrittenOntologiesAreRead : Type 0
@@ -44,6 +46,7 @@ DocumentsAreReadAgain = (text : List ℕ) (o : Listed) (kept : DocumentContext) 
 pub record AreSame (o p : Listed) : Type 0 where
   pub classes : o.classes ≡ p.classes
   pub roles : o.roles ≡ p.roles
+  pub individuals : o.individuals ≡ p.individuals
   pub axioms : axioms_of o.axioms ≡ axioms_of p.axioms
 
 -- the canonical text tells two ontologies apart
@@ -68,7 +71,7 @@ DocumentsKnowOwl = (text : List ℕ) (o : Listed) (kept : DocumentContext) (end 
 -- fit beside those that were counted.
 abbrev pub ClassTextsAreRead : Type 0
 ClassTextsAreRead =
-    (o : Listed) (c : Concept) (ps : List Prefix) (nodes : ℕ) → CanBeWritten o → IsInLimit o (record { sub = c; sup = bottom }) → KnowsOwl ps → length (concept_text o c) ≤ 2 ^ 24 → brackets c ≤ 64 → nodes + expressions c ≤ 262144
+    (o : Listed) (c : Concept) (ps : List Prefix) (nodes : ℕ) → CanBeWritten o → IsInLimit o (record { sub = c; sup = bottom; on = Any }) → KnowsOwl ps → length (concept_text o c) ≤ 2 ^ 24 → brackets c ≤ 64 → nodes + expressions c ≤ 262144
     → IsClass ps o.axioms (query_start o nodes) (concept_text o c) (query_start o (nodes + expressions c)) c
 
 -- the axiom that a query asks for
