@@ -1,16 +1,18 @@
--- An axiom is met where it is met at each element, and it is met at each element that cannot break it.
+-- An axiom is met where it is met as an assertion and at each element, and it is met at each element that cannot break
+-- it.
 use Rattle.std.proofs.Common.{◌≡◌, ℕ, Bool, true, false, ◌&&◌, List, [], ◌∷◌, refl, ap, sym, ◌∙◌}
 use Rattle.std.specs.Prelude.{slice_index}
 use Rattle.std.specs.List.{list_all, list_any}
 use Rattle.std.proofs.lemmas.Bool.{and_from, or_parts}
+use Rattle.std.proofs.Math.Bool.{and-true}
 use Rattle.shq_terms.specs.Concept.{parts_of}
 use Rattle.shq_meaning.specs.Below.{all_below}
-use Rattle.shq_meaning.specs.Truth.{Interpretation, holds, hold_any, hold_all, meets}
+use Rattle.shq_meaning.specs.Truth.{Interpretation, holds, hold_any, hold_all, are_same, are_different, meets}
 use Rattle.shq_meaning.proofs.Implied.{implies_false}
 use Rattle.shq_terms.specs.declared.axioms.Axiom.{Axiom}
-use Rattle.shq_terms.specs.declared.axioms.Axiom.TheVariants.{SubClassOf, EquivalentClasses, DisjointClasses, DisjointUnion, SubRole, EquivalentRoles, Domain, Range, Functional, Transitive}
+use Rattle.shq_terms.specs.declared.axioms.Axiom.TheVariants.{SubClassOf, EquivalentClasses, DisjointClasses, DisjointUnion, SubRole, EquivalentRoles, Domain, Range, Functional, Transitive, Member, Pair, SameAll, Different}
 use Rattle.finite_model.specs.ModelLists.{ModelLists, meaning, begins}
-use Rattle.finite_model.specs.AtElement.{row_within, met_at, can_break}
+use Rattle.finite_model.specs.AtElement.{row_within, met_at, assertion_is_met, can_break}
 use Rattle.finite_model.proofs.Rows.{all_true, all_both}
 use Rattle.finite_model.proofs.Empty.{twice_of_none, split_of_none, row_of_none, domain_of_none, single_of_none}
 
@@ -22,7 +24,11 @@ all_of_each n p q (r ∷ rs) =
     ∙ ap (λ v. all_below n (λ x. p r x && q r x) && v) (all_of_each n p q rs)
     ∙ sym (all_both n (λ x. p r x && q r x) (λ x. list_all (λ s. p s x && q s x) rs))
 
-pub met_at_each : (i : Interpretation) (a : Axiom) → meets i a ≡ all_below i.size (met_at i a)
+-- an assertion alone says nothing of each element
+asserted : (n : ℕ) (b : Bool) → b ≡ (b && all_below n (λ x. true))
+asserted n b = sym (ap (λ v. b && v) (all_true n) ∙ and-true b)
+
+pub met_at_each : (i : Interpretation) (a : Axiom) → meets i a ≡ (assertion_is_met i a && all_below i.size (met_at i a))
 met_at_each i (SubClassOf c d) = refl
 met_at_each i (EquivalentClasses cs) = refl
 met_at_each i (DisjointClasses cs) = refl
@@ -33,6 +39,10 @@ met_at_each i (Domain r c) = refl
 met_at_each i (Range r c) = refl
 met_at_each i (Functional r) = refl
 met_at_each i (Transitive r) = refl
+met_at_each i (Member c a) = asserted i.size (holds i c (i.individual a))
+met_at_each i (Pair r a b) = asserted i.size (i.in_role r (i.individual a) (i.individual b))
+met_at_each i (SameAll as_) = asserted i.size (are_same i as_)
+met_at_each i (Different as_) = asserted i.size (are_different i as_)
 
 module _ (k : ModelLists) (x : ℕ) where
   -- none of the roles has a pair that begins with x, and nor has the role f
@@ -59,3 +69,7 @@ module _ (k : ModelLists) (x : ℕ) where
   unbroken (Range r c) none = row_of_none k r x none (holds (meaning k) c)
   unbroken (Functional r) none = single_of_none k r x none
   unbroken (Transitive r) none = row_of_none k r x none (λ y. row_within (meaning k) r y r x)
+  unbroken (Member c a) none = refl
+  unbroken (Pair r a b) none = refl
+  unbroken (SameAll as_) none = refl
+  unbroken (Different as_) none = refl

@@ -5,11 +5,11 @@ use Rattle.std.specs.List.{list_any}
 use Rattle.shq_meaning.specs.Below.{all_below, count_below}
 use Rattle.shq_terms.specs.declared.axioms.Query.{Query}
 use Rattle.shq_terms.specs.Concept.{Concept, some_of, at_least, exactly, parts_of}
-use Rattle.shq_meaning.specs.Truth.{Interpretation, holds, hold_any, implies, same, none_twice, refutes_at, out_degree, successors}
+use Rattle.shq_meaning.specs.Truth.{Interpretation, holds, hold_any, implies, same, none_twice, is_asked_at, refutes_at, out_degree, successors}
 use Rattle.std.proofs.lemmas.Bool.{or_parts}
 use Rattle.std.proofs.lemmas.Bool.Decides.{nat_tests}
-use Rattle.shq_meaning.proofs.Implied.{implies_false}
 use Rattle.finite_model.specs.ModelLists.{ModelLists, meaning, begins, is_from, is_link}
+use Rattle.finite_model.specs.AtElement.{can_refute}
 
 pub no_link : (r x : ℕ) (ls : List (ℕ × ℕ × ℕ)) → list_any (is_from r x) ls ≡ false → (y : ℕ) → list_any (is_link r x y) ls ≡ false
 no_link r x [] none y = refl
@@ -78,6 +78,10 @@ split_of_none i x w cs none =
     let both = or_parts (holds i w x) (hold_any i (parts_of cs) x) none in
     rw (both.0, both.1) (twice_of_none i x cs both.1)
 
--- an element outside the left side of a query
-pub unrefuted : (i : Interpretation) (q : Query) (x : ℕ) → holds i q.sub x ≡ false → not (refutes_at i q x) ≡ true
-unrefuted i q x none = ap (λ b. not (b && not (holds i q.sup x))) none
+-- an element of which a query does not speak, or that is outside its left side
+pub unrefuted : (i : Interpretation) (q : Query) (x : ℕ) → can_refute i q x ≡ false → not (refutes_at i q x) ≡ true
+unrefuted i q x none = by (is_asked_at i q.on x) none
+  where
+    by : (b : Bool) → (b && holds i q.sub x) ≡ false → not (b && (holds i q.sub x && not (holds i q.sup x))) ≡ true
+    by true outside = ap (λ c. not (c && not (holds i q.sup x))) outside
+    by false outside = refl

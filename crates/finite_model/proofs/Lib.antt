@@ -8,10 +8,12 @@ pub mod Skipped
 pub mod Empty
 pub mod Nexts
 pub mod AtElement
+pub mod Apart
 pub mod Candidates
 pub mod Groups
 pub mod Inside
 pub mod Numerals
 pub mod TextLines
 pub mod TextRead
+pub mod Entries
 pub mod TextBack

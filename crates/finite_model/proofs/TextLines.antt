@@ -10,8 +10,8 @@ use Rattle.certificate_lines.specs.Names.{is_word_byte, name_word}
 use Rattle.certificate_lines.specs.Written.{line_of, text_of}
 use Rattle.certificate_lines.proofs.Plain.{plain_decimal}
 use Rattle.shq_terms.specs.Listed.{Listed}
-use Rattle.finite_model.specs.ModelLists.{ModelLists}
-use Rattle.finite_model.specs.Written.{elements_of, pairs_of, element_text, pair_text, line_text, class_line, role_line, class_lines, role_lines, model_text}
+use Rattle.finite_model.specs.ModelLists.{ModelLists, element_at}
+use Rattle.finite_model.specs.Written.{elements_of, pairs_of, element_text, pair_text, line_text, class_line, role_line, individual_line, class_lines, role_lines, individual_lines, model_text}
 use Rattle.finite_model.proofs.Numerals.{pair_word}
 
 abbrev pub class_row : List ℕ → List ℕ → List ℕ
@@ -19,6 +19,9 @@ class_row name xs = line_of (codes "class") (name_word name ∷ map decimal xs)
 
 abbrev pub role_row : List ℕ → List (ℕ × ℕ × ℕ) → List ℕ
 role_row name ls = line_of (codes "role") (name_word name ∷ map pair_word ls)
+
+abbrev pub individual_row : List ℕ → ℕ → List ℕ
+individual_row name x = line_of (codes "individual") (name_word name ∷ decimal x ∷ [])
 
 -- the line of a class or role, unless it is empty
 abbrev pub rows_of_class : List ℕ → List ℕ → List (List ℕ)
@@ -37,11 +40,15 @@ abbrev pub role_rows : ℕ → List (List ℕ) → List (ℕ × ℕ × ℕ) → 
 role_rows r [] ls = []
 role_rows r (n ∷ ns) ls = rows_of_role n (pairs_of r ls) ++ role_rows (r + 1) ns ls
 
+abbrev pub individual_rows : ℕ → List (List ℕ) → List (ℕ × ℕ) → List (List ℕ)
+individual_rows a [] ps = []
+individual_rows a (n ∷ ns) ps = individual_row n (element_at ps a) ∷ individual_rows (a + 1) ns ps
+
 abbrev pub size_row : ℕ → List ℕ
 size_row n = line_of (codes "model") (decimal n ∷ [])
 
 abbrev pub model_rows : Listed → ModelLists → List (List ℕ)
-model_rows o k = size_row k.size ∷ class_rows 0 o.classes k.members ++ role_rows 0 o.roles k.links ++ codes "end" ∷ []
+model_rows o k = size_row k.size ∷ class_rows 0 o.classes k.members ++ role_rows 0 o.roles k.links ++ individual_rows 0 o.individuals k.individuals ++ codes "end" ∷ []
 
 -- ---- the text is that of these lines
 
@@ -84,19 +91,31 @@ role_lines_same r (n ∷ ns) ls =
     ∙ ap (λ t. text_of (rows_of_role n (pairs_of r ls)) ++ t) (role_lines_same (r + 1) ns ls)
     ∙ sym (text_of-append (rows_of_role n (pairs_of r ls)) (role_rows (r + 1) ns ls))
 
-joined : (begin blank d feed cs rs end : List ℕ) → begin ++ blank ++ d ++ feed ++ cs ++ rs ++ end ++ feed ≡ begin ++ (blank ++ d ++ []) ++ feed ++ cs ++ rs ++ (end ++ feed ++ [])
-joined begin blank d feed cs rs end = simp (append_assoc, append-nil)
+individual_line_same : (name : List ℕ) (x : ℕ) → individual_line name x ≡ individual_row name x ++ 10 ∷ []
+individual_line_same name x = line_same (codes "individual") name (element_text x) (decimal x ∷ []) (sym (append-nil (element_text x)))
+
+individual_lines_same : (a : ℕ) (ns : List (List ℕ)) (ps : List (ℕ × ℕ)) → individual_lines a ns ps ≡ text_of (individual_rows a ns ps)
+individual_lines_same a [] ps = refl
+individual_lines_same a (n ∷ ns) ps =
+    ap (λ t. t ++ individual_lines (a + 1) ns ps) (individual_line_same n (element_at ps a))
+    ∙ ap (λ t. (individual_row n (element_at ps a) ++ 10 ∷ []) ++ t) (individual_lines_same (a + 1) ns ps)
+
+joined : (begin blank d feed cs rs is end : List ℕ) → begin ++ blank ++ d ++ feed ++ cs ++ rs ++ is ++ end ++ feed ≡ begin ++ (blank ++ d ++ []) ++ feed ++ cs ++ rs ++ is ++ (end ++ feed ++ [])
+joined begin blank d feed cs rs is end = simp (append_assoc, append-nil)
 
 pub model_text_same : (o : Listed) (k : ModelLists) → model_text o k ≡ text_of (model_rows o k)
 model_text_same o k =
     let begin = codes "model " ++ decimal k.size ++ 10 ∷ [] in
     let cs = class_rows 0 o.classes k.members in
     let rs = role_rows 0 o.roles k.links in
-    ap (λ t. begin ++ t ++ role_lines 0 o.roles k.links ++ codes "end" ++ 10 ∷ []) (class_lines_same 0 o.classes k.members)
-    ∙ ap (λ t. begin ++ text_of cs ++ t ++ codes "end" ++ 10 ∷ []) (role_lines_same 0 o.roles k.links)
-    ∙ joined (codes "model") (32 ∷ []) (decimal k.size) (10 ∷ []) (text_of cs) (text_of rs) (codes "end")
-    ∙ ap (λ t. t ++ text_of (codes "end" ∷ [])) (sym (text_of-append (size_row k.size ∷ cs) rs))
-    ∙ sym (text_of-append ((size_row k.size ∷ cs) ++ rs) (codes "end" ∷ []))
+    let is = individual_rows 0 o.individuals k.individuals in
+    ap (λ t. begin ++ t ++ role_lines 0 o.roles k.links ++ individual_lines 0 o.individuals k.individuals ++ codes "end" ++ 10 ∷ []) (class_lines_same 0 o.classes k.members)
+    ∙ ap (λ t. begin ++ text_of cs ++ t ++ individual_lines 0 o.individuals k.individuals ++ codes "end" ++ 10 ∷ []) (role_lines_same 0 o.roles k.links)
+    ∙ ap (λ t. begin ++ text_of cs ++ text_of rs ++ t ++ codes "end" ++ 10 ∷ []) (individual_lines_same 0 o.individuals k.individuals)
+    ∙ joined (codes "model") (32 ∷ []) (decimal k.size) (10 ∷ []) (text_of cs) (text_of rs) (text_of is) (codes "end")
+    ∙ ap (λ t. t ++ text_of is ++ text_of (codes "end" ∷ [])) (sym (text_of-append (size_row k.size ∷ cs) rs))
+    ∙ ap (λ t. t ++ text_of (codes "end" ∷ [])) (sym (text_of-append ((size_row k.size ∷ cs) ++ rs) is))
+    ∙ sym (text_of-append ((size_row k.size ∷ cs) ++ rs ++ is) (codes "end" ∷ []))
 
 -- ---- the words of a row are plain
 

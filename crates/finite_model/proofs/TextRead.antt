@@ -12,7 +12,7 @@ use Rattle.std.proofs.lemmas.Bool.{and_parts, and_from, or_parts, false_from_ne_
 use Rattle.std.proofs.lemmas.Bool.Decides.{nat_tests}
 use Rattle.std.proofs.lemmas.Slice.Eq.{bytes_eq-Decides}
 use Rattle.certificate_lines.specs.Lines.{words}
-use Rattle.certificate_lines.specs.Names.{is_word_byte, name_word}
+use Rattle.certificate_lines.specs.Names.{is_word_byte, name_word, name_place}
 use Rattle.certificate_lines.specs.Body.{is_end_line}
 use Rattle.certificate_lines.specs.Written.{line_of, is_line}
 use Rattle.certificate_lines.proofs.ReadBack.{iri_read}
@@ -21,12 +21,12 @@ use Rattle.certificate_lines.proofs.Body.{body_line}
 use Rattle.shq_terms.specs.Listed.{Listed}
 use Rattle.shq_terms.specs.Distinct.{AreDistinct}
 use Rattle.shq_terms.proofs.Distinct.{place_is_number}
-use Rattle.finite_model.specs.ModelLists.{ModelLists, member_cmp, link_cmp}
-use Rattle.finite_model.specs.ModelText.{elements_from, pairs_from, subject_in, class_line_in, role_line_in, with_elements, with_pairs, Body, with_class, with_role, model_words_read, model_line_read, model_body}
+use Rattle.finite_model.specs.ModelLists.{ModelLists, member_cmp, link_cmp, element_at, with_individual}
+use Rattle.finite_model.specs.ModelText.{element_in, elements_from, pairs_from, subject_in, class_line_in, role_line_in, individual_line_in, with_elements, with_pairs, Body, with_class, with_role, with_placed, model_words_read, model_line_read, model_body}
 use Rattle.finite_model.specs.Written.{elements_of, pairs_of}
 use Rattle.finite_model.specs.declared.reading.Pair.{Pair}
-use Rattle.finite_model.proofs.Numerals.{pair_word, pair_of, Ascend, PairsAscend, elements_read, pairs_read, elements_ascend, at_least_none, pairs_ascend, pair_at_least_none}
-use Rattle.finite_model.proofs.TextLines.{class_row, role_row, rows_of_class, rows_of_role, class_rows, role_rows, plain_pair}
+use Rattle.finite_model.proofs.Numerals.{pair_word, pair_of, Ascend, PairsAscend, element_read, elements_read, pairs_read, elements_ascend, at_least_none, pairs_ascend, pair_at_least_none}
+use Rattle.finite_model.proofs.TextLines.{class_row, role_row, individual_row, rows_of_class, rows_of_role, class_rows, role_rows, individual_rows, plain_pair}
 
 -- ---- plain rows
 
@@ -62,6 +62,12 @@ after_class b a xs = record b { classes = insert_key nat_cmp b.classes a; model 
 abbrev after_role : Body → ℕ → List Pair → Body
 after_role b r ps = record b { roles = insert_key nat_cmp b.roles r; model = with_pairs r ps b.model }
 
+abbrev after_individual : Body → ℕ → ℕ → Body
+after_individual b a x = record b { individuals = insert_key nat_cmp b.individuals a; model = with_individual a x b.model }
+
+pub plain_element : (size x : ℕ) → size < 2 ^ 32 → x < size → list_all (list_all is_word_byte) (decimal x ∷ []) ≡ true
+plain_element size x small below = and_from (list_all is_word_byte (decimal x)) true (plain_decimal x (omega arith)) refl
+
 module _ (o : Listed) (b : Body) (name : List ℕ) (name_plain : list_all is_word_byte name ≡ true) (small : b.model.size < 2 ^ 32) where
   class_row_read : (a x : ℕ) (xs : List ℕ) → position (bytes_eq name) o.classes ≡ Some a → Ascend 0 b.model.size (x ∷ xs) → list_any (nat_eq a) b.classes ≡ false → model_line_read o b (class_row name (x ∷ xs)) ≡ Some (after_class b a (x ∷ xs))
   class_row_read a x xs at up fresh =
@@ -81,6 +87,16 @@ module _ (o : Listed) (b : Body) (name : List ℕ) (name_plain : list_all is_wor
       ∙ ap (option_map (λ ps. record { role = r; pairs = ps })) (pairs_read (record { from = 0; to = 0 }) b.model.size (l ∷ ls) small up) in
       ap (model_words_read o b) split ∙ ap (option_and_then (with_role b)) line ∙ ap (λ v. if v then None else Some (after_role b r (map pair_of (l ∷ ls)))) fresh
 
+  individual_row_read : (a x : ℕ) → position (bytes_eq name) o.individuals ≡ Some a → x < b.model.size → list_any (nat_eq a) b.individuals ≡ false → model_line_read o b (individual_row name x) ≡ Some (after_individual b a x)
+  individual_row_read a x at below fresh =
+      let ws = decimal x ∷ [] in
+      let split : words (individual_row name x) ≡ codes "individual" ∷ name_word name ∷ ws = row_words (codes "individual") name ws refl name_plain (plain_element b.model.size x small below) in
+      let named : name_place o.individuals (name_word name) ≡ Some a = ap (option_and_then (λ i. position (bytes_eq i) o.individuals)) (iri_read name) ∙ at in
+      let line : individual_line_in o b.model.size (codes "individual" ∷ name_word name ∷ ws) ≡ Some (record { individual = a; element = x }) =
+      ap (option_and_then (λ c. option_map (λ y. record { individual = c; element = y }) (element_in 0 b.model.size (decimal x)))) named
+      ∙ ap (option_map (λ y. record { individual = a; element = y })) (element_read 0 b.model.size x small (omega arith) below) in
+      ap (model_words_read o b) split ∙ ap (option_and_then (with_placed b)) line ∙ ap (λ v. if v then None else Some (after_individual b a x)) fresh
+
 not_end : (c : ℕ) (rest : List ℕ) → (c ≡ 101 → ⊥) → is_end_line (c ∷ rest) ≡ false
 not_end c rest other = false_from_ne_true (is_end_line (c ∷ rest)) (λ h. let same : c ∷ rest ≡ codes "end" = (bytes_eq-Decides (c ∷ rest) (codes "end")).0 h in let head : c ≡ 101 = cc in other head)
 
@@ -89,6 +105,9 @@ class_goes_on rest = not_end 99 (codes "lass" ++ rest) (λ e. absurd (omega arit
 
 role_goes_on : (rest : List ℕ) → is_end_line (codes "role" ++ rest) ≡ false
 role_goes_on rest = not_end 114 (codes "ole" ++ rest) (λ e. absurd (omega arith))
+
+individual_goes_on : (rest : List ℕ) → is_end_line (codes "individual" ++ rest) ≡ false
+individual_goes_on rest = not_end 105 (codes "ndividual" ++ rest) (λ e. absurd (omega arith))
 
 body_step : (o : Listed) (b next : Body) (l : List ℕ) (ls : List (List ℕ)) → is_end_line l ≡ false → model_line_read o b l ≡ Some next → model_body o b (l ∷ ls) ≡ model_body o next ls
 body_step o b next l ls more read = body_line (model_line_read o) (λ c. c.model) b l ls (Some next) more read
@@ -99,6 +118,7 @@ pub record IsRead (o : Listed) (b : Body) (rows rest : List (List ℕ)) (model :
   pub next : Body
   pub reads : model_body o b (rows ++ rest) ≡ model_body o next rest
   pub same_roles : next.roles ≡ b.roles
+  pub same_individuals : next.individuals ≡ b.individuals
   pub becomes : next.model ≡ model
 
 abbrev pub with_classes : ℕ → List (List ℕ) → List (ℕ × ℕ) → ModelLists → ModelLists
@@ -108,6 +128,10 @@ with_classes a (n ∷ ns) ms k = with_classes (a + 1) ns ms (with_elements a (el
 abbrev pub with_roles : ℕ → List (List ℕ) → List (ℕ × ℕ × ℕ) → ModelLists → ModelLists
 with_roles r [] ls k = k
 with_roles r (n ∷ ns) ls k = with_roles (r + 1) ns ls (with_pairs r (map pair_of (pairs_of r ls)) k)
+
+abbrev pub with_individuals : ℕ → List (List ℕ) → List (ℕ × ℕ) → ModelLists → ModelLists
+with_individuals a [] ps k = k
+with_individuals a (n ∷ ns) ps k = with_individuals (a + 1) ns ps (with_individual a (element_at ps a) k)
 
 same_size : (a : ℕ) (xs : List ℕ) (k : ModelLists) → (with_elements a xs k).size ≡ k.size
 same_size a [] k = refl
@@ -141,7 +165,7 @@ first_number all a n ns distinct stand = let same : a + 0 ≡ a = omega arith in
 
 module _ (o : Listed) (size : ℕ) (small : size < 2 ^ 32) where
   pub classes_read : (ms : List (ℕ × ℕ)) → IsStrictlySortedBy member_cmp ms → list_all (λ m. nat_lt m.1 size) ms ≡ true → AreDistinct o.classes → (names : List (List ℕ)) (a : ℕ) → StandAt o.classes a names → list_all (list_all is_word_byte) names ≡ true → (b : Body) → b.model.size ≡ size → ((c : ℕ) → a ≤ c → list_any (nat_eq c) b.classes ≡ false) → (rest : List (List ℕ)) → IsRead o b (class_rows a names ms) rest (with_classes a names ms b.model)
-  classes_read ms sorted below distinct [] a stand plain b same fresh rest = record { next = b; reads = refl; same_roles = refl; becomes = refl }
+  classes_read ms sorted below distinct [] a stand plain b same fresh rest = record { next = b; reads = refl; same_roles = refl; same_individuals = refl; becomes = refl }
   classes_read ms sorted below distinct (n ∷ ns) a stand plain b same fresh rest =
       by (elements_of a ms) (elements_ascend a 0 size ms sorted (at_least_none a ms) below) (λ next eq free. classes_read ms sorted below distinct ns (a + 1) (stand_next o.classes a n ns stand) parts.1 next eq free rest)
     where
@@ -160,18 +184,19 @@ module _ (o : Listed) (size : ℕ) (small : size < 2 ^ 32) where
             next = read.next;
             reads = body_step o b next (class_row n (x ∷ xs)) (class_rows (a + 1) ns ms ++ rest) (class_goes_on (flat_map (λ w. 32 ∷ w) (name_word n ∷ map decimal (x ∷ xs)))) line ∙ read.reads;
             same_roles = read.same_roles;
+            same_individuals = read.same_individuals;
             becomes = read.becomes;
           }
 
-  pub roles_read : (ls : List (ℕ × ℕ × ℕ)) → IsStrictlySortedBy link_cmp ls → list_all (λ l. nat_lt l.1 size && nat_lt l.2 size) ls ≡ true → AreDistinct o.roles → (names : List (List ℕ)) (r : ℕ) → StandAt o.roles r names → list_all (list_all is_word_byte) names ≡ true → (b : Body) → b.model.size ≡ size → ((c : ℕ) → r ≤ c → list_any (nat_eq c) b.roles ≡ false) → (rest : List (List ℕ)) → (next : Body) × (model_body o b (role_rows r names ls ++ rest) ≡ model_body o next rest) × (next.model ≡ with_roles r names ls b.model)
-  roles_read ls sorted below distinct [] r stand plain b same fresh rest = (b, refl, refl)
+  pub roles_read : (ls : List (ℕ × ℕ × ℕ)) → IsStrictlySortedBy link_cmp ls → list_all (λ l. nat_lt l.1 size && nat_lt l.2 size) ls ≡ true → AreDistinct o.roles → (names : List (List ℕ)) (r : ℕ) → StandAt o.roles r names → list_all (list_all is_word_byte) names ≡ true → (b : Body) → b.model.size ≡ size → ((c : ℕ) → r ≤ c → list_any (nat_eq c) b.roles ≡ false) → (rest : List (List ℕ)) → (next : Body) × (model_body o b (role_rows r names ls ++ rest) ≡ model_body o next rest) × (next.model ≡ with_roles r names ls b.model) × (next.individuals ≡ b.individuals)
+  roles_read ls sorted below distinct [] r stand plain b same fresh rest = (b, refl, refl, refl)
   roles_read ls sorted below distinct (n ∷ ns) r stand plain b same fresh rest =
       by (pairs_of r ls) (pairs_ascend r (record { from = 0; to = 0 }) size ls sorted (pair_at_least_none r ls) below) (λ next eq free. roles_read ls sorted below distinct ns (r + 1) (stand_next o.roles r n ns stand) parts.1 next eq free rest)
     where
       parts : (list_all is_word_byte n ≡ true) × (list_all (list_all is_word_byte) ns ≡ true)
       parts = and_parts (list_all is_word_byte n) (list_all (list_all is_word_byte) ns) plain
 
-      by : (ps : List (ℕ × ℕ × ℕ)) → PairsAscend (record { from = 0; to = 0 }) size ps → ((next : Body) → next.model.size ≡ size → ((c : ℕ) → r + 1 ≤ c → list_any (nat_eq c) next.roles ≡ false) → (last : Body) × (model_body o next (role_rows (r + 1) ns ls ++ rest) ≡ model_body o last rest) × (last.model ≡ with_roles (r + 1) ns ls next.model)) → (last : Body) × (model_body o b ((rows_of_role n ps ++ role_rows (r + 1) ns ls) ++ rest) ≡ model_body o last rest) × (last.model ≡ with_roles (r + 1) ns ls (with_pairs r (map pair_of ps) b.model))
+      by : (ps : List (ℕ × ℕ × ℕ)) → PairsAscend (record { from = 0; to = 0 }) size ps → ((next : Body) → next.model.size ≡ size → ((c : ℕ) → r + 1 ≤ c → list_any (nat_eq c) next.roles ≡ false) → (last : Body) × (model_body o next (role_rows (r + 1) ns ls ++ rest) ≡ model_body o last rest) × (last.model ≡ with_roles (r + 1) ns ls next.model) × (last.individuals ≡ next.individuals)) → (last : Body) × (model_body o b ((rows_of_role n ps ++ role_rows (r + 1) ns ls) ++ rest) ≡ model_body o last rest) × (last.model ≡ with_roles (r + 1) ns ls (with_pairs r (map pair_of ps) b.model)) × (last.individuals ≡ b.individuals)
       by [] up more = more b same (λ c le. fresh c (omega arith))
       by (l ∷ ps) up more =
           let next = after_role b r (map pair_of (l ∷ ps)) in
@@ -179,4 +204,15 @@ module _ (o : Listed) (size : ℕ) (small : size < 2 ^ 32) where
           let read = more next eq (λ c le. inserted_other b.roles r c (omega arith) (fresh c (omega arith))) in
           let ascend : PairsAscend (record { from = 0; to = 0 }) b.model.size (l ∷ ps) = subst (λ s. PairsAscend (record { from = 0; to = 0 }) s (l ∷ ps)) (sym same) up in
           let line = role_row_read o b n parts.0 (omega arith) r l ps (first_number o.roles r n ns distinct stand) ascend (fresh r (omega arith)) in
-          (read.0, body_step o b next (role_row n (l ∷ ps)) (role_rows (r + 1) ns ls ++ rest) (role_goes_on (flat_map (λ w. 32 ∷ w) (name_word n ∷ map pair_word (l ∷ ps)))) line ∙ read.1, read.2)
+          (read.0, body_step o b next (role_row n (l ∷ ps)) (role_rows (r + 1) ns ls ++ rest) (role_goes_on (flat_map (λ w. 32 ∷ w) (name_word n ∷ map pair_word (l ∷ ps)))) line ∙ read.1, read.2, read.3)
+
+  pub individuals_read : (ps : List (ℕ × ℕ)) → ((a : ℕ) → element_at ps a < size) → AreDistinct o.individuals → (names : List (List ℕ)) (a : ℕ) → StandAt o.individuals a names → list_all (list_all is_word_byte) names ≡ true → (b : Body) → b.model.size ≡ size → ((c : ℕ) → a ≤ c → list_any (nat_eq c) b.individuals ≡ false) → (rest : List (List ℕ)) → (next : Body) × (model_body o b (individual_rows a names ps ++ rest) ≡ model_body o next rest) × (next.model ≡ with_individuals a names ps b.model)
+  individuals_read ps inside distinct [] a stand plain b same fresh rest = (b, refl, refl)
+  individuals_read ps inside distinct (n ∷ ns) a stand plain b same fresh rest =
+      let parts = and_parts (list_all is_word_byte n) (list_all (list_all is_word_byte) ns) plain in
+      let x = element_at ps a in
+      let next = after_individual b a x in
+      let below : x < b.model.size = subst (λ s. x < s) (sym same) (inside a) in
+      let read = individuals_read ps inside distinct ns (a + 1) (stand_next o.individuals a n ns stand) parts.1 next same (λ c le. inserted_other b.individuals a c (omega arith) (fresh c (omega arith))) rest in
+      let line = individual_row_read o b n parts.0 (omega arith) a x (first_number o.individuals a n ns distinct stand) below (fresh a (omega arith)) in
+      (read.0, body_step o b next (individual_row n x) (individual_rows (a + 1) ns ps ++ rest) (individual_goes_on (flat_map (λ w. 32 ∷ w) (name_word n ∷ decimal x ∷ []))) line ∙ read.1, read.2)

@@ -5,7 +5,7 @@ use Rattle.finite_model.specs.declared.reading.ClassRead.{ClassRead}
 use Rattle.finite_model.specs.declared.reading.RoleRead.{RoleRead}
 
 abbrev pub body_of : BodyRead → Body
-body_of b = record { classes = b.classes.keys; roles = b.roles.keys; model = b.model }
+body_of b = record { classes = b.classes.keys; roles = b.roles.keys; individuals = b.individuals.keys; model = b.model }
 
 abbrev pub class_of : ClassRead → ClassLine
 class_of c = record { class = c.class; elements = c.elements.items }

@@ -1,18 +1,23 @@
--- What an interpretation keeps, and what it stands for. Members and pairs are kept in ascending order, each once.
-use Rattle.std.specs.Prelude.{ℕ, ◌≤◌, Bool, ◌&&◌, nat_eq, nat_lt, IsTrue, List, Option, slice_get}
+-- What an interpretation keeps, and what it stands for. Members, pairs and individuals are kept in ascending order, each
+-- once.
+use Rattle.std.specs.Prelude.{ℕ, ◌≤◌, Bool, ◌&&◌, nat_eq, nat_lt, IsTrue, List, Option, slice_get, unwrap_or, if◌then◌else◌}
 use Rattle.std.specs.List.{list_any, list_all, filter}
 use Rattle.std.specs.BTreeSet.{insert_key}
+use Rattle.std.specs.BTreeMap.{insert_entry, is_at}
+use Rattle.std.specs.Map.{lookup, remove_entry}
 use Rattle.std.specs.BTreeMap.Range.{range_contains}
 use Rattle.std.specs.declared.ops.Bound.TheVariants.{Included}
 use Rattle.std.specs.declared.cmp.Ordering.{Ordering}
 use Rattle.std.specs.Ordering.{nat_cmp, ordering_then}
 use Rattle.shq_meaning.specs.Truth.{Interpretation}
 
--- each class with each of its elements, and each role with each of its pairs
+-- each class with each of its elements, each role with each of its pairs, and each individual that is another element
+-- than 0 with its element
 pub record ModelLists : Type 0 where
   pub size : ℕ
   pub members : List (ℕ × ℕ)
   pub links : List (ℕ × ℕ × ℕ)
+  pub individuals : List (ℕ × ℕ)
 
 -- the element of each member is one of the domain, which has that many, and so are both elements of each pair
 abbrev pub members_below : ℕ → List (ℕ × ℕ) → Bool
@@ -21,11 +26,16 @@ members_below size ms = list_all (λ m. nat_lt m.1 size) ms
 abbrev pub links_below : ℕ → List (ℕ × ℕ × ℕ) → Bool
 links_below size ls = list_all (λ l. nat_lt l.1 size && nat_lt l.2 size) ls
 
--- some elements, and members and pairs of them
-pub record IsDomain (size : ℕ) (members : List (ℕ × ℕ)) (links : List (ℕ × ℕ × ℕ)) : Type 0 where
+-- the element of each individual is one of the domain, and is not 0
+abbrev pub individuals_below : ℕ → List (ℕ × ℕ) → Bool
+individuals_below size ps = list_all (λ p. nat_lt 0 p.1 && nat_lt p.1 size) ps
+
+-- some elements, members and pairs of them, and individuals that are some of them
+pub record IsDomain (size : ℕ) (members : List (ℕ × ℕ)) (links : List (ℕ × ℕ × ℕ)) (individuals : List (ℕ × ℕ)) : Type 0 where
   pub some : 1 ≤ size
   pub members_inside : IsTrue (members_below size members)
   pub links_inside : IsTrue (links_below size links)
+  pub individuals_inside : IsTrue (individuals_below size individuals)
 
 -- the class and the element of a member
 abbrev pub is_member : ℕ → ℕ → ℕ × ℕ → Bool
@@ -43,11 +53,16 @@ is_from r x l = nat_eq l.0 r && nat_eq l.1 x
 abbrev pub begins : ModelLists → ℕ → ℕ → Bool
 begins k r x = list_any (is_from r x) k.links
 
+-- the element that stands with the individual, or else 0
+abbrev pub element_at : List (ℕ × ℕ) → ℕ → ℕ
+element_at ps a = unwrap_or (lookup (is_at (nat_cmp a)) ps) 0
+
 abbrev pub meaning : ModelLists → Interpretation
 meaning k = record {
   size = k.size;
   in_class = λ a x. list_any (is_member a x) k.members;
   in_role = λ r x y. list_any (is_link r x y) k.links;
+  individual = element_at k.individuals;
 }
 
 -- by class, and then by element
@@ -68,6 +83,13 @@ with_member a x k = record k { members = insert_key member_cmp k.members (a, x) 
 
 abbrev pub with_link : ℕ → ℕ → ℕ → ModelLists → ModelLists
 with_link r x y k = record k { links = insert_key link_cmp k.links (r, x, y) }
+
+-- the individuals, where one is that element, whatever it was before
+abbrev pub placed : ℕ → ℕ → List (ℕ × ℕ) → List (ℕ × ℕ)
+placed a x ps = if nat_eq x 0 then remove_entry (is_at (nat_cmp a)) ps else insert_entry nat_cmp ps a x
+
+abbrev pub with_individual : ℕ → ℕ → ModelLists → ModelLists
+with_individual a x k = record k { individuals = placed a x k.individuals }
 
 -- the first of a list between two bounds
 abbrev pub first_between : {T : Type 0} → (T → T → Ordering) → T → T → List T → Option T

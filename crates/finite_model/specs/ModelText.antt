@@ -1,6 +1,6 @@
 -- The text of a model in a certificate, from its line `model N` on, and what it stands for.
-use Rattle.std.specs.Prelude.{◌≡◌, ℕ, ◌+◌, Bool, true, false, ◌&&◌, ◌||◌, nat_eq, nat_lt, nat_le, List, [], ◌∷◌, take, drop, codes, position, Option, Some, None, option_map, option_and_then, if◌then◌else◌}
-use Rattle.std.specs.List.{list_all, list_any}
+use Rattle.std.specs.Prelude.{◌≡◌, ℕ, ◌+◌, Bool, false, ◌&&◌, ◌||◌, nat_eq, nat_lt, nat_le, List, [], ◌∷◌, take, drop, codes, position, Option, Some, None, option_map, option_and_then, if◌then◌else◌}
+use Rattle.std.specs.List.{list_any}
 use Rattle.std.specs.Ordering.{nat_cmp}
 use Rattle.std.specs.BTreeSet.{insert_key}
 use Rattle.std.specs.Str.{bytes_eq}
@@ -8,8 +8,9 @@ use Rattle.certificate_lines.specs.Lines.{words, number_in}
 use Rattle.certificate_lines.specs.Names.{name_place}
 use Rattle.certificate_lines.specs.Body.{after_line, read_body}
 use Rattle.shq_terms.specs.Listed.{Listed}
-use Rattle.finite_model.specs.ModelLists.{ModelLists, with_member, with_link}
+use Rattle.finite_model.specs.ModelLists.{ModelLists, with_member, with_link, with_individual}
 use Rattle.finite_model.specs.declared.reading.Pair.{Pair}
+use Rattle.finite_model.specs.declared.reading.Placed.{Placed}
 
 -- the number of a word, where it is at least low and below the size
 abbrev pub element_in : ℕ → ℕ → List ℕ → Option ℕ
@@ -64,6 +65,15 @@ pub record RoleLine : Type 0 where
 abbrev pub role_line_in : Listed → ℕ → List (List ℕ) → Option RoleLine
 role_line_in o size ws = option_and_then (λ r. option_map (λ ps. record { role = r; pairs = ps }) (pairs_in size (drop 2 ws))) (subject_in (codes "role") o.roles ws)
 
+-- an individual, by the word of its name, with its element
+abbrev pub placed_in : Listed → ℕ → List ℕ → List ℕ → Option Placed
+placed_in o size name word = option_and_then (λ a. option_map (λ x. record { individual = a; element = x }) (element_in 0 size word)) (name_place o.individuals name)
+
+-- `individual NAME X`
+abbrev pub individual_line_in : Listed → ℕ → List (List ℕ) → Option Placed
+individual_line_in o size (k ∷ name ∷ w ∷ []) = if bytes_eq k (codes "individual") then placed_in o size name w else None
+individual_line_in o size _ = None
+
 abbrev pub with_elements : ℕ → List ℕ → ModelLists → ModelLists
 with_elements a [] k = k
 with_elements a (x ∷ xs) k = with_elements a xs (with_member a x k)
@@ -72,10 +82,11 @@ abbrev pub with_pairs : ℕ → List Pair → ModelLists → ModelLists
 with_pairs r [] k = k
 with_pairs r (p ∷ ps) k = with_pairs r ps (with_link r p.from p.to k)
 
--- what was read: the classes and the roles that had a line, and the model so far
+-- what was read: the classes, the roles and the individuals that had a line, and the model so far
 pub record Body : Type 0 where
   pub classes : List ℕ
   pub roles : List ℕ
+  pub individuals : List ℕ
   pub model : ModelLists
 
 -- one line more, of a class that had none
@@ -90,9 +101,19 @@ with_role b r =
     if list_any (nat_eq r.role) b.roles then None
     else Some (record b { roles = insert_key nat_cmp b.roles r.role; model = with_pairs r.role r.pairs b.model })
 
+-- one line more, of an individual that had none
+abbrev pub with_placed : Body → Placed → Option Body
+with_placed b p =
+    if list_any (nat_eq p.individual) b.individuals then None
+    else Some (record b { individuals = insert_key nat_cmp b.individuals p.individual; model = with_individual p.individual p.element b.model })
+
 abbrev pub is_role_line : List (List ℕ) → Bool
 is_role_line [] = false
 is_role_line (k ∷ ws) = bytes_eq k (codes "role")
+
+abbrev pub is_individual_line : List (List ℕ) → Bool
+is_individual_line [] = false
+is_individual_line (k ∷ ws) = bytes_eq k (codes "individual")
 
 abbrev pub class_read : Listed → Body → List (List ℕ) → Option Body
 class_read o b ws = option_and_then (with_class b) (class_line_in o b.model.size ws)
@@ -100,20 +121,29 @@ class_read o b ws = option_and_then (with_class b) (class_line_in o b.model.size
 abbrev pub role_read : Listed → Body → List (List ℕ) → Option Body
 role_read o b ws = option_and_then (with_role b) (role_line_in o b.model.size ws)
 
--- a line of a class, or of a role, leads from what is read so far to the next
+abbrev pub individual_read : Listed → Body → List (List ℕ) → Option Body
+individual_read o b ws = option_and_then (with_placed b) (individual_line_in o b.model.size ws)
+
+-- a line of a class, of a role, or of an individual leads from what is read so far to the next
 abbrev pub ReadsClass : Listed → List (List ℕ) → Body → Body → Type 0
 ReadsClass o ws before after = class_read o before ws ≡ Some after
 
 abbrev pub ReadsRole : Listed → List (List ℕ) → Body → Body → Type 0
 ReadsRole o ws before after = role_read o before ws ≡ Some after
 
+abbrev pub ReadsIndividual : Listed → List (List ℕ) → Body → Body → Type 0
+ReadsIndividual o ws before after = individual_read o before ws ≡ Some after
+
 abbrev pub model_words_read : Listed → Body → List (List ℕ) → Option Body
-model_words_read o b ws = if is_role_line ws then role_read o b ws else class_read o b ws
+model_words_read o b ws =
+    if is_role_line ws then role_read o b ws
+    else if is_individual_line ws then individual_read o b ws
+    else class_read o b ws
 
 abbrev pub model_line_read : Listed → Body → List ℕ → Option Body
 model_line_read o b line = model_words_read o b (words line)
 
--- the lines after the first: lines of classes and roles, then the line `end`, and then blank lines
+-- the lines after the first: lines of classes, roles and individuals, then the line `end`, and then blank lines
 abbrev pub model_body : Listed → Body → List (List ℕ) → Option ModelLists
 model_body o b ls = read_body (model_line_read o) (λ c. c.model) b ls
 
@@ -127,7 +157,7 @@ size_in line = size_line (words line)
 
 -- nothing was put
 abbrev pub empty_body : ℕ → Body
-empty_body n = record { classes = []; roles = []; model = record { size = n; members = []; links = [] } }
+empty_body n = record { classes = []; roles = []; individuals = []; model = record { size = n; members = []; links = []; individuals = [] } }
 
 -- the model that the lines stand for, where they are the text of one
 abbrev pub model_of : Listed → List (List ℕ) → Option ModelLists

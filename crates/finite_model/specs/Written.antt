@@ -2,7 +2,7 @@
 use Rattle.std.specs.Prelude.{ℕ, ◌+◌, Bool, ◌&&◌, List, [], ◌∷◌, ◌++◌, map, length, codes, decimal, nat_eq, nat_lt}
 use Rattle.std.specs.List.{filter, flat_map, list_all}
 use Rattle.shq_terms.specs.Listed.{Listed}
-use Rattle.finite_model.specs.ModelLists.{ModelLists}
+use Rattle.finite_model.specs.ModelLists.{ModelLists, element_at}
 
 -- the elements of a class, ascending
 abbrev pub elements_of : ℕ → List (ℕ × ℕ) → List ℕ
@@ -34,6 +34,10 @@ abbrev pub role_line : List ℕ → List (ℕ × ℕ × ℕ) → List ℕ
 role_line name [] = []
 role_line name (l ∷ ls) = line_text (codes "role") name (flat_map pair_text (l ∷ ls))
 
+-- the line of an individual, which is the element
+abbrev pub individual_line : List ℕ → ℕ → List ℕ
+individual_line name x = line_text (codes "individual") name (element_text x)
+
 -- the lines of classes in list order, where the first has the number a
 abbrev pub class_lines : ℕ → List (List ℕ) → List (ℕ × ℕ) → List ℕ
 class_lines a [] members = []
@@ -44,11 +48,17 @@ abbrev pub role_lines : ℕ → List (List ℕ) → List (ℕ × ℕ × ℕ) →
 role_lines r [] links = []
 role_lines r (name ∷ names) links = role_line name (pairs_of r links) ++ role_lines (r + 1) names links
 
--- the line of the size, the lines of classes, the lines of roles, and the line `end`
+-- the lines of individuals in list order, where the first has the number a
+abbrev pub individual_lines : ℕ → List (List ℕ) → List (ℕ × ℕ) → List ℕ
+individual_lines a [] individuals = []
+individual_lines a (name ∷ names) individuals = individual_line name (element_at individuals a) ++ individual_lines (a + 1) names individuals
+
+-- the line of the size, the lines of classes, of roles and of individuals, and the line `end`
 abbrev pub model_text : Listed → ModelLists → List ℕ
 model_text o k =
-    codes "model " ++ decimal k.size ++ 10 ∷ [] ++ class_lines 0 o.classes k.members ++ role_lines 0 o.roles k.links ++ codes "end" ++ 10 ∷ []
+    codes "model " ++ decimal k.size ++ 10 ∷ [] ++ class_lines 0 o.classes k.members ++ role_lines 0 o.roles k.links ++ individual_lines 0 o.individuals k.individuals ++ codes "end" ++ 10 ∷ []
 
--- each class and each role of which something was put is listed
+-- each class and each role of which something was put is listed, and so is each individual that is another element
+-- than 0
 abbrev pub uses_listed_names : Listed → ModelLists → Bool
-uses_listed_names o k = list_all (λ m. nat_lt m.0 (length o.classes)) k.members && list_all (λ l. nat_lt l.0 (length o.roles)) k.links
+uses_listed_names o k = list_all (λ m. nat_lt m.0 (length o.classes)) k.members && list_all (λ l. nat_lt l.0 (length o.roles)) k.links && list_all (λ p. nat_lt p.0 (length o.individuals)) k.individuals

@@ -1,19 +1,111 @@
 // Whether an interpretation meets axioms.
-ghost use Rattle.std.specs.Prelude.{◌≡◌, ◌<◌};
-ghost use Rattle.shq_meaning.specs.Truth.{all_same, none_twice, out_degree, meets};
-ghost use Rattle.finite_model.specs.AtElement.{met_at, is_split, in_whole_or_part, rows_equal, can_break, begins_any};
+ghost use Rattle.std.specs.Prelude.{◌≡◌, ◌<◌, IfOk, eqb};
+ghost use Rattle.std.specs.List.{list_all};
+ghost use Rattle.shq_meaning.specs.Truth.{all_same, none_twice, out_degree, are_same, differs_from_all, are_different, meets};
+ghost use Rattle.shq_meaning.specs.Below.{all_below};
+ghost use Rattle.finite_model.specs.AtElement.{met_at, assertion_is_met, is_split, in_whole_or_part, rows_equal, can_break, begins_any};
 ghost use Rattle.finite_model.specs.ModelLists.{meaning};
 ghost use Rattle.finite_model.specs.Next.{IsNext};
 
-use crate::Interp;
 use crate::truth::least;
+use crate::{Interp, NoMemory};
 use shq_terms::{Axiom, Concept};
+use std::collections::BTreeSet;
 
 impl Interp {
-    /// Whether the interpretation meets the axiom (OWL 2 Direct Semantics, section 2.3). An axiom says the same of each
-    /// element by itself, so elements that can break none are passed over.
+    /// Whether the interpretation meets the axiom (OWL 2 Direct Semantics, section 2.3). An axiom that is no assertion
+    /// says the same of each element by itself, so elements that can break none are passed over.
+    #[tactic(auto, using(crate::proofs::AtElement::met_at_each))]
     pub fn meets(&self, axiom: &Axiom) -> bool
         ensures { result ≡ meets (meaning self.now) «axiom».now }
+    {
+        self.assertion_is_met(axiom) && self.meets_at_each(axiom)
+    }
+
+    // Whether the axiom is met, if it is an assertion.
+    fn assertion_is_met(&self, axiom: &Axiom) -> bool
+        ensures { result ≡ assertion_is_met (meaning self.now) «axiom».now }
+    {
+        match axiom {
+            Axiom::Member(class, individual) => self.holds(class, self.individual(*individual)),
+            Axiom::Pair(role, from, to) => {
+                self.in_role(*role, self.individual(*from), self.individual(*to))
+            }
+            Axiom::SameAll(individuals) => self.are_same(individuals.items()),
+            Axiom::Different(individuals) => self.are_different(individuals.items()),
+            Axiom::SubClassOf(_, _)
+            | Axiom::EquivalentClasses(_)
+            | Axiom::DisjointClasses(_)
+            | Axiom::DisjointUnion(_, _)
+            | Axiom::SubRole(_, _)
+            | Axiom::EquivalentRoles(_)
+            | Axiom::Domain(_, _)
+            | Axiom::Range(_, _)
+            | Axiom::Functional(_)
+            | Axiom::Transitive(_) => true,
+        }
+    }
+
+    fn are_same(&self, individuals: &[u32]) -> bool
+        ensures { result ≡ are_same (meaning self.now) individuals.now }
+    {
+        let Some(first) = individuals.first() else {
+            return true;
+        };
+        self.are_all(individuals, self.individual(*first))
+    }
+
+    // Whether each of the individuals is the element.
+    fn are_all(&self, individuals: &[u32], x: u32) -> bool
+        ensures { result ≡ list_all (λ a. eqb ((meaning self.now).individual a) x) individuals.now }
+    {
+        individuals.iter().all(|other| self.individual(*other) == x)
+    }
+
+    fn are_different(&self, individuals: &[u32]) -> bool
+        ensures { result ≡ are_different (meaning self.now) individuals.now }
+    {
+        match self.have_own_elements(individuals) {
+            Ok(different) => different,
+            Err(_) => self.differ_in_pairs(individuals),
+        }
+    }
+
+    // The same with the elements that were met kept in order, so that not each two individuals are compared.
+    fn have_own_elements(&self, individuals: &[u32]) -> Result<bool, NoMemory>
+        ensures { IfOk result (λ different. different ≡ are_different (meaning self.now) individuals.now) }
+    {
+        let mut met = BTreeSet::new(self.allocator());
+        for individual in individuals {
+            let first = met.insert(self.individual(*individual))?;
+            if !first {
+                return Ok(false);
+            }
+        }
+        Ok(true)
+    }
+
+    // The same without memory.
+    fn differ_in_pairs(&self, individuals: &[u32]) -> bool
+        ensures { result ≡ are_different (meaning self.now) individuals.now }
+    {
+        for (index, individual) in individuals.iter().enumerate() {
+            if !self.differs_from_all(*individual, &individuals[index + 1..]) {
+                return false;
+            }
+        }
+        true
+    }
+
+    fn differs_from_all(&self, individual: u32, others: &[u32]) -> bool
+        ensures { result ≡ differs_from_all (meaning self.now) individual others.now }
+    {
+        let x = self.individual(individual);
+        others.iter().all(|other| x != self.individual(*other))
+    }
+
+    fn meets_at_each(&self, axiom: &Axiom) -> bool
+        ensures { result ≡ all_below self.now.size (met_at (meaning self.now) «axiom».now) }
     {
         let mut from = 0;
         while let Some(x) = self.next_that_can_break(axiom, from) {
@@ -40,6 +132,8 @@ impl Interp {
             Axiom::Range(role, _) => self.next_beginning(*role, from),
             Axiom::Functional(role) => self.next_beginning(*role, from),
             Axiom::Transitive(role) => self.next_beginning(*role, from),
+            Axiom::Member(_, _) | Axiom::Pair(_, _, _) | Axiom::SameAll(_) | Axiom::Different(_) =>
+                None,
         }
     }
 
@@ -77,6 +171,8 @@ impl Interp {
             Axiom::Range(role, class) => self.each_successor(*role, class, x),
             Axiom::Functional(role) => self.out_degree(*role, x) <= 1,
             Axiom::Transitive(role) => self.row_is_transitive(*role, x),
+            Axiom::Member(_, _) | Axiom::Pair(_, _, _) | Axiom::SameAll(_) | Axiom::Different(_) =>
+                true,
         }
     }
 

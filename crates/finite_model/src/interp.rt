@@ -1,24 +1,30 @@
 // A finite interpretation: what it keeps, and how elements are found in it.
-ghost use Rattle.std.specs.Prelude.{◌≡◌, ◌<◌, ◌≤◌, ◌+◌, ◌^◌, [], true, false, OnOk, OnErr, IfOk, IfSome, ◌||◌, nat_le};
+ghost use Rattle.std.specs.Prelude.{◌≡◌, ℕ, ◌<◌, ◌≤◌, ◌+◌, ◌^◌, [], true, false, cond, OnOk, OnErr, IfOk, IfSome, ◌||◌, nat_eq, nat_le, eqb};
 ghost use Rattle.std.specs.List.Sorted.{IsStrictlySortedBy};
-ghost use Rattle.std.specs.Ordering.{is_gt};
-ghost use Rattle.finite_model.specs.ModelLists.{meaning, begins, IsDomain, member_cmp, link_cmp, tuple_cmp, with_member, with_link, first_between};
+ghost use Rattle.std.specs.Map.{keys_of};
+ghost use Rattle.std.specs.Ordering.{is_gt, nat_cmp};
+ghost use Rattle.shq_meaning.specs.Truth.{PlacesIndividuals};
+ghost use Rattle.finite_model.specs.ModelLists.{meaning, begins, IsDomain, member_cmp, link_cmp, tuple_cmp, with_member, with_link, with_individual, first_between};
 ghost use Rattle.finite_model.specs.AtElement.{row_within, row_is_transitive};
 ghost use Rattle.finite_model.specs.Next.{IsNext, within};
 ghost use Rattle.finite_model.specs.Written.{elements_of, pairs_of};
 
 use shq_terms::NoMemory;
 use std::alloc::Global;
-use std::collections::BTreeSet;
+use std::collections::{BTreeMap, BTreeSet};
 use std::marker::Model;
 
 /// A finite interpretation (OWL 2 Direct Semantics, section 2.2): a domain of the numbers below a size, a set of them
-/// for each class, and a set of pairs of them for each role. A class or role of which nothing was put is empty.
+/// for each class, a set of pairs of them for each role, and one of them for each individual. A class or role of which
+/// nothing was put is empty, and an individual for which no element was put is the element 0.
 #[derive(Drop)]
 pub struct Interp {
     size: u32,
     members: BTreeSet<(u32, u32)>,
     links: BTreeSet<(u32, u32, u32)>,
+    // The individuals that are another element than 0, so that what is kept tells no more than what is meant.
+    individuals: BTreeMap<u32, u32>,
+    alloc: Global,
 }
 
 impl Model for Interp {
@@ -26,44 +32,50 @@ impl Model for Interp {
 
     ghost Value = { ModelLists };
 
-    ghost view = { λ i. record { size = i.size; members = i.members.keys; links = i.links.keys } };
+    ghost view = { λ i. record { size = i.size; members = i.members.keys; links = i.links.keys; individuals = i.individuals.entries } };
 
-    ghost invariant = { λ i. IsDomain i.size i.members.keys i.links.keys };
+    ghost invariant = { λ i. IsDomain i.size i.members.keys i.links.keys i.individuals.entries };
 }
 
 impl Interp {
     ghost use Rattle.finite_model.specs.ModelLists.{ModelLists};
 
-    /// An interpretation of that many elements, at least one, in which each class and each role is empty.
+    /// An interpretation of that many elements, at least one, in which each class and each role is empty, and each
+    /// individual is the element 0.
     pub fn new(alloc: Global, size: u32) -> Interp
         requires { 1 ≤ size }
-        ensures { result ≡ record { size = size; members = []; links = [] } }
+        ensures { result ≡ record { size = size; members = []; links = []; individuals = [] } }
     {
         Interp {
             size,
             members: BTreeSet::new(alloc),
             links: BTreeSet::new(alloc),
+            individuals: BTreeMap::new(alloc),
+            alloc,
         }
     }
 
-    /// How many elements there are. All members and pairs are of elements.
+    /// How many elements there are. All members and pairs are of elements, and each individual is one.
     pub fn size(&self) -> u32
         ensures size { result ≡ self.now.size }
         ensures some { 1 ≤ result }
-        ensures inside { IsDomain self.now.size self.now.members self.now.links }
+        ensures inside { IsDomain self.now.size self.now.members self.now.links self.now.individuals }
+        ensures places { PlacesIndividuals (meaning self.now) }
     {
         self.size
     }
 
-    // How many members of classes and how many pairs of roles were put, all of them elements, and in ascending order.
-    pub(crate) fn counts(&self) -> (usize, usize)
-        ensures domain { IsDomain self.now.size self.now.members self.now.links }
+    // How many members of classes and how many pairs of roles were put, and how many individuals are another element
+    // than 0. All of them are elements, and in ascending order.
+    pub(crate) fn counts(&self) -> (usize, usize, usize)
+        ensures domain { IsDomain self.now.size self.now.members self.now.links self.now.individuals }
         ensures small { self.now.size < 2 ^ 32 }
         ensures members { IsStrictlySortedBy member_cmp self.now.members }
         ensures links { IsStrictlySortedBy link_cmp self.now.links }
+        ensures individuals { IsStrictlySortedBy nat_cmp (keys_of self.now.individuals) }
     {
         prove!(self.size >= 1);
-        (self.members.len(), self.links.len())
+        (self.members.len(), self.links.len(), self.individuals.len())
     }
 
     /// Puts the element into the class, where it stands once, or changes nothing. The element is below the size.
@@ -85,6 +97,34 @@ impl Interp {
     {
         self.links.insert((role, x, y))?;
         Ok(())
+    }
+
+    /// Makes the individual that element, whatever it was before, or changes nothing. The element is below the size.
+    pub fn put_individual(&mut self, individual: u32, x: u32) -> Result<(), NoMemory>
+        requires { x < self.old.size }
+        ensures put { OnOk result (self.new ≡ with_individual individual x self.old) }
+        ensures stands { OnOk result ((a : ℕ) → (meaning self.new).individual a ≡ cond (nat_eq a individual) x ((meaning self.old).individual a)) }
+        ensures unchanged { OnErr result (self.new ≡ self.old) }
+    {
+        if x == 0 {
+            self.individuals.remove(&individual);
+        } else {
+            self.individuals.insert(individual, x)?;
+        }
+        Ok(())
+    }
+
+    /// The element that the individual is.
+    pub fn individual(&self, individual: u32) -> u32
+        ensures element { result ≡ (meaning self.now).individual individual }
+        ensures inside { result < self.now.size }
+    {
+        self.individuals.get(&individual).copied().unwrap_or(0)
+    }
+
+    /// Memory for what is needed for a while.
+    pub(crate) fn allocator(&self) -> Global {
+        self.alloc
     }
 
     /// The elements of the class, ascending.
@@ -165,6 +205,14 @@ impl Interp {
         prove!(self.size >= 1);
         let mut links = self.links.range(low..=high);
         links.next().copied()
+    }
+
+    /// The element that the individual is, unless it comes before.
+    pub(crate) fn next_at_individual(&self, individual: u32, from: u32) -> Option<u32>
+        ensures { IsNext self.now.size from (λ x. eqb x ((meaning self.now).individual individual)) result }
+    {
+        let x = self.individual(individual);
+        if from <= x { Some(x) } else { None }
     }
 
     /// The next element of the class.

@@ -3,10 +3,11 @@
 //!
 //! An interpretation of a finite domain is a counter-model of each query that it refutes while it meets the axioms.
 //! Whether it does is computed by the definitions: truth at an element by recursion over the class expression, an axiom
-//! element by element. The members of classes and the pairs of roles are kept in ordered sets, and only elements at
-//! which an axiom can fail are visited: those in its left side, or with which a pair of its role begins. So an
-//! interpretation of billions of elements costs what its members and pairs cost, unless an axiom speaks of all
-//! elements.
+//! element by element, an assertion at the elements that its individuals are. The members of classes and the pairs of
+//! roles are kept in ordered sets, and only elements at which an axiom can fail are visited: those in its left side, or
+//! with which a pair of its role begins. Individuals are kept in an ordered map, but for those that are the element 0.
+//! So an interpretation of billions of elements costs what its members, pairs and individuals cost, unless an axiom
+//! speaks of all elements.
 #![tactic(auto)]
 
 mod axioms;

@@ -2,7 +2,7 @@
 ghost use Rattle.std.specs.Prelude.{◌≡◌, ◌<◌, ◌≤◌, map, length, nat_eq, position, All, Some, IfOk, IfErr, OnOk, IfSome, codes};
 ghost use Rattle.certificate_lines.specs.Lines.{bytes_of};
 ghost use Rattle.certificate_lines.specs.Malformed.{IsFaultOf, IsFaultAt, IsFaultOfLine};
-ghost use Rattle.finite_model.specs.ModelText.{element_in, elements_from, pair_at, pair_in, pair_from, pairs_in, subject_in, class_line_in, role_line_in, with_class, with_role, with_elements, with_pairs, is_role_line, class_read, role_read, ReadsClass, ReadsRole, model_line_read, model_body, size_line, model_of};
+ghost use Rattle.finite_model.specs.ModelText.{element_in, elements_from, pair_at, pair_in, pair_from, pairs_in, subject_in, class_line_in, role_line_in, placed_in, individual_line_in, with_class, with_role, with_placed, with_elements, with_pairs, is_role_line, is_individual_line, class_read, role_read, individual_read, ReadsClass, ReadsRole, ReadsIndividual, model_line_read, model_body, size_line, model_of};
 ghost use Rattle.finite_model.specs.Malformed.{malformed_model_line, malformed_in_model};
 ghost use Rattle.finite_model.specs.BodyRead.{body_of, class_of, role_of};
 
@@ -12,11 +12,12 @@ use shq_terms::Ontology;
 use std::alloc::Global;
 use std::collections::BTreeSet;
 
-/// The model whose text these lines are: `model N`, lines `class NAME X ..` and `role NAME X,Y ..` in any order, the
-/// line `end`, and blank lines. A name is the full IRI of a listed class or role between `<` and `>`, and has one line
-/// at most as a class and one as a role. Elements are below N and ascend strictly on their line. Pairs ascend strictly
-/// by the first element and then by the second. A line `class NAME` without an element is malformed, and so is a line
-/// `role NAME` without a pair: what is empty has no line.
+/// The model whose text these lines are: `model N`, lines `class NAME X ..`, `role NAME X,Y ..` and `individual NAME X`
+/// in any order, the line `end`, and blank lines. A name is the full IRI of a listed class, role or individual between
+/// `<` and `>`, and has one line at most as a class, one as a role and one as an individual. Elements are below N and
+/// ascend strictly on their line. Pairs ascend strictly by the first element and then by the second. A line
+/// `class NAME` without an element is malformed, and so is a line `role NAME` without a pair: what is empty has no
+/// line. An individual without a line is the element 0.
 ///
 /// # Errors
 ///
@@ -38,6 +39,7 @@ pub fn read_text(alloc: Global, lines: &[&[u8]], ontology: &Ontology) -> Result<
     let body = BodyRead {
         classes: BTreeSet::new(alloc),
         roles: BTreeSet::new(alloc),
+        individuals: BTreeSet::new(alloc),
         model: Interp::new(alloc, size),
     };
     read_body(alloc, &lines[1..], ontology, body)
@@ -56,11 +58,12 @@ fn read_size(words: &[&[u8]]) -> Option<u32>
     }
 }
 
-// The classes and roles that had a line, and the model so far.
+// The classes, roles and individuals that had a line, and the model so far.
 #[derive(Drop)]
 pub(crate) struct BodyRead {
     classes: BTreeSet<u32>,
     roles: BTreeSet<u32>,
+    individuals: BTreeSet<u32>,
     model: Interp,
 }
 
@@ -106,6 +109,8 @@ fn read_line(
     let words = words(alloc, line)?;
     if is_role_line(&words) {
         add_role_line(alloc, &words, number, ontology, body)
+    } else if is_individual_line(&words) {
+        add_individual_line(&words, number, ontology, body)
     } else {
         add_class_line(alloc, &words, number, ontology, body)
     }
@@ -115,6 +120,12 @@ fn is_role_line(words: &[&[u8]]) -> bool
     ensures { result ≡ is_role_line (bytes_of words.now) }
 {
     !words.is_empty() && words[0] == b"role".as_slice()
+}
+
+fn is_individual_line(words: &[&[u8]]) -> bool
+    ensures { result ≡ is_individual_line (bytes_of words.now) }
+{
+    !words.is_empty() && words[0] == b"individual".as_slice()
 }
 
 fn add_class_line(
@@ -145,6 +156,21 @@ fn add_role_line(
     put_role_line(body, number, &line)
 }
 
+fn add_individual_line(
+    words: &[&[u8]],
+    number: u32,
+    ontology: &Ontology,
+    body: &mut BodyRead,
+) -> Result<(), ModelFault>
+    ensures read { OnOk result (ReadsIndividual ontology.now (bytes_of words.now) (body_of body.old) (body_of body.new)) }
+    ensures fault { IfErr result (IsFaultAt number (individual_read ontology.now (body_of body.old) (bytes_of words.now))) }
+{
+    let Some(placed) = read_individual_line(words, ontology, body.model.size()) else {
+        return Err(ModelFault::Malformed(number));
+    };
+    put_placed(body, number, placed)
+}
+
 // A class with its elements.
 #[derive(Drop)]
 pub(crate) struct ClassRead {
@@ -164,6 +190,13 @@ pub(crate) struct Pair {
 pub(crate) struct RoleRead {
     role: u32,
     pairs: Vec<Pair>,
+}
+
+// An individual with its element.
+#[derive(Clone, Copy, Debug)]
+pub(crate) struct Placed {
+    individual: u32,
+    element: u32,
 }
 
 fn put_class_line(body: &mut BodyRead, number: u32, line: &ClassRead) -> Result<(), ModelFault>
@@ -188,6 +221,20 @@ fn put_role_line(body: &mut BodyRead, number: u32, line: &RoleRead) -> Result<()
     }
     body.roles.insert(line.role)?;
     put_pairs(&mut body.model, line.role, &line.pairs)
+}
+
+fn put_placed(body: &mut BodyRead, number: u32, placed: Placed) -> Result<(), ModelFault>
+    requires { placed.element < body.old.model.size }
+    ensures read { OnOk result (with_placed (body_of body.old) placed ≡ Some (body_of body.new)) }
+    ensures fault { IfErr result (IsFaultAt number (with_placed (body_of body.old) placed)) }
+{
+    if body.individuals.contains(&placed.individual) {
+        return Err(ModelFault::Malformed(number));
+    }
+    body.individuals.insert(placed.individual)?;
+    body.model
+        .put_individual(placed.individual, placed.element)?;
+    Ok(())
 }
 
 #[tactic(auto, using(certificate_lines::proofs::Borrowed::lines_drop))]
@@ -226,6 +273,30 @@ fn read_role_line(
     };
     let pairs = read_pairs(alloc, words.split_at(2).1, number, size)?;
     Ok(RoleRead { role, pairs })
+}
+
+fn read_individual_line(words: &[&[u8]], ontology: &Ontology, size: u32) -> Option<Placed>
+    ensures line { result ≡ individual_line_in ontology.now size (bytes_of words.now) }
+    ensures below { IfSome result (λ p. p.element < size) }
+{
+    match words {
+        [keyword, name, element] if *keyword == b"individual".as_slice() => {
+            read_placed(name, element, ontology, size)
+        }
+        _ => None,
+    }
+}
+
+fn read_placed(name: &[u8], element: &[u8], ontology: &Ontology, size: u32) -> Option<Placed>
+    ensures placed { result ≡ placed_in ontology.now size name.now element.now }
+    ensures below { IfSome result (λ p. p.element < size) }
+{
+    let individual = ontology.individual_of_bytes(iri(name)?)?;
+    let element = read_element(element, 0, size)?;
+    Some(Placed {
+        individual,
+        element,
+    })
 }
 
 // The class that the first words name, where an element follows them.

@@ -1,13 +1,14 @@
 // Truth at an element, and the elements at which an expression may be true.
 ghost use Rattle.std.specs.Prelude.{◌≡◌, ◌<◌, ◌||◌, nat_eq};
 ghost use Rattle.shq_terms.specs.Concept.{parts_of};
-ghost use Rattle.shq_meaning.specs.Truth.{holds, hold_all, hold_any, successors, each_successor, refutes_at};
+ghost use Rattle.shq_meaning.specs.Truth.{holds, hold_all, hold_any, successors, each_successor, is_asked_at, refutes_at};
 ghost use Rattle.shq_meaning.specs.Least.{IsFirstBelow};
+ghost use Rattle.finite_model.specs.AtElement.{can_refute};
 ghost use Rattle.finite_model.specs.ModelLists.{meaning, begins};
 ghost use Rattle.finite_model.specs.Next.{IsNext, least};
 
 use crate::Interp;
-use shq_terms::{Concept, Node, Query};
+use shq_terms::{Concept, Node, On, Query};
 
 impl Interp {
     /// Whether the element is in the class expression (OWL 2 Direct Semantics, section 2.2.3). The element is below the
@@ -140,19 +141,40 @@ impl Interp {
         next
     }
 
+    // Whether the query speaks of the element.
+    fn is_asked_at(&self, on: On, x: u32) -> bool
+        ensures { result ≡ is_asked_at (meaning self.now) on x }
+    {
+        match on {
+            On::Any => true,
+            On::Individual(individual) => x == self.individual(individual),
+        }
+    }
+
     fn refutes_at(&self, query: &Query, x: u32) -> bool
         requires { x < self.now.size }
         ensures { result ≡ refutes_at (meaning self.now) query.now x }
     {
-        self.holds(&query.sub, x) && !self.holds(&query.sup, x)
+        self.is_asked_at(query.on, x) && self.holds(&query.sub, x) && !self.holds(&query.sup, x)
     }
 
-    /// The least element in the left side of the query and outside its right side. `None` exactly where there is none.
+    // The next element that the query speaks of, and that may be in its left side.
+    fn next_asked(&self, query: &Query, from: u32) -> Option<u32>
+        ensures { IsNext self.now.size from (can_refute (meaning self.now) query.now) result }
+    {
+        match query.on {
+            On::Any => self.next_candidate(&query.sub, from),
+            On::Individual(individual) => self.next_at_individual(individual, from),
+        }
+    }
+
+    /// The least element that the query speaks of in its left side and outside its right side. `None` exactly where
+    /// there is none.
     pub fn refutes(&self, query: &Query) -> Option<u32>
         ensures { IsFirstBelow self.now.size (refutes_at (meaning self.now) query.now) result }
     {
         let mut from = 0;
-        while let Some(x) = self.next_candidate(&query.sub, from) {
+        while let Some(x) = self.next_asked(query, from) {
             if self.refutes_at(query, x) {
                 return Some(x);
             }

@@ -2,7 +2,7 @@
 ghost use Rattle.std.specs.Prelude.{◌≡◌, ◌++◌, codes, decimal, IsTrue, IfOk, OnOk, OnErr};
 ghost use Rattle.std.specs.List.{flat_map};
 ghost use Rattle.finite_model.specs.ReadBack.{IsKept};
-ghost use Rattle.finite_model.specs.Written.{element_text, pair_text, class_line, role_line, class_lines, role_lines, model_text, uses_listed_names};
+ghost use Rattle.finite_model.specs.Written.{element_text, pair_text, class_line, role_line, individual_line, class_lines, role_lines, individual_lines, model_text, uses_listed_names};
 
 use crate::{Interp, NoMemory};
 use shq_terms::Ontology;
@@ -10,9 +10,10 @@ use std::alloc::Global;
 
 impl Interp {
     /// Appends the text of the interpretation, or nothing: `model N`, a line `class <IRI> X ..` for each class that has
-    /// elements, a line `role <IRI> X,Y ..` for each role that has pairs, and `end`, each with a line feed after it.
-    /// Classes and roles stand in list order, and the items of a line ascend. Each class and role of which something
-    /// was put is listed. The memory is `alloc`'s.
+    /// elements, a line `role <IRI> X,Y ..` for each role that has pairs, a line `individual <IRI> X` for each listed
+    /// individual, and `end`, each with a line feed after it. Classes, roles and individuals stand in list order, and
+    /// the items of a line ascend. Each class and role of which something was put is listed, and so is each individual
+    /// that is another element than 0. The memory is `alloc`'s.
     ///
     /// What is kept is as the law of reading back asks ([`models_are_read_back`]): where names are listed once and are
     /// IRIs, the lines of the text stand for the interpretation again.
@@ -42,6 +43,7 @@ impl Interp {
         text.push(b'\n')?;
         self.push_classes(alloc, &mut text, ontology)?;
         self.push_roles(alloc, &mut text, ontology)?;
+        self.push_individuals(alloc, &mut text, ontology)?;
         text.extend_from_slice(b"end")?;
         text.push(b'\n')?;
         Ok(text)
@@ -73,6 +75,21 @@ impl Interp {
         for role in 0..ontology.role_count() {
             let pairs = self.pairs(alloc, role)?;
             push_role(alloc, text, ontology.role_name(role), &pairs)?;
+        }
+        Ok(())
+    }
+
+    fn push_individuals(
+        &self,
+        alloc: Global,
+        text: &mut Vec<u8>,
+        ontology: &Ontology,
+    ) -> Result<(), NoMemory>
+        ensures { OnOk result (text.new.items ≡ text.old.items ++ individual_lines 0 ontology.now.individuals self.now.individuals) }
+    {
+        for individual in 0..ontology.individual_count() {
+            let x = self.individual(individual);
+            push_individual(alloc, text, ontology.individual_name(individual), x)?;
         }
         Ok(())
     }
@@ -108,6 +125,15 @@ fn push_role(
     }
     push_name(text, b"role", name)?;
     push_pairs(alloc, text, pairs)?;
+    text.push(b'\n')?;
+    Ok(())
+}
+
+fn push_individual(alloc: Global, text: &mut Vec<u8>, name: &str, x: u32) -> Result<(), NoMemory>
+    ensures { OnOk result (text.new.items ≡ text.old.items ++ individual_line name.now x) }
+{
+    push_name(text, b"individual", name)?;
+    push_element(alloc, text, x)?;
     text.push(b'\n')?;
     Ok(())
 }

@@ -1,5 +1,6 @@
 use Rattle.std.proofs.Common.{ℕ, Bool, not, ap, sym, ◌∙◌, arith}
-use Rattle.shq_meaning.specs.Truth.{holds, refutes_at}
+use Rattle.shq_meaning.specs.Truth.{refutes_at}
+use Rattle.finite_model.specs.AtElement.{can_refute}
 use Rattle.finite_model.specs.ModelLists.{meaning}
 use Rattle.finite_model.proofs.Skipped.{all_before, all_passed, all_ended}
 use Rattle.finite_model.proofs.Empty.{unrefuted}
@@ -8,7 +9,7 @@ use Rattle.finite_model.proofs.interp.Interp.refutes.Goals as goal
 pub returns-then-refutes_at : goal.returns-then-refutes_at
 returns-then-refutes_at c =
     let i = meaning c.args.self.now in
-    let p : ℕ → Bool = holds i c.args.query.now.sub in
+    let p : ℕ → Bool = can_refute i c.args.query.now in
     let q : ℕ → Bool = λ x. not (refutes_at i c.args.query.now x) in
     let next = c.in-Some.ensures in
     record {
@@ -20,7 +21,7 @@ returns-then-refutes_at c =
 pub loop-x-preserved : goal.loop-x-preserved
 loop-x-preserved c =
     let i = meaning c.args.self.now in
-    let p : ℕ → Bool = holds i c.args.query.now.sub in
+    let p : ℕ → Bool = can_refute i c.args.query.now in
     let q : ℕ → Bool = λ x. not (refutes_at i c.args.query.now x) in
     let next = c.in-Some.ensures in
     record {
@@ -31,6 +32,6 @@ loop-x-preserved c =
 pub returns : goal.returns
 returns c =
     let i = meaning c.args.self.now in
-    let p : ℕ → Bool = holds i c.args.query.now.sub in
+    let p : ℕ → Bool = can_refute i c.args.query.now in
     let q : ℕ → Bool = λ x. not (refutes_at i c.args.query.now x) in
     all_ended p q (unrefuted i c.args.query.now) c.args.self.now.size c.loop-x.from c.loop-x.invariant.within c.in_default.ensures ∙ c.loop-x.invariant.so_far

@@ -1,15 +1,15 @@
 use Rattle.std.proofs.Common.{sym, ◌∙◌, arith}
 use Rattle.finite_model.specs.ModelLists.{meaning}
 use Rattle.finite_model.specs.AtElement.{met_at, can_break}
-use Rattle.finite_model.proofs.AtElement.{met_at_each, unbroken}
+use Rattle.finite_model.proofs.AtElement.{unbroken}
 use Rattle.finite_model.proofs.Skipped.{all_passed, all_failed, all_ended}
-use Rattle.finite_model.proofs.interp.Interp.meets.Goals as goal
+use Rattle.finite_model.proofs.interp.Interp.meets_at_each.Goals as goal
 
 pub returns-then-not-meets_at : goal.returns-then-not-meets_at
 returns-then-not-meets_at c =
     let k = c.args.self.now in
     let a = c.args.«axiom».now in
-    all_failed (met_at (meaning k) a) k.size c.in-Some.x c.in-Some.ensures.below (sym c.meets_at.ensures ∙ c.if-not-meets_at.true) ∙ sym (met_at_each (meaning k) a)
+    all_failed (met_at (meaning k) a) k.size c.in-Some.x c.in-Some.ensures.below (sym c.meets_at.ensures ∙ c.if-not-meets_at.true)
 
 pub loop-x-preserved : goal.loop-x-preserved
 loop-x-preserved c =
@@ -24,4 +24,4 @@ pub returns : goal.returns
 returns c =
     let k = c.args.self.now in
     let a = c.args.«axiom».now in
-    sym (met_at_each (meaning k) a ∙ all_ended (can_break k a) (met_at (meaning k) a) (λ x. unbroken k x a) k.size c.loop-x.from c.loop-x.invariant.within c.in_default.ensures ∙ c.loop-x.invariant.so_far)
+    sym (all_ended (can_break k a) (met_at (meaning k) a) (λ x. unbroken k x a) k.size c.loop-x.from c.loop-x.invariant.within c.in_default.ensures ∙ c.loop-x.invariant.so_far)
