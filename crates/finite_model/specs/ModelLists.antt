@@ -1,5 +1,5 @@
--- What an interpretation keeps, and what it stands for. Members, pairs and individuals are kept in ascending order, each
--- once.
+-- What an interpretation keeps, and what it stands for. Members, pairs and individuals are kept in ascending order,
+-- each once.
 use Rattle.std.specs.Prelude.{ℕ, ◌≤◌, Bool, ◌&&◌, nat_eq, nat_lt, IsTrue, List, Option, slice_get, unwrap_or, if◌then◌else◌}
 use Rattle.std.specs.List.{list_any, list_all, filter}
 use Rattle.std.specs.BTreeSet.{insert_key}
