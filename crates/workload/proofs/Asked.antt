@@ -2,6 +2,7 @@
 use Rattle.std.proofs.Common.{◌≡◌, ℕ, ◌+◌, ◌*◌, ◌<◌, ◌≤◌, true, List, [], ◌∷◌, ◌++◌, length, position, Some, Ok, refl, ap, sym, ◌∙◌, subst, arith, codes}
 use Rattle.std.specs.Prelude.{nat_lt}
 use Rattle.std.specs.Str.{bytes_eq}
+use Rattle.shq_terms.specs.declared.axioms.On.TheVariants.{Any}
 use Rattle.shq_terms.specs.Concept.{name}
 use Rattle.shq_terms.specs.Listed.{Listed}
 use Rattle.shq_terms.specs.Names.{with_at}
@@ -60,26 +61,33 @@ module _ (n : ℕ) (text : List ℕ) (w : IsWorkload n text) (few : n ≤ 4000) 
     room = le_true (length o.classes) 20000 (omega (arith, class_total, few));
   }
 
+  -- the counts of a query on the document, where these individuals are listed
+  abbrev from : List (List ℕ) → ℕ → Counts
+  from individuals nodes = record { axioms = length o.axioms; parts = 0; nodes = nodes; classes = o.classes; roles = o.roles; individuals = individuals }
+
   form_holds : (last : ℕ) → walked (query_start o w.kept.nodes) (query_form_tests ps last (query_item ∷ [])) ≡ Ok (query_start o (w.kept.nodes + 1 + 1))
-  form_holds last =
-      let s : Counts = query_start o w.kept.nodes in
-      let mid : Counts = query_start o (w.kept.nodes + 1) in
-      let end : Counts = query_start o (w.kept.nodes + 1 + 1) in
-      let ts : List Test = class_tests ps (word_item (codes "Q0") 1) in
-      let us : List Test = class_tests ps (word_item (codes "Q3") 1) in
-      let all : walked s (axiom_query_tests ps query_item) ≡ Ok end =
-      ap (walked s) (tests_are ps)
-      ∙ step s (shape 1 true) (ts ++ (us ++ [])) refl
-      ∙ goes_on s mid ts (us ++ []) (class_walk ps w.knows 1 (length o.axioms) 0 w.kept.nodes o.classes o.roles (codes "Q0") o.classes (finds (codes "Q0") 0 places.q0) (omega (arith, w.nodes, few)))
-      ∙ alone mid end us (class_walk ps w.knows 1 (length o.axioms) 0 (w.kept.nodes + 1) o.classes o.roles (codes "Q3") o.classes (finds (codes "Q3") 5 places.q3) (omega (arith, w.nodes, few))) in
-      alone s end (axiom_query_tests ps query_item) all
+  form_holds last = subst (λ (is : List (List ℕ)). walked (from is w.kept.nodes) (query_form_tests ps last (query_item ∷ [])) ≡ Ok (from is (w.kept.nodes + 1 + 1))) (sym w.individuals) holds_from
+    where
+      holds_from : walked (from [] w.kept.nodes) (query_form_tests ps last (query_item ∷ [])) ≡ Ok (from [] (w.kept.nodes + 1 + 1))
+      holds_from =
+          let s : Counts = from [] w.kept.nodes in
+          let mid : Counts = from [] (w.kept.nodes + 1) in
+          let end : Counts = from [] (w.kept.nodes + 1 + 1) in
+          let ts : List Test = class_tests ps (word_item (codes "Q0") 1) in
+          let us : List Test = class_tests ps (word_item (codes "Q3") 1) in
+          let all : walked s (axiom_query_tests ps query_item) ≡ Ok end =
+          ap (walked s) (tests_are ps)
+          ∙ step s (shape 1 true) (ts ++ (us ++ [])) refl
+          ∙ goes_on s mid ts (us ++ []) (class_walk ps w.knows 1 (length o.axioms) 0 w.kept.nodes o.classes o.roles (codes "Q0") o.classes (finds (codes "Q0") 0 places.q0) (omega (arith, w.nodes, few)))
+          ∙ alone mid end us (class_walk ps w.knows 1 (length o.axioms) 0 (w.kept.nodes + 1) o.classes o.roles (codes "Q3") o.classes (finds (codes "Q3") 5 places.q3) (omega (arith, w.nodes, few))) in
+          alone s end (axiom_query_tests ps query_item) all
 
   asked_is : (nodes : ℕ) → first_query ps (query_start o nodes) (query_item ∷ []) ≡ asked ∷ []
   asked_is nodes =
       let s : Counts = query_start o nodes in
       let sub : concept_of ps s (word_item (codes "Q0") 1) ≡ name 0 = class_value ps w.knows s 1 (codes "Q0") 0 places.q0 in
       let sup : concept_of ps s (word_item (codes "Q3") 1) ≡ name 5 = class_value ps w.knows s 1 (codes "Q3") 5 places.q3 in
-      λ i. record { sub = sub i; sup = sup i } ∷ []
+      λ i. record { sub = sub i; sup = sup i; on = Any } ∷ []
 
   holds : (last : ℕ) → walked (query_start o w.kept.nodes) (query_tests ps o.axioms (query_start o w.kept.nodes) last (query_item ∷ [])) ≡ Ok (query_start o (w.kept.nodes + 1 + 1))
   holds last =

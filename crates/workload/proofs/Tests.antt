@@ -36,7 +36,7 @@ name_is local = refl
 
 -- so much is counted, and these names are listed
 abbrev pub state : ℕ → ℕ → ℕ → List (List ℕ) → List (List ℕ) → Counts
-state x p n cs rs = record { axioms = x; parts = p; nodes = n; classes = cs; roles = rs }
+state x p n cs rs = record { axioms = x; parts = p; nodes = n; classes = cs; roles = rs; individuals = [] }
 
 -- where a class is met, the list of classes becomes this one
 pub record Lists (cs : List (List ℕ)) (local : List ℕ) (ds : List (List ℕ)) : Type 0 where

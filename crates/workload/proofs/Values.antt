@@ -121,7 +121,7 @@ r_is_second = refl
 
 module _ (ps : List Prefix) (knows : prefix_iri ps [] ≡ Some prefix_iri_of_workloads) (x p e n : ℕ) where
   abbrev final : Counts
-  final = record { axioms = x; parts = p; nodes = e; classes = workload_classes n; roles = workload_roles }
+  final = record { axioms = x; parts = p; nodes = e; classes = workload_classes n; roles = workload_roles; individuals = [] }
 
   kernel_value : (line : ℕ) → axioms_of (axioms_in ps final (lines_items line kernel_phrases)) ≡ kernel_axioms
   kernel_value line =

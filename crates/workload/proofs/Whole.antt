@@ -139,7 +139,7 @@ module _ (n : ℕ) (few : n ≤ 4000) where
   says =
       let stand = lines_stand n few in
       record {
-        read = record { axioms = axioms; classes = workload_classes n; roles = workload_roles };
+        read = record { axioms = axioms; classes = workload_classes n; roles = workload_roles; individuals = [] };
         kept = record { prefixes = known; nodes = 13 * n + 18 };
         end = 66 + length (lines_text phrases) + 1;
         is_document = record {
@@ -153,6 +153,7 @@ module _ (n : ℕ) (few : n ≤ 4000) where
         alone = subst (IsGap true) (sym (behind_bracket (lines_text phrases))) (space 10 [] refl nothing);
         classes = refl;
         roles = refl;
+        individuals = refl;
         axioms = same_axioms;
         count = sym (length-map axioms plain) ∙ ap length same_axioms ∙ axiom_count n;
         knows = known_iri;
