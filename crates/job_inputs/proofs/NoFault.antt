@@ -5,7 +5,6 @@ use Rattle.job_inputs.specs.Answer.{is_fault}
 use Rattle.job_inputs.specs.declared.complaint.Sort.{Sort}
 use Rattle.job_inputs.specs.declared.complaint.Sort.TheVariants as S
 use Rattle.job_inputs.specs.declared.status.Status.{Status}
-use Rattle.job_inputs.specs.declared.status.Status.TheVariants.{BadText, Outside, Limit, NoMemory}
 use Rattle.job_inputs.specs.Replies.{message_answer}
 use Rattle.job_inputs.specs.declared.verdict.Verdict.TheVariants.{NotEntailed, Entailed, Axiom, Query, Line}
 use Rattle.job_inputs.specs.declared.message.Message.{Message}

@@ -6,14 +6,13 @@ use Rattle.ofn_expressions.specs.Counts.{Counts}
 use Rattle.ofn_expressions.specs.declared.refusal.Refusal.{Refusal}
 use Rattle.ofn_expressions.specs.declared.refusal.Refusal.TheVariants.{BadShape}
 use Rattle.ofn_reader.specs.DocumentContext.{DocumentContext}
-use Rattle.ofn_reader.specs.Documents.{IsDocument}
 use Rattle.ofn_reader.specs.Queries.{query_start}
 use Rattle.ofn_reader.proofs.Unique.{documents, documents_not_refused, queries, queries_not_refused, classes, classes_not_refused}
 use Rattle.ofn_reader.proofs.OneReason.{document_refusals, query_refusals, class_refusals}
 use Rattle.text_laws.specs.LimitLaws.{with_names}
-use Rattle.job_inputs.specs.Asked.{Reply, refused_document, refused_query}
+use Rattle.job_inputs.specs.Asked.{refused_document, refused_query}
 use Rattle.job_inputs.specs.Rest.{IsOnlyGap, IsStray, line_at}
-use Rattle.job_inputs.specs.Questions.{Text, has_element, follows, IsAskedBy, IsNotAskedBy, IsDocumentAlone, IsNotAlone, no_document, more, IsRefusedQuestion, document, query}
+use Rattle.job_inputs.specs.Questions.{Text, has_element, follows, IsAskedBy, IsNotAskedBy, IsDocumentAlone, no_document, more, document, query}
 use Rattle.job_inputs.specs.Laws.{DocumentsAloneAreNotRefused, DocumentAloneRefusalsAreUnique, QuestionsAreUnique, QuestionsAreNotRefused, QuestionRefusalsAreUnique}
 use Rattle.job_inputs.proofs.Strays.{gaps_have_no_stray, strays_are_unique}
 
@@ -41,7 +40,8 @@ same_asked o kept (follows inclusion) a b p q x y = queries kept.prefixes o.axio
 same_asked o kept (has_element class) a b p q x y =
     let same = classes kept.prefixes o.axioms (query_start o kept.nodes) class a b p.sub q.sub x.0 y.0 in
     let sups : p.sup ≡ q.sup = x.1 ∙ sym y.1 in
-    (same.0, λ i. record { sub = same.1 i; sup = sups i })
+    let ons : p.on ≡ q.on = x.2 ∙ sym y.2 in
+    (same.0, λ i. record { sub = same.1 i; sup = sups i; on = ons i })
 
 asked_not_refused : (o : Listed) (kept : DocumentContext) (question : Text) (a : Counts) (q : Asked) (e : Refusal) → IsAskedBy o kept question a q → IsNotAskedBy o kept question e → ⊥
 asked_not_refused o kept (follows inclusion) a q e x why = queries_not_refused kept.prefixes o.axioms (query_start o kept.nodes) inclusion a q e x why

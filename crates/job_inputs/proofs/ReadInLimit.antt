@@ -2,6 +2,7 @@
 use Rattle.std.proofs.Common.{◌≡◌, ℕ, List, sym, subst}
 use Rattle.shq_terms.specs.Concept.{bottom}
 use Rattle.shq_terms.specs.Listed.{Listed}
+use Rattle.shq_terms.specs.declared.axioms.On.TheVariants.{Any}
 use Rattle.shq_terms.specs.declared.axioms.Query.{Query as Asked}
 use Rattle.ofn_reader.specs.DocumentContext.{DocumentContext}
 use Rattle.ontology_limits.specs.Limits.{IsInLimit}
@@ -12,8 +13,8 @@ use Rattle.job_inputs.specs.Questions.{Text, has_element, follows, IsDocumentAlo
 pub question_in_limit : (bytes : List ℕ) (o : Listed) (kept : DocumentContext) (question : Text) (both : Listed) (q : Asked) → IsDocumentAlone bytes o kept → IsReadQuestion o kept question both q → IsInLimit both q
 question_in_limit bytes o kept (follows inclusion) both q d x = subst (λ l. IsInLimit l q) (sym x.both_are) (queries_in_limit bytes o kept d.end d.is_document inclusion x.counts q x.is_asked)
 question_in_limit bytes o kept (has_element class) both q d x =
-    let nothing : Asked = record { sub = q.sub; sup = bottom } in
-    let same : nothing ≡ q = λ i. record { sub = q.sub; sup = sym x.is_asked.1 i } in
+    let nothing : Asked = record { sub = q.sub; sup = bottom; on = Any } in
+    let same : nothing ≡ q = λ i. record { sub = q.sub; sup = sym x.is_asked.1 i; on = sym x.is_asked.2 i } in
     subst (IsInLimit both) same (subst (λ l. IsInLimit l nothing) (sym x.both_are) (classes_in_limit bytes o kept d.end d.is_document class x.counts q.sub x.is_asked.0))
 
 pub question_writable : (bytes : List ℕ) (o : Listed) (kept : DocumentContext) (question : Text) (both : Listed) (q : Asked) → IsDocumentAlone bytes o kept → IsReadQuestion o kept question both q → AreWritable both

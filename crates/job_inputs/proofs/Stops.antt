@@ -1,6 +1,5 @@
 -- Why a reader stopped, and what keeps a document or a query from being read then.
 use Rattle.std.proofs.Common.{◌≡◌, ◌≢◌, ℕ, List, sym, subst}
-use Rattle.certificate_lines.specs.declared.fault.LineFault.TheVariants.{NoMemory}
 use Rattle.shq_terms.specs.Listed.{Listed}
 use Rattle.ofn_expressions.specs.declared.refusal.Refusal.{Refusal}
 use Rattle.ofn_expressions.specs.declared.refusal.Refusal.TheVariants as R

@@ -2,6 +2,7 @@
 use Rattle.std.specs.Prelude.{◌≡◌, ℕ, ◌+◌, List, drop}
 use Rattle.shq_terms.specs.Concept.{Concept, bottom}
 use Rattle.shq_terms.specs.Listed.{Listed}
+use Rattle.shq_terms.specs.declared.axioms.On.TheVariants.{Any}
 use Rattle.shq_terms.specs.declared.axioms.Query.{Query as Asked}
 use Rattle.ofn_expressions.specs.Counts.{Counts}
 use Rattle.ofn_expressions.specs.declared.refusal.Refusal.{Refusal}
@@ -33,9 +34,10 @@ abbrev pub question_text : Question → Text
 question_text (Q.HasElement class) = has_element class.now
 question_text (Q.Follows inclusion) = follows inclusion.now
 
--- the query of a question on a document; that a class expression has an element is refuted by its inclusion in nothing
+-- the query of a question on a document; that a class expression has an element is refuted by its inclusion in nothing,
+-- of any element
 abbrev pub IsAskedBy : Listed → DocumentContext → Text → Counts → Asked → Type 0
-IsAskedBy o kept (has_element class) counts q = IsClassOf o kept class counts q.sub × (q.sup ≡ bottom)
+IsAskedBy o kept (has_element class) counts q = IsClassOf o kept class counts q.sub × (q.sup ≡ bottom) × (q.on ≡ Any)
 IsAskedBy o kept (follows inclusion) counts q = IsAsked o kept inclusion counts q
 
 -- why the text is no question on a document

@@ -1,5 +1,5 @@
 -- What is answered to a verification.
-use Rattle.std.specs.Prelude.{◌≡◌, ℕ, ◌++◌, codes, decimal, Some, Result, Ok, Err}
+use Rattle.std.specs.Prelude.{ℕ, ◌++◌, codes, decimal, Some, Result, Ok, Err}
 use Rattle.job_inputs.specs.Answer.{line, no_memory, Answer, complaint_answer}
 use Rattle.job_inputs.specs.Complaints.{complaint, plain_complaint}
 use Rattle.job_inputs.specs.declared.complaint.Place.TheVariants as P

@@ -9,7 +9,7 @@ use crate::rest::first_stray;
 use crate::unread::Unread;
 use ofn_reader::{Context, Refusal, read_class};
 use ofn_tree::end_line;
-use shq_terms::{Concept, Node, Ontology, Query};
+use shq_terms::{Concept, Node, On, Ontology, Query};
 use std::alloc::Global;
 
 /// What is asked of a document.
@@ -110,10 +110,11 @@ fn query_of_class(
 
 // That the class expression has no element.
 fn within_nothing(sub: Concept) -> Query
-    ensures { result ≡ record { sub = sub; sup = bottom } }
+    ensures { result ≡ record { sub = sub; sup = bottom; on = On.Any } }
 {
     Query {
         sub,
         sup: Concept { node: Node::Bottom },
+        on: On::Any,
     }
 }

@@ -1,4 +1,4 @@
-use Rattle.std.proofs.Common.{sym, ap, subst}
+use Rattle.std.proofs.Common.{sym, subst}
 use Rattle.std.proofs.lemmas.Result.{err_from_is_err_and}
 use Rattle.ofn_expressions.specs.declared.refusal.Refusal.TheVariants.{BadShape}
 use Rattle.job_inputs.specs.Questions.{IsNotAlone, more}

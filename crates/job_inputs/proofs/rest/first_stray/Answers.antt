@@ -1,4 +1,4 @@
-use Rattle.std.proofs.Common.{arith, ◌<◌, length}
+use Rattle.std.proofs.Common.{arith}
 use Rattle.job_inputs.proofs.Skipping.{skips_all}
 use Rattle.job_inputs.proofs.rest.first_stray.Goals as goal
 

@@ -1,4 +1,4 @@
-use Rattle.std.proofs.Common.{◌≡◌, refl, sym, ◌∙◌}
+use Rattle.std.proofs.Common.{refl, sym, ◌∙◌}
 use Rattle.job_inputs.proofs.Skipping.{space_skips, comment_skips, stray_first}
 use Rattle.job_inputs.proofs.rest.gap_len.Goals as goal
 
