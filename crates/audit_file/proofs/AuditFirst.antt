@@ -1,5 +1,5 @@
 -- The malformed line that is told of lines that are no audit is the first.
-use Rattle.std.proofs.Common.{◌≡◌, ◌⊎◌, ℕ, suc, ◌+◌, ◌<◌, ◌≤◌, List, ◌++◌, length, take, Result, Ok, Err, refl, ap, sym, ◌∙◌, subst, arith, inl, inr}
+use Rattle.std.proofs.Common.{◌≡◌, ℕ, suc, ◌+◌, ◌≤◌, List, ◌++◌, length, take, Ok, Err, ap, ◌∙◌, arith, inl, inr}
 use Rattle.std.specs.Prelude.{codes}
 use Rattle.std.proofs.lemmas.List.{length-take}
 use Rattle.shq_terms.specs.Listed.{Listed}
@@ -13,7 +13,7 @@ use Rattle.audit_file.specs.AuditLists.{AuditLists, last_justified, last_repaire
 use Rattle.audit_file.specs.AuditText.{Ahead, Reads, read_on, line_read, times, fixed, count_in, set_in, refutation_read, model_read, justification_read, repair_read, counted_read, justifications_read, repairs_read, blank_read, end_read, closed, audit_read, audit_in}
 use Rattle.audit_file.specs.Malformed.{LacksAtMostNext, IsFirstOutside, AuditsTellMalformed}
 use Rattle.audit_file.proofs.Cut.{refutation_ends, model_ends}
-use Rattle.audit_file.proofs.Fronts.{at_lines, IsFront, Ends, IsLast, both_front, both_last, line_front, done_front, times_front, blank_last, mapped_last}
+use Rattle.audit_file.proofs.Fronts.{IsFront, Ends, IsLast, both_front, both_last, line_front, done_front, times_front, blank_last, mapped_last}
 use Rattle.audit_file.proofs.BlockFront.{HasEnd, body_has, line_has, block_front}
 
 refutation_has : (o : Listed) → HasEnd (refutation_of o)

@@ -1,14 +1,14 @@
 -- The first malformed line of a block is that of the lines in which it stands.
-use Rattle.std.proofs.Common.{◌≡◌, ℕ, zero, suc, ◌+◌, ◌-◌, ◌<◌, ◌≤◌, Bool, true, false, ◌||◌, List, [], ◌∷◌, ◌++◌, length, take, drop, Result, Ok, Err, Option, Some, None, refl, ap, sym, ◌∙◌, subst, arith, append_assoc, inl, inr, length-append}
-use Rattle.std.specs.Prelude.{option_and_then, if◌then◌else◌}
-use Rattle.std.specs.List.{list_any, list_all}
-use Rattle.std.proofs.lemmas.Bool.{cases_lt, cases_eq, cases_Bool, or_left, or_right, false≢true}
+use Rattle.std.proofs.Common.{◌≡◌, ℕ, zero, suc, ◌+◌, ◌-◌, ◌<◌, ◌≤◌, Bool, true, false, ◌||◌, List, [], ◌∷◌, ◌++◌, length, take, drop, Ok, Err, Option, Some, None, refl, ap, sym, ◌∙◌, subst, arith, append_assoc, inl, inr}
+use Rattle.std.specs.Prelude.{if◌then◌else◌}
+use Rattle.std.specs.List.{list_any}
+use Rattle.std.proofs.lemmas.Bool.{cases_lt, cases_Bool, or_left, or_right, false≢true}
 use Rattle.std.proofs.lemmas.List.{take-take, take-append-drop, take-append-le, take_all, length-take, append-nil}
 use Rattle.std.proofs.lemmas.List.Folds.{list_any-append}
 use Rattle.std.proofs.Math.Seq.{take-append_seam, drop-append_seam}
 use Rattle.certificate_lines.specs.Body.{is_end_line, after_line, read_body}
 use Rattle.certificate_lines.specs.Malformed.{BeginsText, StopsAfter, TellsMalformed}
-use Rattle.certificate_lines.proofs.Body.{body_end, body_line}
+use Rattle.certificate_lines.proofs.Body.{body_line}
 use Rattle.refutation_tree.proofs.Writable.{and_then_some}
 use Rattle.audit_file.specs.AuditText.{Ahead, Reads, block_len, block, behind_block, line_of_block, block_read}
 use Rattle.audit_file.proofs.Times.{block_ok, block_none}

@@ -1,5 +1,5 @@
 -- Lines that were taken, and those behind them.
-use Rattle.std.proofs.Common.{◌≡◌, ℕ, ◌+◌, ◌-◌, List, map, take, drop, length, ap, sym, ◌∙◌, arith}
+use Rattle.std.proofs.Common.{◌≡◌, ℕ, ◌+◌, ◌-◌, List, take, drop, length, ap, sym, ◌∙◌, arith}
 use Rattle.std.proofs.lemmas.List.{take-map, drop-map, take_all, length-drop}
 use Rattle.certificate_lines.specs.Lines.{bytes_of}
 use Rattle.audit_file.specs.AuditText.{Ahead, block_len, block, behind_block}

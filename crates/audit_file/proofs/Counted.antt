@@ -1,5 +1,5 @@
 -- How many lines a text has at least.
-use Rattle.std.proofs.Common.{◌≡◌, ℕ, ◌+◌, ◌^◌, ◌<◌, ◌≤◌, Bool, true, List, [], ◌∷◌, ◌++◌, length, map, Ok, refl, ap, sym, ◌∙◌, subst, arith, get_or}
+use Rattle.std.proofs.Common.{◌≡◌, ℕ, ◌+◌, ◌^◌, ◌<◌, ◌≤◌, List, [], ◌∷◌, ◌++◌, length, map, refl, ◌∙◌, arith, get_or}
 use Rattle.std.specs.Prelude.{nat_eq, codes, decimal, cond, count_by}
 use Rattle.std.specs.List.{All, slice_split, flat_map}
 use Rattle.std.specs.Str.Lines.{strip_carriage_return}
@@ -8,16 +8,13 @@ use Rattle.std.proofs.lemmas.List.Splits.{length-slice_split}
 use Rattle.std.proofs.lemmas.List.Sums.{sum_by-append}
 use Rattle.axiom_sets.specs.Sets.{Limited, member_list, IsWithin}
 use Rattle.certificate_lines.specs.Lines.{lines}
-use Rattle.certificate_lines.specs.Names.{AreNames}
 use Rattle.certificate_lines.specs.Written.{fed, line_of}
 use Rattle.shq_terms.specs.Listed.{Listed}
-use Rattle.refutation_tree.specs.ReadBack.{IsWritable}
 use Rattle.refutation_tree.specs.Written.{refutation_text}
 use Rattle.finite_model.specs.Written.{model_text}
 use Rattle.audit_file.specs.AuditLists.{AuditLists}
-use Rattle.audit_file.specs.AuditText.{audit_in}
-use Rattle.audit_file.specs.Fitting.{IsOfAxioms, AreOfAxioms}
-use Rattle.audit_file.specs.Written.{set_text, count_text, justification_text, repair_text, justifications_text, repairs_text, audit_text, IsSetOf, IsWritableAudit, IsKeptAudit, WhatIsWrittenIsRead}
+use Rattle.audit_file.specs.Fitting.{IsOfAxioms}
+use Rattle.audit_file.specs.Written.{set_text, count_text, justification_text, repair_text, justifications_text, repairs_text, audit_text, IsSetOf, WhatIsWrittenIsRead}
 use Rattle.audit_file.specs.declared.entries.Justification.{Justification}
 use Rattle.audit_file.specs.declared.entries.Repair.{Repair}
 use Rattle.audit_file.proofs.TextBack.{audits_back}
@@ -78,9 +75,9 @@ of_both : {X : Type 0} (P Q R : X → Type 0) → ((x : X) → P x → Q x → R
 of_both P Q R f xs p q k d lt = f (get_or xs k d) (p k d lt) (q k d lt)
 
 pub written_is_read : WhatIsWrittenIsRead
-written_is_read o a classes roles axioms over refutations kept short =
+written_is_read o a classes roles individuals axioms over refutations kept short =
     let small = few o a short in
-    audits_back o a classes roles (record {
+    audits_back o a classes roles individuals (record {
       ordered = kept.ordered;
       few_axioms = axioms;
       few_justifications = small.0;

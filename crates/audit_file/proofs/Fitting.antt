@@ -1,6 +1,6 @@
 -- What is known of an audit that was read.
-use Rattle.std.proofs.Common.{◌≡◌, ℕ, zero, suc, ◌+◌, ◌^◌, ◌<◌, ◌≤◌, Bool, true, false, List, [], ◌∷◌, ◌++◌, length, take, drop, Result, Ok, Err, Option, Some, None, refl, ap, sym, ◌∙◌, subst, arith}
-use Rattle.std.specs.Prelude.{codes, option_map, option_and_then, if◌then◌else◌}
+use Rattle.std.proofs.Common.{◌≡◌, ℕ, zero, suc, ◌+◌, ◌^◌, ◌<◌, ◌≤◌, List, [], ◌∷◌, length, Result, Ok, Err, Option, Some, None, refl, ap, sym, ◌∙◌, subst, arith}
+use Rattle.std.specs.Prelude.{codes, option_map}
 use Rattle.std.specs.Result.{result_map_both}
 use Rattle.std.specs.List.{All}
 use Rattle.std.specs.Str.{bytes_eq}
@@ -9,7 +9,6 @@ use Rattle.std.proofs.lemmas.List.Elements.{All-push}
 use Rattle.axiom_sets.specs.Sets.{Limited}
 use Rattle.certificate_lines.specs.Lines.{words}
 use Rattle.shq_terms.specs.Listed.{Listed}
-use Rattle.finite_model.specs.ModelLists.{ModelLists}
 use Rattle.finite_model.specs.ModelText.{elements_from, model_of}
 use Rattle.finite_model.specs.Malformed.{malformed_model_line}
 use Rattle.refutation_tree.specs.RefutationLists.{RefutationLists}

@@ -1,5 +1,5 @@
 -- Lists that stay in the order of sets.
-use Rattle.std.proofs.Common.{◌≡◌, ℕ, zero, suc, ◌+◌, ◌-◌, ◌<◌, ◌≤◌, Bool, true, false, List, [], ◌∷◌, ◌++◌, length, map, get_or, refl, ap, sym, ◌∙◌, subst, arith, inl, inr, Option, Some, None}
+use Rattle.std.proofs.Common.{◌≡◌, ℕ, ◌+◌, ◌-◌, ◌<◌, true, false, List, [], ◌∷◌, ◌++◌, length, map, get_or, refl, ap, sym, ◌∙◌, subst, arith, inl, inr, Option}
 use Rattle.std.specs.Prelude.{slice_get, option_map}
 use Rattle.std.specs.Ordering.{is_lt}
 use Rattle.std.specs.declared.cmp.Ordering.{Ordering}
@@ -10,9 +10,7 @@ use Rattle.std.proofs.lemmas.Option.{slice_get-map, slice_get-get_or}
 use Rattle.axiom_sets.specs.Sets.{Limited, list_cmp}
 use Rattle.pinpointing_specs.specs.Order.{IsAscending}
 use Rattle.set_questions.proofs.Ordered.{less_less}
-use Rattle.audit_file.specs.AuditLists.{justified_sets, repaired_sets, last_justified, last_repaired, follows}
-use Rattle.audit_file.specs.declared.entries.Justification.{Justification}
-use Rattle.audit_file.specs.declared.entries.Repair.{Repair}
+use Rattle.audit_file.specs.AuditLists.{follows}
 
 is_less : (o : Ordering) → is_lt o ≡ true → o ≡ Less
 is_less Less h = refl

@@ -1,7 +1,6 @@
 -- The text of an audit is read back whole.
-use Rattle.std.proofs.Common.{◌≡◌, ℕ, zero, suc, ◌+◌, ◌-◌, ◌^◌, ◌<◌, ◌≤◌, Bool, true, false, List, [], ◌∷◌, ◌++◌, length, map, take, drop, get_or, Result, Ok, Err, Option, Some, None, refl, ap, sym, ◌∙◌, subst, arith, append_assoc, inl, inr}
+use Rattle.std.proofs.Common.{◌≡◌, ℕ, suc, ◌+◌, ◌-◌, ◌^◌, ◌<◌, ◌≤◌, true, List, [], ◌∷◌, ◌++◌, length, map, drop, get_or, Result, Ok, Err, Option, Some, None, refl, ap, sym, ◌∙◌, subst, arith, append_assoc, inl, inr}
 use Rattle.std.specs.Prelude.{codes, decimal, slice_get, option_map, option_and_then, if◌then◌else◌}
-use Rattle.std.specs.Result.{result_map_both}
 use Rattle.std.specs.List.{All, list_all, flat_map}
 use Rattle.std.specs.Str.{bytes_eq}
 use Rattle.std.specs.Ordering.{is_lt}
@@ -13,30 +12,30 @@ use Rattle.std.proofs.Math.Seq.{get_or-append_seam}
 use Rattle.axiom_sets.specs.Sets.{Limited, IsWithin, member_list, list_cmp}
 use Rattle.axiom_sets.proofs.Listed.{member_list-at, member_list-ascends}
 use Rattle.pinpointing_specs.specs.Order.{IsAscending}
-use Rattle.certificate_lines.specs.Lines.{lines, words, number_in}
+use Rattle.certificate_lines.specs.Lines.{lines, number_in}
 use Rattle.certificate_lines.specs.Names.{is_word_byte, AreNames}
-use Rattle.certificate_lines.specs.Written.{fed, line_of, text_of, is_line}
+use Rattle.certificate_lines.specs.Written.{fed, line_of, is_line}
 use Rattle.certificate_lines.proofs.Plain.{plain_words, plain_line, plain_decimal}
 use Rattle.certificate_lines.proofs.ReadBack.{number_read}
 use Rattle.shq_terms.specs.Listed.{Listed}
 use Rattle.finite_model.specs.ModelLists.{ModelLists}
-use Rattle.finite_model.specs.ModelText.{elements_from, model_of}
+use Rattle.finite_model.specs.ModelText.{model_of}
 use Rattle.finite_model.specs.Malformed.{malformed_model_line}
 use Rattle.finite_model.specs.Written.{model_text}
 use Rattle.finite_model.specs.ReadBack.{IsKept}
 use Rattle.finite_model.proofs.Numerals.{Ascend, elements_read}
-use Rattle.finite_model.proofs.TextLines.{class_rows, role_rows, size_row, model_rows, model_text_same}
+use Rattle.finite_model.proofs.TextLines.{class_rows, role_rows, individual_rows, size_row, model_text_same}
 use Rattle.finite_model.proofs.TextBack.{model_read_back}
 use Rattle.refutation_tree.specs.RefutationLists.{RefutationLists}
 use Rattle.refutation_tree.specs.RefutationText.{axiom_set, refutation_of}
 use Rattle.refutation_tree.specs.Malformed.{malformed_refutation_line}
-use Rattle.refutation_tree.specs.Written.{concept_lines, rule_text, axioms_text, refutation_lines, refutation_text}
+use Rattle.refutation_tree.specs.Written.{concept_lines, rule_text, axioms_text, refutation_text}
 use Rattle.refutation_tree.specs.ReadBack.{IsWritable}
 use Rattle.refutation_tree.proofs.FieldsBack.{numbers_plain}
 use Rattle.refutation_tree.proofs.AxiomsBack.{members_again, members_small}
 use Rattle.refutation_tree.proofs.TextBack.{refutation_read_back}
 use Rattle.audit_file.specs.AuditLists.{AuditLists, justified_sets, repaired_sets, last_justified, last_repaired, follows, with_justification, with_repair, empty_audit}
-use Rattle.audit_file.specs.AuditText.{Ahead, Reads, read_on, line_from, line_read, block_len, block, behind_block, block_read, times, fixed, count_line, count_in, numbers_set, set_line, later_set, set_in, refutation_read, model_read, justification_read, repair_read, counted_read, justifications_read, repairs_read, end_read, closed, audit_read, audit_in}
+use Rattle.audit_file.specs.AuditText.{Ahead, Reads, read_on, line_from, line_read, block_len, block_read, times, fixed, count_line, count_in, numbers_set, set_line, later_set, set_in, refutation_read, model_read, justification_read, repair_read, justifications_read, repairs_read, closed, audit_in}
 use Rattle.audit_file.specs.Written.{set_text, count_text, justification_text, repair_text, justifications_text, repairs_text, audit_text, IsSetOf, IsWritableAudit, AuditsAreReadBack}
 use Rattle.audit_file.specs.declared.entries.Justification.{Justification}
 use Rattle.audit_file.specs.declared.entries.Repair.{Repair}
@@ -118,7 +117,7 @@ module _ {K : Type 0} (reading : List (List ℕ) → Option K) (malformed : List
             ∙ (λ i. Ok (k, record { number = n + block_len ls; lines = (ap (λ m. drop m ls) long ∙ drop_rows rows (lines t)) i })),
       )
 
-module _ (o : Listed) (classes : AreNames o.classes) (roles : AreNames o.roles) where
+module _ (o : Listed) (classes : AreNames o.classes) (roles : AreNames o.roles) (individuals : AreNames o.individuals) where
   refutation_front : (k : RefutationLists) → IsWritable o k → ReadsFront (refutation_read o) (refutation_text o k) k
   refutation_front k can =
       block_front (refutation_of o) (malformed_refutation_line o) (refutation_ends o) (refutation_text o k) (ends_with_end (codes "refutation") (axioms_text k.axioms ∷ concept_lines o 1 k.shapes ++ map (rule_text o) k.lines)) k
@@ -127,7 +126,7 @@ module _ (o : Listed) (classes : AreNames o.classes) (roles : AreNames o.roles) 
   model_front : (k : ModelLists) → IsKept o k → ReadsFront (model_read o) (model_text o k) k
   model_front k kept =
       block_front (model_of o) (malformed_model_line o) (model_ends o) (model_text o k)
-      (subst EndsWithEnd (sym (model_text_same o k)) (ends_with_end (size_row k.size) (class_rows 0 o.classes k.members ++ role_rows 0 o.roles k.links))) k (model_read_back o k classes roles kept)
+      (subst EndsWithEnd (sym (model_text_same o k)) (ends_with_end (size_row k.size) (class_rows 0 o.classes k.members ++ role_rows 0 o.roles k.links ++ individual_rows 0 o.individuals k.individuals))) k (model_read_back o k classes roles individuals kept)
 
 -- ---- one after another
 
@@ -180,7 +179,7 @@ first_all P x xs all = all 0 x (omega arith)
 rest_all : {X : Type 0} (P : X → Type 0) (x : X) (xs : List X) → All P (x ∷ xs) → All P xs
 rest_all P x xs all k d lt = all (suc k) d (omega (arith, lt))
 
-module _ (o : Listed) (classes : AreNames o.classes) (roles : AreNames o.roles) (few : length o.axioms + 1 < 2 ^ 32) where
+module _ (o : Listed) (classes : AreNames o.classes) (roles : AreNames o.roles) (individuals : AreNames o.individuals) (few : length o.axioms + 1 < 2 ^ 32) where
   set_small : (s : Limited) → IsSetOf o s → s.limit + 1 < 2 ^ 32
   set_small s is = omega (arith, few, is.limit)
 
@@ -189,7 +188,7 @@ module _ (o : Listed) (classes : AreNames o.classes) (roles : AreNames o.roles) 
       both (line_read (set_in (length o.axioms) (last_justified a))) (λ s from. read_on (refutation_read o from) (λ r next. Ok (with_justification s r a, next))) (set_text j.set) (refutation_text o j.refutation) j.set (with_justification j.set j.refutation a)
       (set_front j.set of.within (set_small j.set of) (length o.axioms) (last_justified a) of.limit after)
       (at_end (λ from. read_on (refutation_read o from) (λ r next. Ok (with_justification j.set r a, next))) (refutation_text o j.refutation) (with_justification j.set j.refutation a)
-      (both (refutation_read o) (λ r next. Ok (with_justification j.set r a, next)) (refutation_text o j.refutation) [] j.refutation (with_justification j.set j.refutation a) (refutation_front o classes roles j.refutation can)
+      (both (refutation_read o) (λ r next. Ok (with_justification j.set r a, next)) (refutation_text o j.refutation) [] j.refutation (with_justification j.set j.refutation a) (refutation_front o classes roles individuals j.refutation can)
       (nothing_more (with_justification j.set j.refutation a) (with_justification j.set j.refutation a) refl)))
 
   one_repair : (a : AuditLists) (r : Repair) → IsSetOf o r.set → IsKept o r.model → follows (last_repaired a) r.set ≡ true → ReadsFront (repair_read o a) (repair_text o r) (with_repair r.set r.model a)
@@ -197,7 +196,7 @@ module _ (o : Listed) (classes : AreNames o.classes) (roles : AreNames o.roles) 
       both (line_read (set_in (length o.axioms) (last_repaired a))) (λ s from. read_on (model_read o from) (λ m next. Ok (with_repair s m a, next))) (set_text r.set) (model_text o r.model) r.set (with_repair r.set r.model a)
       (set_front r.set of.within (set_small r.set of) (length o.axioms) (last_repaired a) of.limit after)
       (at_end (λ from. read_on (model_read o from) (λ m next. Ok (with_repair r.set m a, next))) (model_text o r.model) (with_repair r.set r.model a)
-      (both (model_read o) (λ m next. Ok (with_repair r.set m a, next)) (model_text o r.model) [] r.model (with_repair r.set r.model a) (model_front o classes roles r.model kept)
+      (both (model_read o) (λ m next. Ok (with_repair r.set m a, next)) (model_text o r.model) [] r.model (with_repair r.set r.model a) (model_front o classes roles individuals r.model kept)
       (nothing_more (with_repair r.set r.model a) (with_repair r.set r.model a) refl)))
 
   abbrev justified : List Justification → List Repair → AuditLists
@@ -257,4 +256,4 @@ module _ (o : Listed) (classes : AreNames o.classes) (roles : AreNames o.roles) 
         ∙ lasts second.0
 
 pub audits_back : AuditsAreReadBack
-audits_back o a classes roles can = audit_read_back o classes roles can.few_axioms a can
+audits_back o a classes roles individuals can = audit_read_back o classes roles individuals can.few_axioms a can

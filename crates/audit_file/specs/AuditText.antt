@@ -1,9 +1,9 @@
 -- The text of an audit, line by line, and what it stands for. The first line has the number 1.
-use Rattle.std.specs.Prelude.{◌≡◌, ℕ, zero, suc, ◌+◌, ◌-◌, Bool, true, List, [], ◌∷◌, length, take, drop, map, codes, Option, Some, None, option_map, option_and_then, Result, Ok, Err, if◌then◌else◌}
+use Rattle.std.specs.Prelude.{◌≡◌, ℕ, zero, suc, ◌+◌, ◌-◌, List, [], ◌∷◌, length, take, drop, codes, Option, Some, None, option_map, option_and_then, Result, Ok, Err, if◌then◌else◌}
 use Rattle.std.specs.Result.{result_map_both}
 use Rattle.std.specs.Str.{bytes_eq}
 use Rattle.axiom_sets.specs.Sets.{Limited}
-use Rattle.certificate_lines.specs.Lines.{words, number_in, bytes_of}
+use Rattle.certificate_lines.specs.Lines.{words, number_in}
 use Rattle.certificate_lines.specs.Malformed.{first_unblank, clamped_line}
 use Rattle.certificate_lines.specs.Body.{is_end_line}
 use Rattle.certificate_lines.specs.declared.fault.LineFault.{LineFault}

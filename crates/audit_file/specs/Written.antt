@@ -1,5 +1,5 @@
 -- The text that is written of an audit.
-use Rattle.std.specs.Prelude.{◌≡◌, ℕ, ◌+◌, ◌^◌, ◌<◌, Bool, ◌&&◌, IsTrue, List, [], ◌∷◌, ◌++◌, map, length, codes, decimal, Ok}
+use Rattle.std.specs.Prelude.{◌≡◌, ℕ, ◌+◌, ◌^◌, ◌<◌, Bool, ◌&&◌, List, [], ◌∷◌, ◌++◌, map, length, codes, decimal, Ok}
 use Rattle.std.specs.List.{All, list_all, flat_map}
 use Rattle.axiom_sets.specs.Sets.{Limited, IsWithin, member_list}
 use Rattle.certificate_lines.specs.Lines.{lines}
@@ -63,7 +63,7 @@ pub record IsWritableAudit (o : Listed) (a : AuditLists) : Type 0 where
 
 -- the lines of an audit's text stand for this audit
 abbrev pub AuditsAreReadBack : Type 0
-AuditsAreReadBack = (o : Listed) (a : AuditLists) → AreNames o.classes → AreNames o.roles → IsWritableAudit o a → audit_in o (lines (audit_text o a)) ≡ Ok a
+AuditsAreReadBack = (o : Listed) (a : AuditLists) → AreNames o.classes → AreNames o.roles → AreNames o.individuals → IsWritableAudit o a → audit_in o (lines (audit_text o a)) ≡ Ok a
 
 -- An audit as it is kept, over listed names: its lists are in order, no set has a number above its limit, and each
 -- model is one that its text is read back to.
@@ -77,5 +77,5 @@ pub record IsKeptAudit (o : Listed) (a : AuditLists) : Type 0 where
 -- is read as that audit, if it has fewer than 2 ^ 32 lines.
 abbrev pub WhatIsWrittenIsRead : Type 0
 WhatIsWrittenIsRead =
-    (o : Listed) (a : AuditLists) → AreNames o.classes → AreNames o.roles → length o.axioms + 1 < 2 ^ 32 → AreOfAxioms o a → All (λ (j : Justification). IsWritable o j.refutation) a.justifications
+    (o : Listed) (a : AuditLists) → AreNames o.classes → AreNames o.roles → AreNames o.individuals → length o.axioms + 1 < 2 ^ 32 → AreOfAxioms o a → All (λ (j : Justification). IsWritable o j.refutation) a.justifications
     → IsKeptAudit o a → length (lines (audit_text o a)) < 2 ^ 32 → audit_in o (lines (audit_text o a)) ≡ Ok a

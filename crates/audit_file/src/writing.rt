@@ -16,8 +16,7 @@ use std::alloc::Global;
 impl Audit {
     /// Appends the text of the audit, or nothing: `audit`, `justifications M`, for each justification its line
     /// `set K ..` and the text of its refutation, `repairs P`, for each repair its line `set K ..` and the text of its
-    /// model, and `end audit`, each with a line feed after it. The classes and roles that it names are listed. The
-    /// memory is `alloc`'s.
+    /// model, and `end audit`, each with a line feed after it. The names in it are listed. The memory is `alloc`'s.
     ///
     /// What was written is read as this audit again, where [`what_is_written_is_read`](crate::what_is_written_is_read)
     /// says so.

@@ -1,6 +1,5 @@
 use Rattle.std.proofs.Common.{◌≡◌, ◌+◌, ◌≤◌, drop, map}
 use Rattle.std.specs.Prelude.{option_map}
-use Rattle.std.specs.FinSet as set
 use Rattle.finite_model.specs.ModelText.{elements_from}
 use Rattle.refutation_tree.specs.RefutationText.{with_numbers}
 use Rattle.audit_file.specs.AuditText.{numbers_set}

@@ -1,6 +1,5 @@
-use Rattle.std.proofs.Common.{◌≡◌, ◌∙◌, sym, subst}
+use Rattle.std.proofs.Common.{◌∙◌, sym, subst}
 use Rattle.std.proofs.lemmas.List.Elements.{All-push}
-use Rattle.audit_file.specs.AuditLists.{AuditLists}
 use Rattle.audit_file.specs.Fitting.{IsOfAxioms, AreOfAxioms}
 use Rattle.audit_file.specs.declared.entries.Repair.{Repair}
 use Rattle.audit_file.proofs.reading.read_repair.Goals as goal

@@ -1,10 +1,10 @@
-use Rattle.std.proofs.Common.{◌≡◌, ℕ, List, length, map, Result, Ok, Err, sym, subst, arith}
-use Rattle.std.specs.Prelude.{IfOk, OnOk}
+use Rattle.std.proofs.Common.{◌≡◌, ℕ, List, length, Result, Ok, Err, subst, arith}
+use Rattle.std.specs.Prelude.{IfOk}
 use Rattle.std.proofs.lemmas.List.{length-map}
 use Rattle.certificate_lines.specs.Lines.{bytes_of}
 use Rattle.certificate_lines.specs.declared.fault.LineFault.{LineFault}
 use Rattle.shq_terms.specs.Listed.{Listed}
-use Rattle.audit_file.specs.AuditLists.{AuditLists, empty_audit}
+use Rattle.audit_file.specs.AuditLists.{AuditLists}
 use Rattle.audit_file.specs.AuditText.{Ahead, audit_read, audit_in}
 use Rattle.audit_file.specs.Fitting.{Fits}
 use Rattle.audit_file.proofs.Fitting.{audit_fits}

@@ -1,4 +1,4 @@
-use Rattle.std.proofs.Common.{rules, ◌≡◌, sym, subst, List}
+use Rattle.std.proofs.Common.{rules, sym, subst, List}
 use Rattle.audit_file.specs.AuditLists.{justified_sets}
 use Rattle.audit_file.specs.declared.entries.Justification.{Justification}
 use Rattle.pinpointing_specs.specs.Order.{IsAscending}
