@@ -8,6 +8,7 @@ pub no_links : (k : ModelLists) (f : ℕ → ℕ → ℕ → Bool) → ((s x y :
 no_links k f none = record {
   same_size = refl;
   same_members = refl;
+  same_individuals = refl;
   links_are = λ s x y lt mt. sym (ap (λ (b : Bool). (meaning k).in_role s x y || b) (none s x y lt mt) ∙ or-false ((meaning k).in_role s x y));
 }
 
@@ -15,5 +16,6 @@ pub same_links_gained : (a b : ModelLists) (f h : ℕ → ℕ → ℕ → Bool) 
 same_links_gained a b f h first is = record {
   same_size = first.same_size;
   same_members = first.same_members;
+  same_individuals = first.same_individuals;
   links_are = λ s x y lt mt. first.links_are s x y lt mt ∙ ap (λ (t : Bool). (meaning a).in_role s x y || t) (sym (is s x y lt mt));
 }

@@ -48,6 +48,7 @@ pub member_gained : (k : ModelLists) (a x : ℕ) → HasMembers k (with_member a
 member_gained k a x = record {
   same_size = refl;
   same_links = refl;
+  same_individuals = refl;
   members_are = λ b y. any_inserted member_cmp (is_member b y) (a, x) (same_member b y (a, x)) k.members;
 }
 
@@ -55,6 +56,7 @@ pub link_gained : (k : ModelLists) (r v u : ℕ) → HasLinks k (with_link r v u
 link_gained k r v u = record {
   same_size = refl;
   same_members = refl;
+  same_individuals = refl;
   links_are = λ s x y lt mt. any_inserted link_cmp (is_link s x y) (r, v, u) (same_link s x y (r, v, u)) k.links;
 }
 

@@ -1,6 +1,10 @@
 -- The interpretation of the elements of a saturated trail is the trail's, and a counter-model.
 use Rattle.std.proofs.Common.{◌≡◌, ℕ, ◌<◌, ◌&&◌, Bool, true, List, [], ◌∷◌, length, get_or, refl, ap, ◌∙◌, sym, subst, arith, eq-eqb}
-use Rattle.std.specs.Prelude.{Option, nat_eq, nat_lt, IsTrue}
+use Rattle.std.specs.Prelude.{Option, Some, nat_eq, nat_lt, unwrap_or, cond, IsTrue}
+use Rattle.std.specs.BTreeMap.{is_at}
+use Rattle.std.specs.Map.{lookup}
+use Rattle.std.specs.Ordering.{nat_cmp}
+use Rattle.std.proofs.lemmas.Bool.Decides.{nat_tests}
 use Rattle.std.specs.List.{list_all}
 use Rattle.std.proofs.lemmas.Bool.{and_parts, and_from, lt-ltb, ltb-true}
 use Rattle.std.proofs.lemmas.List.{get_or-map}
@@ -14,7 +18,7 @@ use Rattle.role_box.specs.declared.role_axiom.RoleAxiom.{RoleAxiom}
 use Rattle.role_box.specs.RoleAxioms.{role_axioms}
 use Rattle.role_box.specs.Paths.{is_below}
 use Rattle.ontology_limits.specs.Limits.{IsInLimit}
-use Rattle.finite_model.specs.ModelLists.{ModelLists, IsDomain, meaning, is_member, is_link}
+use Rattle.finite_model.specs.ModelLists.{ModelLists, IsDomain, meaning, is_member, is_link, individuals_below, element_at}
 use Rattle.finite_model.specs.Written.{uses_listed_names}
 use Rattle.calculus_specs.specs.declared.facts.Fact.{Fact}
 use Rattle.calculus_specs.specs.State.{node_count, is_successor}
@@ -115,7 +119,16 @@ link_itself l =
     and_from (nat_eq l.0 l.0 && nat_eq l.1 l.1) (nat_eq l.2 l.2)
     (and_from (nat_eq l.0 l.0) (nat_eq l.1 l.1) (eq-eqb l.0 l.0 refl) (eq-eqb l.1 l.1 refl)) (eq-eqb l.2 l.2 refl)
 
-module _ (o : Listed) (k : ModelLists) (uses : UsesListed o (meaning k)) (domain : IsDomain k.size k.members k.links) where
+-- where each individual is the element 0, none is kept
+none_kept : (size : ℕ) (ps : List (ℕ × ℕ)) → individuals_below size ps ≡ true → ((a : ℕ) → element_at ps a ≡ 0) → ps ≡ []
+none_kept size [] inside first = refl
+none_kept size (p ∷ ps) inside first =
+    let here : is_at (nat_cmp p.0) p.0 ≡ true = grind (arith, nat_tests) in
+    let some : 0 < p.1 = ltb-true 0 p.1 (and_parts (nat_lt 0 p.1) (nat_lt p.1 size) (and_parts (nat_lt 0 p.1 && nat_lt p.1 size) (individuals_below size ps) inside).0).0 in
+    let none : p.1 ≡ 0 = sym (ap (λ b. unwrap_or (cond b (Some p.1) (lookup (is_at (nat_cmp p.0)) ps)) 0) here) ∙ first p.0 in
+    absurd (omega (arith, some, none))
+
+module _ (o : Listed) (k : ModelLists) (uses : UsesListed o (meaning k)) (domain : IsDomain k.size k.members k.links k.individuals) (first : (a : ℕ) → (meaning k).individual a ≡ 0) where
   members_listed : list_all (λ m. nat_lt m.0 (length o.classes)) k.members ≡ true
   members_listed = list_all-from_AllPass (λ (m : ℕ × ℕ). nat_lt m.0 (length o.classes)) k.members (λ n d lt.
       let m = get_or k.members n d in
@@ -131,4 +144,8 @@ module _ (o : Listed) (k : ModelLists) (uses : UsesListed o (meaning k)) (domain
       (list_any_at (is_link l.0 l.1 l.2) k.links n d lt (link_itself l))))
 
   pub names_listed : IsTrue (uses_listed_names o k)
-  names_listed = and_from (list_all (λ m. nat_lt m.0 (length o.classes)) k.members) (list_all (λ l. nat_lt l.0 (length o.roles)) k.links) members_listed links_listed
+  names_listed =
+      let individuals_listed : list_all (λ p. nat_lt p.0 (length o.individuals)) k.individuals ≡ true =
+      ap (list_all (λ (p : ℕ × ℕ). nat_lt p.0 (length o.individuals))) (none_kept k.size k.individuals domain.individuals_inside first) in
+      and_from (list_all (λ m. nat_lt m.0 (length o.classes)) k.members && list_all (λ l. nat_lt l.0 (length o.roles)) k.links) (list_all (λ p. nat_lt p.0 (length o.individuals)) k.individuals)
+      (and_from (list_all (λ m. nat_lt m.0 (length o.classes)) k.members) (list_all (λ l. nat_lt l.0 (length o.roles)) k.links) members_listed links_listed) individuals_listed
