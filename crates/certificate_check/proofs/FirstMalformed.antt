@@ -41,7 +41,7 @@ malformed_after o true ls = malformed_model_line o ls
 malformed_after o false ls = malformed_refutation_line o ls
 
 some_certificate : (o : Listed) → BeginsText (after_line verdict_in (text_after o)) []
-some_certificate o = (codes "satisfiable" ∷ codes "model 1" ∷ codes "end" ∷ [], Model (record { size = 1; members = []; links = [] }), refl)
+some_certificate o = (codes "satisfiable" ∷ codes "model 1" ∷ codes "end" ∷ [], Model (record { size = 1; members = []; links = []; individuals = [] }), refl)
 
 after_tells : (o : Listed) (k : Bool) → TellsMalformed 2 (text_after o k) (malformed_after o k)
 after_tells o true = made_tells Model (model_of o) 2 (malformed_model_line o) (model_tells o)

@@ -1,5 +1,5 @@
 -- What is read of an input, and what keeps it from being verified, from its parts to the whole.
-use Rattle.std.proofs.Common.{◌≡◌, ℕ, ◌≤◌, List, length, drop, Result, Ok, Err, refl, ap, sym, subst, ◌∙◌}
+use Rattle.std.proofs.Common.{◌≡◌, ℕ, ◌≤◌, List, length, drop, Result, Ok, Err, ap, sym, subst, ◌∙◌}
 use Rattle.std.specs.Prelude.{IfErr}
 use Rattle.std.specs.Result.{result_map_both}
 use Rattle.shq_terms.specs.Listed.{Listed}

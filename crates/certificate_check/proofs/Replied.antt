@@ -9,7 +9,6 @@ use Rattle.certificate_check.specs.Checking.{IsUnread, IsReply}
 use Rattle.job_inputs.specs.Replies.{reply_answer, check_answer}
 use Rattle.certificate_check.specs.Checked.{Checked}
 use Rattle.job_inputs.specs.declared.verdict.Verdict.{Verdict}
-use Rattle.job_inputs.specs.declared.verdict.Verdict.TheVariants.{Query, Line}
 use Rattle.job_inputs.specs.declared.unread.Unread.{Unread}
 use Rattle.job_inputs.specs.declared.unread.Unread.TheVariants as U
 

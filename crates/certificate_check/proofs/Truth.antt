@@ -21,13 +21,13 @@ all_met i k (a ∷ as_) none = by (all_met i (k + 1) as_) (meets i a.axiom) refl
     by rest true is = let others : first_unmet i (k + 1) as_ ≡ None = rw is at none in rw (is, rest others)
     by rest false is = let clash : Some k ≡ None = rw is at none in absurd (cc clash)
 
--- a model that is accepted meets all axioms and refutes the query
+-- a model that is accepted has the individuals among its elements, meets all axioms and refutes the query
 pub not_followed : (o : Listed) (q : Asked) (c : Certificate) → IsVerdictOn o q c NotEntailed → Entails (map (λ n. n.axiom) o.axioms) q → ⊥
 not_followed o q (C.Model m) accepted follows =
     let y = accepted.1.0 in
     let least = accepted.1.1 in
     let below = least.below in
-    let none : refutes_at (meaning m) q y ≡ false = follows (meaning m) (omega arith) (all_met (meaning m) 1 o.axioms accepted.0) y below in
+    let none : refutes_at (meaning m) q y ≡ false = follows (meaning m) (omega arith) accepted.2 (all_met (meaning m) 1 o.axioms accepted.0) y below in
     let clash : true ≡ false = sym least.passes ∙ none in
     absurd (cc clash)
 not_followed o q (C.Refutation r) accepted follows = absurd accepted
@@ -35,4 +35,4 @@ not_followed o q (C.Refutation r) accepted follows = absurd accepted
 -- what is refuted over the named axioms follows from all
 pub followed : (o : Listed) (q : Asked) (c : Certificate) → IsVerdictOn o q c Entailed → Entails (map (λ n. n.axiom) o.axioms) q
 followed o q (C.Model m) accepted = absurd accepted
-followed o q (C.Refutation r) accepted = entailed_by_all o.axioms (member_list r.axioms) q.sub q.sup r.shapes r.lines accepted
+followed o q (C.Refutation r) accepted = entailed_by_all o.axioms (member_list r.axioms) q.sub q.sup q.on r.shapes r.lines accepted

@@ -1,9 +1,9 @@
 -- What is verified, and what the verification says.
-use Rattle.std.specs.Prelude.{◌≡◌, ℕ, ◌+◌, List, [], ◌∷◌, length, Option, Some, None, Result, Ok, Err, drop, if◌then◌else◌}
+use Rattle.std.specs.Prelude.{◌≡◌, ℕ, ◌+◌, List, [], ◌∷◌, length, Option, Some, None, Ok, drop, if◌then◌else◌}
 use Rattle.shq_terms.specs.Listed.{Listed}
 use Rattle.shq_terms.specs.declared.axioms.Numbered.{Numbered}
 use Rattle.shq_terms.specs.declared.axioms.Query.{Query as Asked}
-use Rattle.shq_meaning.specs.Truth.{Interpretation, meets, refutes_at}
+use Rattle.shq_meaning.specs.Truth.{Interpretation, PlacesIndividuals, meets, refutes_at}
 use Rattle.shq_meaning.specs.Least.{IsFirstBelow}
 use Rattle.ontology_limits.specs.Limits.{IsInLimit}
 use Rattle.finite_model.specs.ModelLists.{ModelLists as Model, meaning}
@@ -59,10 +59,11 @@ abbrev pub first_unmet : Interpretation → ℕ → List Numbered → Option ℕ
 first_unmet i k [] = None
 first_unmet i k (a ∷ as_) = if meets i a.axiom then first_unmet i (k + 1) as_ else Some k
 
--- The verdict on a model: it meets each axiom and has a counter-element, and then the query does not follow; or some
--- axiom is the first that it does not meet; or it meets each and has no counter-element.
+-- The verdict on a model: it meets each axiom, has a counter-element and has the individuals among its elements, and then
+-- the query does not follow; or some axiom is the first that it does not meet; or it meets each and has no
+-- counter-element.
 abbrev pub IsOfModel : Listed → Asked → Model → Verdict → Type 0
-IsOfModel o q m NotEntailed = (first_unmet (meaning m) 1 o.axioms ≡ None) × ((x : ℕ) × IsFirstBelow m.size (refutes_at (meaning m) q) (Some x))
+IsOfModel o q m NotEntailed = (first_unmet (meaning m) 1 o.axioms ≡ None) × ((x : ℕ) × IsFirstBelow m.size (refutes_at (meaning m) q) (Some x)) × PlacesIndividuals (meaning m)
 IsOfModel o q m (Axiom k) = first_unmet (meaning m) 1 o.axioms ≡ Some k
 IsOfModel o q m Query = (first_unmet (meaning m) 1 o.axioms ≡ None) × IsFirstBelow m.size (refutes_at (meaning m) q) None
 IsOfModel o q m v = ⊥

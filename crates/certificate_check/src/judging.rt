@@ -38,6 +38,7 @@ fn judge_model(model: &Interp, ontology: &Ontology, asked: &Query) -> Verdict
     if let Some(number) = first_unmet(model, ontology) {
         return Verdict::Axiom(number);
     }
+    let _elements = model.size();
     match model.refutes(asked) {
         Some(_) => Verdict::NotEntailed,
         None => Verdict::Query,

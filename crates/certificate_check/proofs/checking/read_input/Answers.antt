@@ -2,7 +2,7 @@ use Rattle.std.proofs.Common.{subst}
 use Rattle.std.proofs.lemmas.Result.{err_from_is_err_and}
 use Rattle.certificate_check.specs.Checking.{IsUnclaimed}
 use Rattle.certificate_check.proofs.Reasons.{mapped_err, undocumented, unclaimed}
-use Rattle.certificate_check.proofs.InLimit.{input_in_limit}
+use Rattle.certificate_check.proofs.InLimit.{input_read, input_in_limit}
 use Rattle.certificate_check.proofs.checking.read_input.Goals as goal
 
 pub returns-in_err-ontology-clause-unread : goal.returns-in_err-ontology-clause-unread
@@ -24,3 +24,10 @@ returns-clause-within c =
     let claim = c.read_claim-claim in
     input_in_limit c.args.query.now c.args.bytes.now c.split_at.result.1.now o c.in_ok-ontology.context c.in_ok-ontology.end c.in_ok-ontology.ensures.document claim.new.ontology claim.result c.input_of.result c.input_of.ensures
     claim.ensures.claim claim.ensures.fits
+
+pub returns-clause-input : goal.returns-clause-input
+returns-clause-input c =
+    let o = c.in_ok-ontology.ontology in
+    let claim = c.read_claim-claim in
+    input_read c.args.query.now c.args.bytes.now c.split_at.result.1.now o c.in_ok-ontology.context c.in_ok-ontology.end c.in_ok-ontology.ensures.document claim.new.ontology c.split_at.ensures.back claim.result c.input_of.result c.input_of.ensures
+    claim.ensures.claim
