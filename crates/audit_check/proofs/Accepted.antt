@@ -1,12 +1,9 @@
 -- From places that hold to a sound audit, and back.
-use Rattle.std.proofs.Common.{◌≡◌, ℕ, ◌+◌, ◌<◌, List, length, map, get_or, refl, ap, sym, ◌∙◌, subst, arith, inl, inr}
-use Rattle.std.specs.Prelude.{slice_get, Some}
-use Rattle.std.specs.List.{Contains}
+use Rattle.std.proofs.Common.{◌≡◌, ℕ, ◌+◌, ◌<◌, List, length, get_or, refl, ap, sym, ◌∙◌, subst, arith, inl, inr}
 use Rattle.std.specs.declared.cmp.Ordering.TheVariants.{Less}
 use Rattle.std.specs.FinSet as set
 use Rattle.std.proofs.lemmas.Bool.{cases_lt}
 use Rattle.std.proofs.lemmas.List.{length-map, get_or_default}
-use Rattle.lane_sieve.specs.Sets.{NumberSet}
 use Rattle.axiom_sets.specs.Sets.{Limited, list_cmp}
 use Rattle.pinpointing_specs.specs.Order.{IsAscending}
 use Rattle.audit_check.specs.Audits.{IsAntichain}
@@ -19,7 +16,7 @@ use Rattle.certificate_lines.specs.Malformed.{clamped_line}
 use Rattle.audit_file.specs.AuditLists.{AuditLists, justified_sets, repaired_sets, IsOrdered}
 use Rattle.audit_file.specs.declared.entries.Justification.{Justification}
 use Rattle.audit_file.specs.declared.entries.Repair.{Repair}
-use Rattle.audit_check.specs.Sound.{IsShown, IsCounterModel, IsSound}
+use Rattle.audit_check.specs.Sound.{IsSound}
 use Rattle.audit_check.specs.Verdicts.{JustificationHolds, JustificationsHold, RepairHolds, RepairsHold, FailsFirst, IsFirstFailing, IsVerdict}
 use Rattle.audit_check.specs.Laws.{VerdictsAreUnique}
 use Rattle.audit_check.specs.declared.verdict.AuditVerdict.{AuditVerdict}

@@ -1,15 +1,14 @@
 -- The lists of a sound audit are all.
-use Rattle.std.proofs.Common.{◌≡◌, ℕ, List, length, map, refl, ap, sym, ◌∙◌, subst}
+use Rattle.std.proofs.Common.{◌≡◌, length, ap, sym, ◌∙◌, subst}
 use Rattle.std.specs.Prelude.{◌↔◌}
 use Rattle.std.specs.List.{All, Contains}
 use Rattle.axiom_sets.specs.Sets.{Limited, IsWithin}
 use Rattle.pinpointing_specs.specs.Smallest.{rest, IsMinimalYes, IsMinimalRemoval}
-use Rattle.pinpointing_specs.specs.LocalModule.{of_axioms, FollowsFrom, IsJustification, IsRepair}
+use Rattle.pinpointing_specs.specs.LocalModule.{of_axioms, FollowsFrom}
 use Rattle.pinpointing_specs.proofs.Kept.{grows}
 use Rattle.audit_check.specs.Audits.{IsAudited}
 use Rattle.audit_check.proofs.Audited.{audited_yes, audited_removals}
 use Rattle.shq_terms.specs.Listed.{Listed}
-use Rattle.shq_terms.specs.declared.axioms.Numbered.{Numbered}
 use Rattle.shq_terms.specs.declared.axioms.Query.{Query}
 use Rattle.audit_file.specs.AuditLists.{AuditLists, justified_sets, repaired_sets}
 use Rattle.audit_file.specs.Fitting.{IsOfAxioms, AreOfAxioms}

@@ -1,18 +1,17 @@
 -- What is shown of sets of axioms.
-use Rattle.std.proofs.Common.{◌≡◌, ℕ, zero, suc, ◌+◌, ◌-◌, ◌<◌, ◌≤◌, ◌||◌, ◌&&◌, Bool, true, false, List, [], ◌∷◌, ◌++◌, length, get_or, Option, Some, None, refl, ap, sym, ◌∙◌, subst, arith}
-use Rattle.std.specs.Prelude.{slice_get, IsTrue, if◌then◌else◌}
-use Rattle.std.specs.List.{list_all, All}
+use Rattle.std.proofs.Common.{◌≡◌, ℕ, suc, ◌+◌, ◌-◌, ◌<◌, ◌≤◌, ◌||◌, Bool, true, false, List, [], ◌∷◌, length, get_or, Option, Some, None, refl, ap, sym, ◌∙◌, arith}
+use Rattle.std.specs.Prelude.{slice_get, if◌then◌else◌}
+use Rattle.std.specs.List.{list_all}
 use Rattle.std.specs.FinSet as set
 use Rattle.std.proofs.lemmas.Bool.{and_parts, and_from, true≢false}
 use Rattle.std.proofs.lemmas.List.Folds.{list_all-append}
-use Rattle.lane_sieve.specs.Sets.{NumberSet, IsPart}
+use Rattle.lane_sieve.specs.Sets.{NumberSet}
 use Rattle.axiom_sets.specs.Sets.{Limited, IsWithin, member_list}
 use Rattle.axiom_sets.proofs.Listed.{member_list-at}
 use Rattle.pinpointing_specs.specs.Smallest.{rest}
 use Rattle.pinpointing_specs.specs.LocalModule.{axioms_from, axioms_in_set, FollowsFrom}
 use Rattle.pinpointing_specs.proofs.Choices.{in_rest}
 use Rattle.pinpointing_specs.proofs.InSet.{to_set}
-use Rattle.shq_terms.specs.declared.axioms.Axiom.{Axiom}
 use Rattle.shq_terms.specs.declared.axioms.Numbered.{Numbered}
 use Rattle.shq_terms.specs.declared.axioms.Query.{Query}
 use Rattle.shq_meaning.specs.Truth.{Interpretation, meets, meets_all, refutes_at}
@@ -43,10 +42,10 @@ module _ (axioms : List Numbered) (s : NumberSet) (i : Interpretation) (met : me
 
 -- a query with a valid refutation over a set follows from the set
 pub follows_over : (axioms : List Numbered) (s : Limited) (q : Query) (r : RefutationLists) → IsWithin s.limit s.members → IsValid axioms s q r → FollowsFrom axioms q s.members
-follows_over axioms s q r within valid i some met x lt =
+follows_over axioms s q r within valid i some placed met x lt =
     let listed : (j : ℕ) → j < length (member_list r.axioms) → (1 ≤ get_or (member_list r.axioms) j 0) × (set.contains s.members (get_or (member_list r.axioms) j 0) ≡ true) =
     (λ j less. let member = valid.named (get_or (member_list r.axioms) j 0) (member_list-at r.axioms j less).0 in ((within (get_or (member_list r.axioms) j 0) member).0, member)) in
-    entailed axioms (member_list r.axioms) q.sub q.sup r.shapes r.lines valid.refutes i some (named_met axioms s.members i met (member_list r.axioms) listed) x lt
+    entailed axioms (member_list r.axioms) q.sub q.sup q.on r.shapes r.lines valid.refutes i some placed (named_met axioms s.members i met (member_list r.axioms) listed) x lt
 
 -- ---- from a model
 
@@ -69,5 +68,5 @@ pub follows_not : (axioms : List Numbered) (q : Query) (r : Repair) → IsCounte
 follows_not axioms q r shows follows =
     let x = shows.refutes.0 in
     let lt = shows.refutes.1 in
-    let none : refutes_at (meaning r.model) q x ≡ false = follows (meaning r.model) (omega (arith, lt)) (rest_met (meaning r.model) r.set 1 axioms shows.meets_them) x lt in
+    let none : refutes_at (meaning r.model) q x ≡ false = follows (meaning r.model) (omega (arith, lt)) shows.places (rest_met (meaning r.model) r.set 1 axioms shows.meets_them) x lt in
     true≢false (sym shows.refutes.2 ∙ none)

@@ -1,12 +1,10 @@
 -- Places of an audit, one after another.
-use Rattle.std.proofs.Common.{◌≡◌, ℕ, zero, suc, ◌+◌, ◌-◌, ◌<◌, ◌≤◌, ◌||◌, ◌&&◌, Bool, true, false, List, [], ◌∷◌, length, map, get_or, drop, Result, Ok, Err, Option, Some, None, refl, ap, sym, ◌∙◌, subst, arith, inl, inr, add-one}
+use Rattle.std.proofs.Common.{◌≡◌, ℕ, zero, suc, ◌+◌, ◌-◌, ◌<◌, ◌||◌, ◌&&◌, Bool, true, false, List, [], ◌∷◌, length, map, get_or, drop, Result, Ok, Err, Option, Some, None, refl, ap, sym, ◌∙◌, subst, arith, inl, inr, add-one}
 use Rattle.std.specs.Prelude.{◌↔◌, IsTrue, IfOk, slice_get, not}
 use Rattle.std.specs.Option.{is_some}
 use Rattle.std.specs.List.{All}
 use Rattle.std.specs.FinSet as set
 use Rattle.std.proofs.lemmas.Bool.{cases_eq, true≢false, not_from_true}
-use Rattle.std.proofs.lemmas.List.{length-map}
-use Rattle.std.proofs.lemmas.Option.{slice_get_read}
 use Rattle.lane_sieve.specs.Sets.{NumberSet}
 use Rattle.axiom_sets.specs.Sets.{Limited}
 use Rattle.audit_check.specs.Listed.{ContainsAnother}
@@ -14,12 +12,12 @@ use Rattle.shq_terms.specs.Listed.{Listed}
 use Rattle.shq_terms.specs.NoMemory.{NoMemory}
 use Rattle.shq_terms.specs.declared.axioms.Numbered.{Numbered}
 use Rattle.shq_terms.specs.declared.axioms.Query.{Query}
-use Rattle.shq_meaning.specs.Truth.{Interpretation, meets, refutes_at}
+use Rattle.shq_meaning.specs.Truth.{Interpretation, PlacesIndividuals, meets, refutes_at}
 use Rattle.shq_meaning.specs.Least.{IsFirstBelow}
 use Rattle.shq_meaning.specs.Below.{all_below}
 use Rattle.shq_meaning.proofs.Below.{all_below-false}
 use Rattle.finite_model.specs.ModelLists.{meaning}
-use Rattle.audit_file.specs.AuditLists.{justified_sets, repaired_sets}
+use Rattle.audit_file.specs.AuditLists.{justified_sets}
 use Rattle.audit_file.specs.Fitting.{IsOfAxioms}
 use Rattle.audit_file.specs.declared.entries.Justification.{Justification}
 use Rattle.audit_file.specs.declared.entries.Repair.{Repair}
@@ -103,9 +101,9 @@ module _ (i : Interpretation) (s : NumberSet) (j : ℕ) (as_ : List Numbered) wh
 fails_at : (n : ℕ) (p : ℕ → Bool) → all_below n (λ y. not (p y)) ≡ true → (x : ℕ) → x < n → p x ≡ true → ⊥
 fails_at n p none x lt is = true≢false (sym none ∙ all_below-false n (λ y. not (p y)) x lt (not_from_true (p x) is))
 
-pub refuted_or_not : (axioms : List Numbered) (q : Query) (r : Repair) (first : Option ℕ) (b : Bool) → b ≡ is_some first → IsTrue (meets_rest (meaning r.model) 1 r.set.members axioms) → IsFirstBelow r.model.size (refutes_at (meaning r.model) q) first → (IsTrue b ↔ IsCounterModel axioms q r)
-refuted_or_not axioms q r None b is met least = (
+pub refuted_or_not : (axioms : List Numbered) (q : Query) (r : Repair) (first : Option ℕ) (b : Bool) → b ≡ is_some first → PlacesIndividuals (meaning r.model) → IsTrue (meets_rest (meaning r.model) 1 r.set.members axioms) → IsFirstBelow r.model.size (refutes_at (meaning r.model) q) first → (IsTrue b ↔ IsCounterModel axioms q r)
+refuted_or_not axioms q r None b is places met least = (
   λ h. (let clash : true ≡ false = sym h ∙ is in absurd (cc clash)),
   λ shows. absurd (fails_at r.model.size (refutes_at (meaning r.model) q) least shows.refutes.0 shows.refutes.1 shows.refutes.2),
 )
-refuted_or_not axioms q r (Some x) b is met least = (λ h. record { meets_them = met; refutes = (x, least.below, least.passes) }, λ shows. is)
+refuted_or_not axioms q r (Some x) b is places met least = (λ h. record { places = places; meets_them = met; refutes = (x, least.below, least.passes) }, λ shows. is)

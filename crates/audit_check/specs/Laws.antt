@@ -1,5 +1,5 @@
 -- What a sound audit is good for.
-use Rattle.std.specs.Prelude.{◌≡◌, length}
+use Rattle.std.specs.Prelude.{◌≡◌}
 use Rattle.std.specs.List.{All}
 use Rattle.axiom_sets.specs.Sets.{IsWithin}
 use Rattle.shq_terms.specs.Listed.{Listed}

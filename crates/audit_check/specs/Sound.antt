@@ -1,16 +1,16 @@
 -- When an audit is sound, and what it lists then.
 use Rattle.std.specs.Prelude.{◌≡◌, ◌↔◌, ℕ, ◌+◌, ◌<◌, Bool, true, ◌||◌, ◌&&◌, IsTrue, List, [], ◌∷◌, length}
-use Rattle.std.specs.List.{All, Contains}
+use Rattle.std.specs.List.{Contains}
 use Rattle.std.specs.FinSet as set
 use Rattle.lane_sieve.specs.Sets.{NumberSet}
-use Rattle.axiom_sets.specs.Sets.{Limited, IsWithin}
+use Rattle.axiom_sets.specs.Sets.{Limited}
 use Rattle.pinpointing_specs.specs.LocalModule.{IsJustification, IsRepair}
 use Rattle.audit_check.specs.Audits.{IsAntichain}
 use Rattle.audit_check.specs.Transversals.{AreTransversals}
 use Rattle.shq_terms.specs.Listed.{Listed}
 use Rattle.shq_terms.specs.declared.axioms.Numbered.{Numbered}
 use Rattle.shq_terms.specs.declared.axioms.Query.{Query}
-use Rattle.shq_meaning.specs.Truth.{Interpretation, meets, refutes_at}
+use Rattle.shq_meaning.specs.Truth.{Interpretation, PlacesIndividuals, meets, refutes_at}
 use Rattle.finite_model.specs.ModelLists.{meaning}
 use Rattle.refutation_check.specs.Verdicts.{IsValid}
 use Rattle.audit_file.specs.AuditLists.{AuditLists, justified_sets, repaired_sets}
@@ -26,9 +26,10 @@ abbrev pub meets_rest : Interpretation → ℕ → NumberSet → List Numbered �
 meets_rest i k s [] = true
 meets_rest i k s (a ∷ as_) = (set.contains s k || meets i a.axiom) && meets_rest i (k + 1) s as_
 
--- the model meets the axioms without those of the set, and some element is in the left class of the query and not in
--- the right one
+-- each individual is an element of the model, which meets the axioms without those of the set, and some element of which
+-- the query speaks is in its left class and not in the right one
 pub record IsCounterModel (axioms : List Numbered) (q : Query) (r : Repair) : Type 0 where
+  pub places : PlacesIndividuals (meaning r.model)
   pub meets_them : IsTrue (meets_rest (meaning r.model) 1 r.set.members axioms)
   pub refutes : (x : ℕ) × (x < r.model.size) × (refutes_at (meaning r.model) q x ≡ true)
 

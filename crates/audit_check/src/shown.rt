@@ -116,6 +116,7 @@ fn is_counter_model(ontology: &Ontology, query: &Query, repair: &Repair) -> bool
     ensures { IsTrue result ↔ IsCounterModel ontology.now.axioms query.now repair.now }
 {
     let Repair { set, model } = repair;
+    prove!(model.size() >= 1);
     meets_rest(model, set, ontology) && model.refutes(query).is_some()
 }
 

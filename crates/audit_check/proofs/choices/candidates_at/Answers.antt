@@ -1,7 +1,6 @@
-use Rattle.std.proofs.Common.{◌≡◌, List, ℕ, refl, ap, sym, ◌∙◌, subst}
-use Rattle.std.specs.FinSet as set
+use Rattle.std.proofs.Common.{◌≡◌, List, ℕ, refl, ◌∙◌, subst}
 use Rattle.std.specs.List.{Contains}
-use Rattle.axiom_sets.specs.Sets.{Limited, IsFull, member_list}
+use Rattle.axiom_sets.specs.Sets.{IsFull, member_list}
 use Rattle.audit_check.proofs.Growing.{AreLeft, first_ahead, later_ahead, listed_number, left_first, left_next, are_candidates}
 use Rattle.audit_check.proofs.choices.candidates_at.Goals as goal
 
