@@ -59,8 +59,8 @@ abbrev pub first_unmet : Interpretation → ℕ → List Numbered → Option ℕ
 first_unmet i k [] = None
 first_unmet i k (a ∷ as_) = if meets i a.axiom then first_unmet i (k + 1) as_ else Some k
 
--- The verdict on a model: it meets each axiom, has a counter-element and has the individuals among its elements, and then
--- the query does not follow; or some axiom is the first that it does not meet; or it meets each and has no
+-- The verdict on a model: it meets each axiom, has a counter-element and has the individuals among its elements, and
+-- then the query does not follow; or some axiom is the first that it does not meet; or it meets each and has no
 -- counter-element.
 abbrev pub IsOfModel : Listed → Asked → Model → Verdict → Type 0
 IsOfModel o q m NotEntailed = (first_unmet (meaning m) 1 o.axioms ≡ None) × ((x : ℕ) × IsFirstBelow m.size (refutes_at (meaning m) q) (Some x)) × PlacesIndividuals (meaning m)
