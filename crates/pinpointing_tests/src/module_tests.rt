@@ -198,7 +198,7 @@ fn short_bytes(text: &[u8]) -> &[u8]
 }
 
 /// Whether these are the numbers of the set.
-fn are_numbers(set: &AxiomSet, wanted: &[u32]) -> bool {
+pub(crate) fn are_numbers(set: &AxiomSet, wanted: &[u32]) -> bool {
     let mut numbers = set.numbers();
     let mut are_same = true;
     for number in wanted {
