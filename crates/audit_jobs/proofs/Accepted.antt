@@ -43,7 +43,7 @@ module _ (inclusion bytes out : List ℕ) (o : Listed) (q : Asked) (is : IsQuest
   few_lines = let same : length (lines out) ≡ length (lines (audit_text o t.audit)) = ap (λ (bs : List ℕ). length (lines bs)) t.text in omega (arith, same, short)
 
   pub read_back : audit_in o (lines out) ≡ Ok t.audit
-  read_back = ap (λ (bs : List ℕ). audit_in o (lines bs)) t.text ∙ written_is_read o t.audit names.classes names.roles few_axioms t.of_axioms t.refutations t.kept few_lines
+  read_back = ap (λ (bs : List ℕ). audit_in o (lines bs)) t.text ∙ written_is_read o t.audit names.classes names.roles names.individuals few_axioms t.of_axioms t.refutations t.kept few_lines
 
   pub all_listed : ListsAll o q t.audit
   all_listed = lists_all o q t.audit t.of_axioms (within_sets t.audit.justifications t.kept.justified) t.sound

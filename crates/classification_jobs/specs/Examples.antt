@@ -15,7 +15,7 @@ by_rows rows x y = list_any (λ z. z == y) (slice_index_or rows x [])
 
 -- an ontology with these classes
 abbrev listing : List (List ℕ) → Listed
-listing classes = record { axioms = []; classes = classes; roles = [] }
+listing classes = record { axioms = []; classes = classes; roles = []; individuals = [] }
 
 -- ---- A and B are equal, C lies in A and in D, D in A, E in nothing, and all things in F
 

@@ -5,6 +5,7 @@ use Rattle.std.proofs.lemmas.Bool.{or_cases, false_from_ne_true}
 use Rattle.axiom_sets.specs.Sets.{Limited}
 use Rattle.shq_terms.specs.NoMemory.{NoMemory}
 use Rattle.shq_terms.specs.Concept.{Concept, top, bottom}
+use Rattle.shq_terms.specs.declared.axioms.On.TheVariants.{Any}
 use Rattle.shq_terms.specs.declared.axioms.Query.{Query}
 use Rattle.run_log.specs.declared.entry.Entry.{Entry}
 use Rattle.run_log.specs.declared.entry.Entry.TheVariants.{Test, Node}
@@ -71,7 +72,7 @@ begun_at n m x y before after e h = subst (λ (k : ℕ). HasBegun k x y before a
 
 -- it is whether all things are in the class of none
 all_is : (n x y : ℕ) → x ≡ n → y ≡ n + 1 → query_at n x y ≡ all_in_none
-all_is n x y ex ey = λ i. record { sub = at_top n x ex i; sup = at_bottom n y ey i }
+all_is n x y ex ey = λ i. record { sub = at_top n x ex i; sup = at_bottom n y ey i; on = Any }
 
 first_asks : (q : Query) (log : List Entry) (s : Limited) (steps : ℕ) (e : TestEnd) → slice_get log 0 ≡ Some (Test s q steps e) → BeginsWith q log
 first_asks q [] s steps e h = tt

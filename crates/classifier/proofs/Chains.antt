@@ -4,6 +4,7 @@ use Rattle.std.specs.Prelude.{Contains, ℕ}
 use Rattle.std.proofs.lemmas.List.Elements.{Contains-append_left, Contains-push, Contains-push_cases}
 use Rattle.axiom_sets.specs.Sets.{Limited}
 use Rattle.shq_terms.specs.Concept.{Concept, top, bottom}
+use Rattle.shq_terms.specs.declared.axioms.On.TheVariants.{Any}
 use Rattle.shq_terms.specs.declared.axioms.Query.{Query}
 use Rattle.run_log.specs.declared.entry.Entry.{Entry}
 use Rattle.run_log.specs.declared.entry.Entry.TheVariants.{Test}
@@ -31,7 +32,7 @@ from_bottom log y = one_step log bottom y (of_bottom y)
 
 pub none_leads : (x y : Concept) → IsChain [] x y → (x ≡ y) ⊎ ((y ≡ top) ⊎ (x ≡ bottom))
 none_leads _ _ (none x) = inl refl
-none_leads _ _ (onward x _ y (by_test s q steps u there) rest) = absurd (omega (arith, there.1))
+none_leads _ _ (onward x _ y (by_test s q steps u any there) rest) = absurd (omega (arith, there.1))
 none_leads _ _ (onward x _ y (in_top _) rest) = elim (none_leads top y rest) [
   | inl e ↦ inr (inl (sym e))
   | inr other ↦ elim other [ inl e ↦ inr (inl e) | inr e ↦ absurd (cc e) ]
@@ -42,7 +43,7 @@ none_leads _ _ (onward _ z y (of_bottom _) rest) = inr (inr refl)
 
 module _ (log : List Entry) (e : Entry) where
   step_stays : (x y : Concept) → IsStep log x y → IsStep (log ++ e ∷ []) x y
-  step_stays _ _ (by_test s q steps u there) = by_test s q steps u (Contains-append_left log (e ∷ []) (Test s q steps (Yes u)) there)
+  step_stays _ _ (by_test s q steps u any there) = by_test s q steps u any (Contains-append_left log (e ∷ []) (Test s q steps (Yes u)) there)
   step_stays _ _ (in_top x) = in_top x
   step_stays _ _ (of_bottom y) = of_bottom y
 
@@ -54,6 +55,7 @@ module _ (log : List Entry) (e : Entry) where
   ruled_out_stays x y r = record {
     tested = r.tested;
     query = r.query;
+    of_all = r.of_all;
     steps = r.steps;
     is_no = Contains-append_left log (e ∷ []) (Test r.tested r.query r.steps No) r.is_no;
     lower = chain_stays r.query.sub x r.lower;
@@ -61,14 +63,15 @@ module _ (log : List Entry) (e : Entry) where
   }
 
 -- a test that was no rules out its own query
-pub test_rules_out : (log : List Entry) (s : Limited) (q : Query) (steps : ℕ) → Contains log (Test s q steps No) → IsRuledOut log q.sub q.sup
-test_rules_out log s q steps there = record { tested = s; query = q; steps = steps; is_no = there; lower = none q.sub; upper = none q.sup }
+pub test_rules_out : (log : List Entry) (s : Limited) (q : Query) (steps : ℕ) → q.on ≡ Any → Contains log (Test s q steps No) → IsRuledOut log q.sub q.sup
+test_rules_out log s q steps any there = record { tested = s; query = q; of_all = any; steps = steps; is_no = there; lower = none q.sub; upper = none q.sup }
 
 -- what leads below what is ruled out, and from above it, is ruled out
 pub ruled_out_wider : (log : List Entry) (x y a b : Concept) → IsRuledOut log x y → IsChain log x a → IsChain log b y → IsRuledOut log a b
 ruled_out_wider log x y a b r up down = record {
   tested = r.tested;
   query = r.query;
+  of_all = r.of_all;
   steps = r.steps;
   is_no = r.is_no;
   lower = then_chain log r.query.sub x a r.lower up;
@@ -78,8 +81,8 @@ ruled_out_wider log x y a b r up down = record {
 module _ (log : List Entry) (s : Limited) (q : Query) (steps : ℕ) where
   -- a test that was no leads nowhere
   no_step : (x y : Concept) → IsStep (log ++ Test s q steps No ∷ []) x y → IsStep log x y
-  no_step _ _ (by_test s' q' steps' u there) = elim (Contains-push_cases log (Test s q steps No) (Test s' q' steps' (Yes u)) there) [
-    | inl before ↦ by_test s' q' steps' u before
+  no_step _ _ (by_test s' q' steps' u any there) = elim (Contains-push_cases log (Test s q steps No) (Test s' q' steps' (Yes u)) there) [
+    | inl before ↦ by_test s' q' steps' u any before
     | inr e ↦ absurd (cc e)
   ]
   no_step _ _ (in_top x) = in_top x
@@ -89,10 +92,11 @@ module _ (log : List Entry) (s : Limited) (q : Query) (steps : ℕ) where
   no_chain _ _ (none x) = none x
   no_chain _ _ (onward x y z step rest) = onward x y z (no_step x y step) (no_chain y z rest)
 
-  pub now_ruled_out : (a b : Concept) → IsChain log q.sub a → IsChain log b q.sup → IsRuledOut (log ++ Test s q steps No ∷ []) a b
-  now_ruled_out a b lower upper = record {
+  pub now_ruled_out : (a b : Concept) → q.on ≡ Any → IsChain log q.sub a → IsChain log b q.sup → IsRuledOut (log ++ Test s q steps No ∷ []) a b
+  now_ruled_out a b any lower upper = record {
     tested = s;
     query = q;
+    of_all = any;
     steps = steps;
     is_no = Contains-push log (Test s q steps No);
     lower = chain_stays log (Test s q steps No) q.sub a lower;
@@ -102,7 +106,7 @@ module _ (log : List Entry) (s : Limited) (q : Query) (steps : ℕ) where
   -- such a test rules out no more than what it is about
   pub ruled_out_by_no : (a b : Concept) → IsRuledOut (log ++ Test s q steps No ∷ []) a b → IsRuledOut log a b ⊎ (IsChain log q.sub a × IsChain log b q.sup)
   ruled_out_by_no a b r = elim (Contains-push_cases log (Test s q steps No) (Test r.tested r.query r.steps No) r.is_no) [
-    | inl before ↦ inl (record { tested = r.tested; query = r.query; steps = r.steps; is_no = before; lower = no_chain r.query.sub a r.lower; upper = no_chain b r.query.sup r.upper })
+    | inl before ↦ inl (record { tested = r.tested; query = r.query; of_all = r.of_all; steps = r.steps; is_no = before; lower = no_chain r.query.sub a r.lower; upper = no_chain b r.query.sup r.upper })
     | inr e ↦ let same : r.query ≡ q = query_of r.tested r.query r.steps e in
         inr (subst (λ (p : Query). IsChain log p.sub a) same (no_chain r.query.sub a r.lower), subst (λ (p : Query). IsChain log b p.sup) same (no_chain b r.query.sup r.upper))
   ]
@@ -111,12 +115,12 @@ module _ (log : List Entry) (s : Limited) (q : Query) (steps : ℕ) where
       query_of s' q' steps' h = cc
 
   -- one that was yes leads from what is below the one class to what is above the other
-  pub yes_leads : (u : Limited) → IsChain (log ++ Test s q steps (Yes u) ∷ []) q.sub q.sup
-  yes_leads u = one_step (log ++ Test s q steps (Yes u) ∷ []) q.sub q.sup (by_test s q steps u (Contains-push log (Test s q steps (Yes u))))
+  pub yes_leads : (u : Limited) → q.on ≡ Any → IsChain (log ++ Test s q steps (Yes u) ∷ []) q.sub q.sup
+  yes_leads u any = one_step (log ++ Test s q steps (Yes u) ∷ []) q.sub q.sup (by_test s q steps u any (Contains-push log (Test s q steps (Yes u))))
 
   yes_step : (u : Limited) (x y : Concept) → IsStep (log ++ Test s q steps (Yes u) ∷ []) x y → IsStep log x y ⊎ ((x ≡ q.sub) × (y ≡ q.sup))
-  yes_step u _ _ (by_test s' q' steps' u' there) = elim (Contains-push_cases log (Test s q steps (Yes u)) (Test s' q' steps' (Yes u')) there) [
-    | inl before ↦ inl (by_test s' q' steps' u' before)
+  yes_step u _ _ (by_test s' q' steps' u' any there) = elim (Contains-push_cases log (Test s q steps (Yes u)) (Test s' q' steps' (Yes u')) there) [
+    | inl before ↦ inl (by_test s' q' steps' u' any before)
     | inr e ↦ let same : q' ≡ q = cc in inr (ap (λ (p : Query). p.sub) same, ap (λ (p : Query). p.sup) same)
   ]
   yes_step u _ _ (in_top x) = inl (in_top x)
@@ -155,4 +159,4 @@ module _ (log : List Entry) (s : Limited) (q : Query) (steps : ℕ) where
   ]
     where
       out : {x y : Concept} → Contains log (Test r.tested r.query r.steps No) → IsChain log r.query.sub x → IsChain log y r.query.sup → IsRuledOut log x y
-      out {x} {y} there lower upper = record { tested = r.tested; query = r.query; steps = r.steps; is_no = there; lower = lower; upper = upper }
+      out {x} {y} there lower upper = record { tested = r.tested; query = r.query; of_all = r.of_all; steps = r.steps; is_no = there; lower = lower; upper = upper }

@@ -107,4 +107,5 @@ query_in_limit o x y limit lx ly =
       items = and_from (has_enough_parts (class_at n x)) (has_enough_parts (class_at n y)) (enough x lx) (enough y ly);
       counts = and_from (has_counts_within 100 (class_at n x)) (has_counts_within 100 (class_at n y)) (counts x lx) (counts y ly);
       simple = ap (λ (rs : List ℕ). are_simple (all_role_axioms o.axioms) (rs ++ counted_roles (class_at n y))) (uncounted x lx) ∙ ap (λ (rs : List ℕ). are_simple (all_role_axioms o.axioms) ([] ++ rs)) (uncounted y ly);
+      on_any = refl;
     }

@@ -8,6 +8,7 @@ use Rattle.std.proofs.lemmas.List.Elements.{All-push}
 use Rattle.axiom_sets.specs.Sets.{Limited}
 use Rattle.shq_terms.specs.Concept.{Concept}
 use Rattle.shq_terms.specs.Listed.{Listed}
+use Rattle.shq_terms.specs.declared.axioms.On.TheVariants.{Any}
 use Rattle.shq_terms.specs.declared.axioms.Query.{Query}
 use Rattle.run_log.specs.declared.entry.Entry.{Entry}
 use Rattle.run_log.specs.declared.entry.Entry.TheVariants.{Test, Node}
@@ -82,10 +83,12 @@ module _ (o : Listed) (log : List Entry) (known : Rows) (ruled_out : Matrix) (m 
   -- no test was of its query
   untested : (place : ℕ) (s : Limited) (q : Query) (steps : ℕ) (e : TestEnd) → slice_get log place ≡ Some (Test s q steps e) → q ≡ query_at (length o.classes) x y → ⊥
   untested place s q steps (Yes u) at same =
-      let step : IsChain log q.sub q.sup = one_step log q.sub q.sup (by_test s q steps u (at_contains log (Test s q steps (Yes u)) place at)) in
+      let any : q.on ≡ Any = ap (λ (p : Query). p.on) same in
+      let step : IsChain log q.sub q.sup = one_step log q.sub q.sup (by_test s q steps u any (at_contains log (Test s q steps (Yes u)) place at)) in
       no_chain_yet (subst (λ (p : Query). IsChain log p.sub p.sup) same step)
   untested place s q steps No at same =
-      let out : IsRuledOut log q.sub q.sup = test_rules_out log s q steps (at_contains log (Test s q steps No) place at) in
+      let any : q.on ≡ Any = ap (λ (p : Query). p.on) same in
+      let out : IsRuledOut log q.sub q.sup = test_rules_out log s q steps any (at_contains log (Test s q steps No) place at) in
       not_ruled_out_yet (subst (λ (p : Query). IsRuledOut log p.sub p.sup) same out)
   untested place s q steps (Spent t) at same = let k : true ≡ false = none_of is_spent log (Test s q steps (Spent t)) place unspent at in cc
 
@@ -105,7 +108,7 @@ module _ (o : Listed) (log : List Entry) (known : Rows) (ruled_out : Matrix) (m 
     last = Test s (query_at (length o.classes) x y) steps e
 
     is_test : IsClassTest o last
-    is_test = (whole, is_class o x lx, is_class o y ly, λ same. no_chain_yet (subst (λ (c : Concept). IsChain log (class_at (length o.classes) x) c) same (none (class_at (length o.classes) x))))
+    is_test = (whole, is_class o x lx, is_class o y ly, λ same. no_chain_yet (subst (λ (c : Concept). IsChain log (class_at (length o.classes) x) c) same (none (class_at (length o.classes) x))), refl)
 
     query_of : (t : Limited) (q : Query) (k : ℕ) (g : TestEnd) → last ≡ Test t q k g → query_at (length o.classes) x y ≡ q
     query_of t q k g h = cc

@@ -1,5 +1,5 @@
 -- What is known and ruled out mirrors the log, from the first question to the last.
-use Rattle.std.proofs.Common.{◌≡◌, ◌⊎◌, ℕ, ◌+◌, ◌<◌, ◌&&◌, ◌||◌, true, false, List, [], ◌∷◌, ◌++◌, length, sym, subst, ◌∙◌, arith, inl, inr, eq-eqb}
+use Rattle.std.proofs.Common.{◌≡◌, ◌⊎◌, ℕ, ◌+◌, ◌<◌, ◌&&◌, ◌||◌, true, false, List, [], ◌∷◌, ◌++◌, length, refl, sym, subst, ◌∙◌, arith, inl, inr, eq-eqb}
 use Rattle.std.specs.Prelude.{◌==◌}
 use Rattle.std.proofs.lemmas.Bool.{and_parts, and_from, or_cases, or_left, or_right, eqb-true}
 use Rattle.axiom_sets.specs.Sets.{Limited}
@@ -71,7 +71,7 @@ module _ (o : Listed) (log : List Entry) (known : Rows) (ruled_out : Matrix) (m 
     excludes_no a b la lb h = elim (or_cases (has ruled_out a b) (holds known x a && holds known b y) (sym (pairs_no a b la lb) ∙ h)) [
       | inl old ↦ ruled_out_stays log (Test s q steps No) (c a) (c b) ((m.ruled_out_is a b la lb).0 old)
       | inr new ↦ let both = and_parts (holds known x a) (holds known b y) new in
-          now_ruled_out log s q steps (c a) (c b) ((m.known_is x a lx la).0 both.0) ((m.known_is b y lb ly).0 both.1)
+          now_ruled_out log s q steps (c a) (c b) refl ((m.known_is x a lx la).0 both.0) ((m.known_is b y lb ly).0 both.1)
     ]
 
     excluded_no : (a b : ℕ) → a < length o.classes + 2 → b < length o.classes + 2 → IsRuledOut (log ++ Test s q steps No ∷ []) (c a) (c b) → has ruled_out' a b ≡ true
@@ -98,7 +98,7 @@ module _ (o : Listed) (log : List Entry) (known : Rows) (ruled_out : Matrix) (m 
     more = log ++ Test s q steps (Yes u) ∷ []
 
     across : IsChain more (c x) (c y)
-    across = yes_leads log s q steps u
+    across = yes_leads log s q steps u refl
 
     pairs_yes : (a b : ℕ) → a < length o.classes + 2 → b < length o.classes + 2 → has ruled_out' a b ≡ passed_on known' x y ruled_out a b
     pairs_yes a b la lb = passes.pairs a b (omega (arith, la, m.count_is)) (omega (arith, lb, m.count_is))

@@ -6,6 +6,8 @@ use Rattle.shq_terms.specs.Concept.{Concept}
 use Rattle.shq_terms.proofs.Bools.{none_outside}
 use Rattle.shq_terms.specs.Listed.{Listed}
 use Rattle.shq_terms.specs.declared.axioms.Axiom.{Axiom}
+use Rattle.shq_terms.specs.declared.axioms.On.{On}
+use Rattle.shq_terms.specs.declared.axioms.On.TheVariants.{Any}
 use Rattle.shq_meaning.specs.Truth.{holds as has_element, Entails}
 use Rattle.refutation_truth.specs.Theory.{all_axioms}
 use Rattle.run_log.specs.declared.entry.Entry.{Entry}
@@ -24,12 +26,12 @@ use Rattle.classifier.specs.Mirrors.{Mirrors}
 use Rattle.classifier.proofs.Chains.{then_chain}
 use Rattle.classifier.proofs.InLimit.{HasNumber, has_number}
 
-pub part_of_part : (axioms : List Axiom) (x y z : Concept) → Entails axioms (record { sub = x; sup = y }) → Entails axioms (record { sub = y; sup = z }) → Entails axioms (record { sub = x; sup = z })
-part_of_part axioms x y z h k i some meets v lt = none_outside (has_element i x v) (has_element i y v) (has_element i z v) (h i some meets v lt) (k i some meets v lt)
+pub part_of_part : (axioms : List Axiom) (x y z : Concept) → Entails axioms (record { sub = x; sup = y; on = Any }) → Entails axioms (record { sub = y; sup = z; on = Any }) → Entails axioms (record { sub = x; sup = z; on = Any })
+part_of_part axioms x y z h k i some placed meets v lt = none_outside (has_element i x v) (has_element i y v) (has_element i z v) (h i some placed meets v lt) (k i some placed meets v lt)
 
 module _ (o : Listed) (budget : ℕ) (log : List Entry) (honest : IsClassificationLog o budget log) where
   -- what is ruled out does not follow
-  pub ruled_out_is_true : (x y : Concept) → IsRuledOut log x y → Entails (all_axioms o.axioms) (record { sub = x; sup = y }) → ⊥
+  pub ruled_out_is_true : (x y : Concept) → IsRuledOut log x y → Entails (all_axioms o.axioms) (record { sub = x; sup = y; on = Any }) → ⊥
   ruled_out_is_true x y r h =
       let all = all_axioms o.axioms in
       let q = r.query in
@@ -37,7 +39,8 @@ module _ (o : Listed) (budget : ℕ) (log : List Entry) (honest : IsClassificati
       let test = All-contains (IsClassTest o) log (Test r.tested q r.steps No) honest.tests r.is_no in
       let lower = chain_is_true o log q.sub x honest.budget_kept.honest honest.tests r.lower in
       let upper = chain_is_true o log y q.sup honest.budget_kept.honest honest.tests r.upper in
-      let follows : Entails all q = part_of_part all q.sub x q.sup lower (part_of_part all x y q.sup h upper) in
+      let part : Entails all (record { sub = q.sub; sup = q.sup; on = Any }) = part_of_part all q.sub x q.sup lower (part_of_part all x y q.sup h upper) in
+      let follows : Entails all q = subst (λ (on : On). Entails all (record { sub = q.sub; sup = q.sup; on = on })) (sym r.of_all) part in
       so.1.follows_not (subst (λ (as_ : List Axiom). Entails as_ q) (sym (whole o r.tested test.0)) follows)
 
   module _ (known : Rows) (ruled_out : Matrix) (m : Mirrors o log known ruled_out)

@@ -4,6 +4,7 @@ use Rattle.std.specs.Prelude.{Option, Some, None, IfSome}
 use Rattle.shq_terms.specs.Concept.{Concept, name}
 use Rattle.shq_terms.specs.Listed.{Listed}
 use Rattle.axiom_sets.specs.Sets.{Limited}
+use Rattle.shq_terms.specs.declared.axioms.On.TheVariants.{Any}
 use Rattle.shq_terms.specs.declared.axioms.Query.{Query}
 use Rattle.run_log.specs.declared.entry.Entry.{Entry}
 use Rattle.run_log.specs.declared.entry.Entry.TheVariants.{Test}
@@ -50,11 +51,12 @@ newest_about o s sub (Some a) kept h k = h
 newest_about o s sub None kept h k = k
 
 -- what was kept shows it, and it was put into the log
-pub noted_so : (before after : OracleLists) (s : Limited) (q : Query) (a : ApartLists) (count y : ℕ) (noted : Bool) → IsAbout before.ontology s q.sub a → q.sup ≡ class_at count y → y < count
+pub noted_so : (before after : OracleLists) (s : Limited) (q : Query) (a : ApartLists) (count y : ℕ) (noted : Bool) → IsAbout before.ontology s q.sub a → q.sup ≡ class_at count y → q.on ≡ Any → y < count
     → Notes before after a y noted → IsNoted before after s q noted
-noted_so before after s q a count y true about asked lt h =
+noted_so before after s q a count y true about asked any lt h =
     let sup : name y ≡ q.sup = sym (asked ∙ at_name count y lt) in
-    let is : entry_of a y ≡ Test s q a.steps E.No = λ i. Test (about.set_is i) (record { sub = about.sub_is i; sup = sup i }) a.steps E.No in
+    let on : Any ≡ q.on = sym any in
+    let is : entry_of a y ≡ Test s q a.steps E.No = λ i. Test (about.set_is i) (record { sub = about.sub_is i; sup = sup i; on = on i }) a.steps E.No in
     record {
       steps = a.steps;
       ended = E.No;
@@ -63,14 +65,15 @@ noted_so before after s q a count y true about asked lt h =
       honest = subst (IsHonestEntry before.ontology) is h.1;
       spends = tt;
     }
-noted_so before after s q a count y false about asked lt h = h
+noted_so before after s q a count y false about asked any lt h = h
 
 -- the question is new
-pub is_new : (log : List Entry) (o : Listed) (s : Limited) (q : Query) (a : ApartLists) (count y : ℕ) → IsAbout o s q.sub a → q.sup ≡ class_at count y → y < count → (IsAnswered log s q → ⊥)
+pub is_new : (log : List Entry) (o : Listed) (s : Limited) (q : Query) (a : ApartLists) (count y : ℕ) → IsAbout o s q.sub a → q.sup ≡ class_at count y → q.on ≡ Any → y < count → (IsAnswered log s q → ⊥)
     → IsAnswered log a.set (query_of a y) → ⊥
-is_new log o s q a count y about asked lt new answered =
+is_new log o s q a count y about asked any lt new answered =
     let sup : name y ≡ q.sup = sym (asked ∙ at_name count y lt) in
-    let query : query_of a y ≡ q = λ i. record { sub = about.sub_is i; sup = sup i } in
+    let on : Any ≡ q.on = sym any in
+    let query : query_of a y ≡ q = λ i. record { sub = about.sub_is i; sup = sup i; on = on i } in
     new (subst (λ (t : Limited). IsAnswered log t q) about.set_is (subst (IsAnswered log a.set) query answered))
 
 pub noted_alike : (before after : OracleLists) (s : Limited) (q : Query) (noted : Bool) → after.ontology ≡ before.ontology → after.budget ≡ before.budget → IsNoted before after s q noted → AreAlike before after

@@ -3,6 +3,7 @@ use Rattle.std.specs.Prelude.{◌≡◌, ℕ, ◌+◌, List, [], ◌∷◌, ◌+
 use Rattle.axiom_sets.specs.Sets.{Limited}
 use Rattle.shq_terms.specs.Concept.{top, bottom}
 use Rattle.shq_terms.specs.Listed.{Listed}
+use Rattle.shq_terms.specs.declared.axioms.On.TheVariants.{Any}
 use Rattle.shq_terms.specs.declared.axioms.Query.{Query}
 use Rattle.run_log.specs.Trails.{TrailLists}
 use Rattle.run_log.specs.declared.entry.Entry.{Entry}
@@ -32,7 +33,7 @@ pub record EndsSpent (budget : ℕ) (log : List Entry) : Type 0 where
 
 -- whether all things are in the class of none
 abbrev pub all_in_none : Query
-all_in_none = record { sub = top; sup = bottom }
+all_in_none = record { sub = top; sup = bottom; on = Any }
 
 -- where the log has an entry, the first is a test of the query
 abbrev pub BeginsWith : Query → List Entry → Type 0

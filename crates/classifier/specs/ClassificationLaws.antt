@@ -2,6 +2,7 @@
 use Rattle.std.specs.Prelude.{◌≡◌, ℕ, ◌+◌, ◌<◌, ◌||◌, true, List, length}
 use Rattle.shq_terms.specs.Concept.{Concept}
 use Rattle.shq_terms.specs.Listed.{Listed}
+use Rattle.shq_terms.specs.declared.axioms.On.TheVariants.{Any}
 use Rattle.shq_meaning.specs.Truth.{Entails}
 use Rattle.refutation_truth.specs.Theory.{all_axioms}
 use Rattle.ontology_limits.specs.Limits.{IsOntologyInLimit, IsInLimit}
@@ -16,7 +17,7 @@ use Rattle.classifier.specs.Mirrors.{Mirrors}
 
 -- what the log of a classification rules out does not follow
 abbrev pub ExclusionsAreTrue : Type 0
-ExclusionsAreTrue = (o : Listed) (budget : ℕ) (log : List Entry) (x y : Concept) → IsClassificationLog o budget log → IsRuledOut log x y → ¬ Entails (all_axioms o.axioms) (record { sub = x; sup = y })
+ExclusionsAreTrue = (o : Listed) (budget : ℕ) (log : List Entry) (x y : Concept) → IsClassificationLog o budget log → IsRuledOut log x y → ¬ Entails (all_axioms o.axioms) (record { sub = x; sup = y; on = Any })
 
 -- where each pair is known or ruled out, what is known is which class is part of which
 abbrev pub SettledIsClassified : Type 0

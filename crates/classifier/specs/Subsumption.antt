@@ -2,6 +2,7 @@
 use Rattle.std.specs.Prelude.{◌≡◌, ◌↔◌, ℕ, ◌+◌, ◌≤◌, ◌==◌, Bool, true, length, if◌then◌else◌}
 use Rattle.shq_terms.specs.Concept.{Concept, top, bottom, name}
 use Rattle.shq_terms.specs.Listed.{Listed}
+use Rattle.shq_terms.specs.declared.axioms.On.TheVariants.{Any}
 use Rattle.shq_terms.specs.declared.axioms.Query.{Query}
 use Rattle.shq_meaning.specs.Truth.{Entails}
 use Rattle.refutation_truth.specs.Theory.{all_axioms}
@@ -13,7 +14,7 @@ class_at count x = if x == count then top else (if x == count + 1 then bottom el
 
 -- the question whether x is part of y
 abbrev pub query_at : ℕ → ℕ → ℕ → Query
-query_at count x y = record { sub = class_at count x; sup = class_at count y }
+query_at count x y = record { sub = class_at count x; sup = class_at count y; on = Any }
 
 -- for each two classes it says whether the one is part of the other by the axioms (OWL 2 Direct Semantics, section 2.5)
 abbrev pub IsSubsumption : Listed → (ℕ → ℕ → Bool) → Type 0

@@ -1,6 +1,7 @@
 // One question to the oracle, and its outcome.
 ghost use Rattle.std.specs.Prelude.{◌≡◌, ◌≤◌, false, length, IfOk, IfSome, OnOk, OnErr};
 ghost use Rattle.std.specs.List.{list_any};
+ghost use Rattle.shq_terms.specs.declared.axioms.On.TheVariants.{Any};
 ghost use Rattle.ontology_limits.specs.Limits.{IsInLimit};
 ghost use Rattle.run_log.specs.Entries.{spent_of, is_spent, IsAnswered};
 ghost use Rattle.classifier.specs.Subsumption.{class_at, query_at};
@@ -9,7 +10,7 @@ ghost use Rattle.classifier.specs.Tests.{verdict_of, newest, IsTested, IsNoted, 
 
 use axiom_sets::AxiomSet;
 use shq_oracle::{Apart, Oracle, Outcome};
-use shq_terms::{Concept, MAX_CLASSES, NoMemory, Node, Query};
+use shq_terms::{Concept, MAX_CLASSES, NoMemory, Node, On, Query};
 
 /// What a test found.
 #[derive(Clone, Copy)]
@@ -68,6 +69,7 @@ fn decide<'a>(
 ) -> Result<Verdict, NoMemory>
     requires listed { count ≡ length oracle.old.ontology.classes }
     requires asked { query.now.sup ≡ class_at count y }
+    requires of_all { query.now.on ≡ Any }
     requires limit { axioms.now.limit ≡ length oracle.old.ontology.axioms }
     requires in_limit { IsInLimit oracle.old.ontology query.now }
     requires goes_on { list_any is_spent oracle.old.log ≡ false }
@@ -98,6 +100,7 @@ fn is_noted(
 ) -> Result<bool, NoMemory>
     requires listed { count ≡ length oracle.old.ontology.classes }
     requires asked { query.now.sup ≡ class_at count y }
+    requires of_all { query.now.on ≡ Any }
     requires goes_on { list_any is_spent oracle.old.log ≡ false }
     requires is_new { IsAnswered oracle.old.log axioms.now query.now → ⊥ }
     requires kept { IfSome kept.now (IsAbout oracle.old.ontology axioms.now query.now.sub) }
@@ -126,6 +129,7 @@ fn note(
 ) -> Result<bool, NoMemory>
     requires listed { count ≡ length oracle.old.ontology.classes }
     requires asked { query.now.sup ≡ class_at count y }
+    requires of_all { query.now.on ≡ Any }
     requires goes_on { list_any is_spent oracle.old.log ≡ false }
     requires is_new { IsAnswered oracle.old.log axioms.now query.now → ⊥ }
     requires apart { IsAbout oracle.old.ontology axioms.now query.now.sub apart.now }
@@ -197,6 +201,7 @@ fn query_between(count: u32, x: u32, y: u32) -> Query
     Query {
         sub: class_of(count, x),
         sup: class_of(count, y),
+        on: On::Any,
     }
 }
 

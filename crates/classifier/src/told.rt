@@ -54,7 +54,17 @@ impl Told {
             Axiom::SubClassOf(sub, sup) => self.add_inclusion(sub, sup),
             Axiom::EquivalentClasses(concepts) => self.add_equals(concepts.items()),
             Axiom::DisjointUnion(whole, parts) => self.add_parts(whole, parts.items()),
-            _ => Ok(()),
+            Axiom::DisjointClasses(_)
+            | Axiom::SubRole(_, _)
+            | Axiom::EquivalentRoles(_)
+            | Axiom::Domain(_, _)
+            | Axiom::Range(_, _)
+            | Axiom::Functional(_)
+            | Axiom::Transitive(_)
+            | Axiom::Member(_, _)
+            | Axiom::Pair(_, _, _)
+            | Axiom::SameAll(_)
+            | Axiom::Different(_) => Ok(()),
         }
     }
 

@@ -82,6 +82,6 @@ accepted o question q (Answered.Entailed r) out names so kept is =
     let back : refutation_of o (lines (refutation_text o r)) ≡ Some r = refutation_read_back o r names.classes names.roles so.is_answer.writable in
     (ap (certificate o) is ∙ yes_read o question (refutation_text o r) ∙ refutation_found o (lines (refutation_text o r)) r back, so.is_answer.refutes)
 accepted o question q (Answered.NotEntailed m) out names so kept is =
-    let back : model_of o (lines (model_text o m)) ≡ Some m = model_read_back o m names.classes names.roles kept in
+    let back : model_of o (lines (model_text o m)) ≡ Some m = model_read_back o m names.classes names.roles names.individuals kept in
     (ap (certificate o) is ∙ no_read o question (model_text o m) ∙ model_found o (lines (model_text o m)) m back, model_verdict o so.asked q m so.is_whole so.is_answer)
 accepted o question q Answered.Undecided out names so kept is = tt

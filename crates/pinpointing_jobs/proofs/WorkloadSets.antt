@@ -167,7 +167,7 @@ module _ (s : NumberSet) (has : HasOneOfEach s) (i : Interpretation) (more : Lis
       ]
 
 pub from_pairs : (n : ℕ) (s : NumberSet) → HasOneOfEach s → Entails (picked 1 s (workload_axioms n)) wanted
-from_pairs n s has i some met x less =
+from_pairs n s has i some placed met x less =
     let kernel = kernel_first n in
     never_refuted s has i kernel.0 (subst (λ (l : List Axiom). list_all (meets i) (picked 1 s l) ≡ true) kernel.1 met) x less
 
@@ -175,7 +175,7 @@ from_pairs n s has i some met x less =
 
 -- one element, in the classes below a bound
 abbrev bounded : ℕ → Interpretation
-bounded t = record { size = 1; in_class = λ a x. nat_lt a t; in_role = λ r x y. false }
+bounded t = record { size = 1; in_class = λ a x. nat_lt a t; in_role = λ r x y. false; individual = λ a. 0 }
 
 not_below : (a t : ℕ) → t ≤ a → nat_lt a t ≡ false
 not_below a t le = grind (arith, nat_tests)
@@ -209,7 +209,7 @@ one_of s k m no' =
 module _ (n : ℕ) (s : NumberSet) (follows_from : Entails (picked 1 s (workload_axioms n)) wanted) where
   no_counter : (t : ℕ) → t ≤ 7 → refutes_at (bounded t) wanted 0 ≡ true → list_all (meets (bounded t)) (picked 1 s kernel_axioms) ≡ true → ⊥
   no_counter t small refuted met =
-      let clash : true ≡ false = sym refuted ∙ follows_from (bounded t) (omega arith) (groups_met t small n s met) 0 (omega arith) in
+      let clash : true ≡ false = sym refuted ∙ follows_from (bounded t) (omega arith) (λ a. omega arith) (groups_met t small n s met) 0 (omega arith) in
       absurd (cc clash)
 
   abbrev behind_first : List Axiom

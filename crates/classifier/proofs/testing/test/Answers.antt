@@ -33,3 +33,6 @@ pub returns-clause-kept : goal.returns-clause-kept
 returns-clause-kept c =
     let d = c.decide-verdict in
     subst (λ (q : Query). IfSome d.new.kept (IsAbout c.args.oracle.now.ontology c.args.axioms.now q.sub)) c.query_between-query.ensures d.ensures.kept
+
+pub decide-verdict-requires-clause-of_all : goal.decide-verdict-requires-clause-of_all
+decide-verdict-requires-clause-of_all c = ap (λ (q : Query). q.on) c.query_between-query.ensures
