@@ -73,7 +73,7 @@ none_unmet i k (a ∷ axioms) met =
 model_verdict : (o : Listed) (s : Limited) (q : Asked) (m : ModelLists) → IsWhole o s → IsRefuting o s q m → IsOfModel o q m NotEntailed
 model_verdict o s q m all so =
     let met : meets_all (meaning m) (all_axioms o.axioms) ≡ true = ap (meets_all (meaning m)) (sym (whole o s all)) ∙ so.refutes.meets_axioms in
-    (none_unmet (meaning m) 1 o.axioms met, (0, record { below = so.refutes.has_element; passes = so.refutes.refutes; least = refl }))
+    (none_unmet (meaning m) 1 o.axioms met, (0, record { below = so.refutes.has_element; passes = so.refutes.refutes; least = refl }), so.refutes.places)
 
 -- ---- decisions
 
