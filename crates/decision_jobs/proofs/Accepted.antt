@@ -1,33 +1,32 @@
 -- What is written of a decision is a certificate that is accepted.
-use Rattle.std.proofs.Common.{◌≡◌, ℕ, ◌+◌, ◌<◌, ◌≤◌, Bool, true, false, List, [], ◌∷◌, ◌++◌, map, Some, None, Result, Ok, Err, refl, ap, sym, ◌∙◌, subst, arith}
+use Rattle.std.proofs.Common.{◌≡◌, ℕ, ◌+◌, true, List, [], ◌∷◌, ◌++◌, Some, None, Ok, refl, ap, sym, ◌∙◌}
 use Rattle.std.specs.Prelude.{codes}
 use Rattle.std.proofs.lemmas.Bool.{and_parts}
-use Rattle.axiom_sets.specs.Sets.{Limited, member_list}
+use Rattle.axiom_sets.specs.Sets.{Limited}
 use Rattle.certificate_lines.specs.Lines.{lines}
 use Rattle.shq_terms.specs.Listed.{Listed}
 use Rattle.shq_terms.specs.declared.axioms.Numbered.{Numbered}
 use Rattle.shq_terms.specs.declared.axioms.Query.{Query as Asked}
-use Rattle.shq_meaning.specs.Truth.{Interpretation, meets, meets_all, refutes_at}
+use Rattle.shq_meaning.specs.Truth.{Interpretation, meets, meets_all}
 use Rattle.finite_model.specs.ModelLists.{ModelLists, meaning}
 use Rattle.finite_model.specs.ModelText.{model_of}
-use Rattle.finite_model.specs.ReadBack.{IsKept}
 use Rattle.finite_model.specs.Written.{model_text}
 use Rattle.finite_model.proofs.TextBack.{model_read_back}
 use Rattle.refutation_tree.specs.RefutationLists.{RefutationLists}
 use Rattle.refutation_tree.specs.RefutationText.{refutation_of}
 use Rattle.refutation_tree.specs.Written.{refutation_text}
 use Rattle.refutation_tree.proofs.TextBack.{refutation_read_back}
-use Rattle.refutation_truth.specs.Theory.{all_axioms, named_axioms}
+use Rattle.refutation_truth.specs.Theory.{all_axioms}
 use Rattle.text_laws.specs.LimitLaws.{AreWritable}
 use Rattle.run_log.specs.HonestLog.{IsWhole}
 use Rattle.run_log.proofs.Named.{whole}
 use Rattle.shq_oracle.specs.declared.answer.Answer.{Answer as Decision}
 use Rattle.shq_oracle.specs.declared.answer.Answer.TheVariants as Answered
-use Rattle.shq_oracle.specs.Decided.{IsProof, IsRefuting, IsAnswer}
+use Rattle.shq_oracle.specs.Decided.{IsRefuting}
 use Rattle.certificate_check.specs.Certificates.{model_after, refutation_after, certificate}
-use Rattle.certificate_check.specs.Checking.{IsOfModel, first_unmet, IsVerdictOn}
+use Rattle.certificate_check.specs.Checking.{IsOfModel, first_unmet}
 use Rattle.certificate_check.specs.declared.certificate.Certificate.TheVariants as C
-use Rattle.certificate_check.specs.Verdict.TheVariants.{Entailed, NotEntailed}
+use Rattle.certificate_check.specs.Verdict.TheVariants.{NotEntailed}
 use Rattle.certificate_check.specs.Answer.{line}
 use Rattle.certificate_check.specs.Questions.{Text, has_element, follows}
 use Rattle.decision_jobs.specs.Decisions.{entailed_line, not_entailed_line, decision_text, IsAccepted}

@@ -6,7 +6,7 @@ use Rattle.certificate_check.specs.declared.certificate.Certificate.TheVariants 
 use Rattle.certificate_check.proofs.Truth.{followed, not_followed}
 use Rattle.certificate_check.proofs.OneReading.{questions}
 use Rattle.decision_jobs.specs.Decisions.{IsAccepted}
-use Rattle.decision_jobs.specs.Laws.{HaveAsked, YesFollows, NoDoesNotFollow, VerdictsExclude}
+use Rattle.decision_jobs.specs.Laws.{YesFollows, NoDoesNotFollow, VerdictsExclude}
 
 pub yes_follows : YesFollows
 yes_follows question budget bytes out log yes' =

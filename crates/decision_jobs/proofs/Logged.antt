@@ -1,5 +1,5 @@
 -- The log of one question is honest.
-use Rattle.std.proofs.Common.{◌≡◌, ℕ, zero, suc, ◌+◌, ◌≤◌, true, false, List, [], ◌∷◌, ◌++◌, length, Some, None, refl, ap, sym, ◌∙◌, subst, arith}
+use Rattle.std.proofs.Common.{◌≡◌, ℕ, zero, suc, ◌+◌, ◌≤◌, true, false, List, [], ◌∷◌, ◌++◌, length, Some, refl, ap, sym, ◌∙◌, subst, arith}
 use Rattle.std.specs.Prelude.{slice_get}
 use Rattle.std.specs.List.{list_any}
 use Rattle.std.proofs.lemmas.List.Elements.{All-cons}
@@ -14,7 +14,7 @@ use Rattle.run_log.specs.declared.entry.Entry.TheVariants.{Test}
 use Rattle.run_log.specs.declared.entry.TestEnd.{TestEnd}
 use Rattle.run_log.specs.declared.entry.TestEnd.TheVariants as E
 use Rattle.run_log.specs.Entries.{spent_of, is_spent, ended_spent, IsAnswered}
-use Rattle.run_log.specs.HonestLog.{IsWhole, IsHonestEntry, EachIsHonest, EndsWhenSpent, IsHonestWithin}
+use Rattle.run_log.specs.HonestLog.{IsWhole, IsHonestEntry, EachIsHonest, EndsWhenSpent}
 use Rattle.shq_oracle.specs.declared.answer.Answer.{Answer as Decision}
 use Rattle.shq_oracle.specs.declared.answer.Answer.TheVariants as Answered
 use Rattle.shq_oracle.specs.OracleLists.{OracleLists}

@@ -1,7 +1,7 @@
-use Rattle.std.proofs.Common.{sym, subst, ap}
+use Rattle.std.proofs.Common.{subst}
 use Rattle.std.specs.Prelude.{IfOk}
 use Rattle.shq_oracle.specs.Decided.{IsAnswer, AppendsTest}
-use Rattle.decision_jobs.proofs.Logged.{is_whole, none_spent, none_answered, asked_whole, asked_logged}
+use Rattle.decision_jobs.proofs.Logged.{is_whole, asked_whole, asked_logged}
 use Rattle.decision_jobs.proofs.deciding.ask.Goals as goal
 
 pub returns-clause-decision : goal.returns-clause-decision
