@@ -1,5 +1,5 @@
 // Whether an 'at most' counts too many successors. It takes no memory.
-ghost use Rattle.std.specs.Prelude.{◌≡◌, ℕ, ◌+◌, ◌<◌, ◌≤◌, ◌==◌, ◌&&◌, ◌||◌, nat_le, Bool, true, false, [], ◌∷◌, MatchOption, IfSome, length};
+ghost use Rattle.std.specs.Prelude.{◌≡◌, ℕ, ◌+◌, ◌<◌, ◌≤◌, ◌==◌, ◌&&◌, ◌||◌, nat_le, Bool, true, false, [], ◌∷◌, MatchOption, IsSome, IfSome, length};
 ghost use Rattle.std.specs.List.{list_all};
 ghost use Rattle.calculus_specs.specs.State.{node_count, has as holds, are_apart};
 ghost use Rattle.tableau_specs.specs.Clash.{filled_successors};
@@ -67,23 +67,46 @@ fn next_filled<S: State, R: Rules>(
 {
     let mut least = None;
     for edge in state.edges(node) {
-        let fits = is_counted(state, rules, edge.0, edge.1, role, filler);
         let end = state.representative(edge.1);
-        least = lesser(least, fits, from, end);
+        least = lesser(state, rules, least, from, *edge, end, role, filler);
     }
     least
 }
 
-// The least of the numbers so far that fit, and one more, where that fits and is not less than `from`.
-fn lesser(least: Option<u32>, fits: bool, from: u32, number: u32) -> Option<u32>
-    ensures { (p : ℕ → Bool) → IsLeast p least → IsLeast (λ z. p z || ((fits && nat_le from number) && z == number)) result }
+// The least of the numbers so far, and the end of an edge, where the edge is counted and its end is not less than
+// `from`. Whether it is counted is asked only where that can change the answer.
+fn lesser<S: State, R: Rules>(
+    state: &S,
+    rules: &R,
+    least: Option<u32>,
+    from: u32,
+    edge: (u32, u32),
+    end: u32,
+    role: u32,
+    filler: u32,
+) -> Option<u32>
+    ensures { (p : ℕ → Bool) → IsLeast p least → IsLeast (λ z. p z
+        || (((below_of (R.context rules.now) edge.0 role && holds (S.facts state.now) edge.1 filler) && nat_le from end) && z == end)) result }
 {
-    if !fits || number < from {
+    if end < from || !is_less(end, least) {
         return least;
     }
-    match least {
-        Some(kept) => Some(number.min(kept)),
-        None => Some(number),
+    if is_counted(state, rules, edge.0, edge.1, role, filler) {
+        Some(end)
+    } else {
+        least
+    }
+}
+
+// Whether the number is less than the other, if there is one.
+fn is_less(number: u32, other: Option<u32>) -> bool
+    ensures none { result ≡ false → IsSome other }
+    ensures no { result ≡ false → IfSome other (λ y. y ≤ number) }
+    ensures yes { result ≡ true → IfSome other (λ y. number < y) }
+{
+    match other {
+        Some(other) => number < other,
+        None => true,
     }
 }
 
@@ -101,25 +124,33 @@ fn is_apart_from_later<S: State, R: Rules>(
         result ≡ list_all (are_apart fs first) (filled_from (below_of w) fs node role filler (first + 1)) }
 {
     for edge in state.edges(node) {
-        let fits = is_counted(state, rules, edge.0, edge.1, role, filler);
         let end = state.representative(edge.1);
-        if !is_passed(state, fits, first, end) {
+        if !is_passed(state, rules, first, *edge, end, role, filler) {
             return false;
         }
     }
     true
 }
 
-// Whether a node is apart from the first, where it fits and is later.
-fn is_passed<S: State>(state: &S, fits: bool, first: u32, end: u32) -> bool
+// Whether the end of an edge is apart from the first, where the edge is counted and its end is later.
+fn is_passed<S: State, R: Rules>(
+    state: &S,
+    rules: &R,
+    first: u32,
+    edge: (u32, u32),
+    end: u32,
+    role: u32,
+    filler: u32,
+) -> bool
     requires first { first < node_count (S.facts state.now) }
-    requires end { fits ≡ true → end < node_count (S.facts state.now) }
-    ensures yes { result ≡ true → fits ≡ true → first < end → are_apart (S.facts state.now) first end ≡ true }
-    ensures no_fits { result ≡ false → fits ≡ true }
+    requires end { (below_of (R.context rules.now) edge.0 role && holds (S.facts state.now) edge.1 filler) ≡ true → end < node_count (S.facts state.now) }
+    ensures yes { result ≡ true → (below_of (R.context rules.now) edge.0 role && holds (S.facts state.now) edge.1 filler) ≡ true
+        → first < end → are_apart (S.facts state.now) first end ≡ true }
+    ensures no_counted { result ≡ false → (below_of (R.context rules.now) edge.0 role && holds (S.facts state.now) edge.1 filler) ≡ true }
     ensures no_later { result ≡ false → first < end }
     ensures no_apart { result ≡ false → are_apart (S.facts state.now) first end ≡ false }
 {
-    if !fits || end <= first {
+    if end <= first || !is_counted(state, rules, edge.0, edge.1, role, filler) {
         return true;
     }
     state.are_apart(first, end)

@@ -1,4 +1,4 @@
-use Rattle.std.proofs.Common.{◌≡◌, ℕ, ◌<◌, ◌&&◌, ◌∙◌, true, false, sym, subst, arith, get_or}
+use Rattle.std.proofs.Common.{◌≡◌, ℕ, ◌<◌, ◌&&◌, true, false, sym, subst, arith, get_or}
 use Rattle.calculus_specs.specs.Joins.{rep}
 use Rattle.calculus_specs.specs.State.{has, node_count, are_apart}
 use Rattle.tableau_specs.specs.Steps.{below_of}
@@ -7,11 +7,11 @@ use Rattle.step_finders.proofs.Later.{end_is_node, one_is_not_apart, all_are_apa
 use Rattle.step_finders.proofs.overrun.is_apart_from_later.Goals as goal
 
 pub is_passed-requires-clause-end : goal.is_passed-requires-clause-end
-is_passed-requires-clause-end g c = λ (fits : c.is_counted-fits.result ≡ true).
+is_passed-requires-clause-end g c = λ counts.
     let below = below_of (g.R.Rules.context c.args.rules.now) in
     let fs = g.S.State.facts c.args.state.now in
     let node : rep fs (get_or c.edges-edge-items.result.now c.loop-edge.edge-index (0, 0)).1 < node_count fs =
-    end_is_node below fs c.args.node c.args.role c.args.filler c.edges-edge-items.result.now c.edges-edge-items.ensures c.loop-edge.edge-index (0, 0) (omega (arith, c.loop-edge-test.true)) (sym c.is_counted-fits.ensures ∙ fits) in
+    end_is_node below fs c.args.node c.args.role c.args.filler c.edges-edge-items.result.now c.edges-edge-items.ensures c.loop-edge.edge-index (0, 0) (omega (arith, c.loop-edge-test.true)) counts in
     subst (λ (z : ℕ). z < node_count fs) (sym c.representative-end.ensures) node
 
 pub returns-then-not-is_passed : goal.returns-then-not-is_passed
@@ -20,7 +20,7 @@ returns-then-not-is_passed g c =
     let fs = g.S.State.facts c.args.state.now in
     let is = c.representative-end.ensures in
     sym (one_is_not_apart below fs c.args.node c.args.role c.args.filler c.edges-edge-items.result.now c.edges-edge-items.ensures c.args.first c.loop-edge.edge-index (0, 0) (omega (arith, c.loop-edge-test.true))
-    (sym c.is_counted-fits.ensures ∙ c.is_passed.ensures.no_fits c.if-not-is_passed.true)
+    (c.is_passed.ensures.no_counted c.if-not-is_passed.true)
     (subst (λ (z : ℕ). c.args.first < z) is (c.is_passed.ensures.no_later c.if-not-is_passed.true))
     (subst (λ (z : ℕ). are_apart fs c.args.first z ≡ false) is (c.is_passed.ensures.no_apart c.if-not-is_passed.true)))
 
@@ -32,7 +32,7 @@ loop-edge-preserved g c =
     c.edges-edge-items.result.now c.loop-edge.edge-index (0, 0) c.loop-edge.invariant (omega (arith, c.loop-edge-test.true))
     (λ counts later.
     let is = c.representative-end.ensures in
-    subst (λ (z : ℕ). are_apart fs c.args.first z ≡ true) is (c.is_passed.ensures.yes c.if-not-is_passed.false (c.is_counted-fits.ensures ∙ counts) (subst (λ (z : ℕ). c.args.first < z) (sym is) later)))
+    subst (λ (z : ℕ). are_apart fs c.args.first z ≡ true) is (c.is_passed.ensures.yes c.if-not-is_passed.false counts (subst (λ (z : ℕ). c.args.first < z) (sym is) later)))
 
 pub returns : goal.returns
 returns g c =

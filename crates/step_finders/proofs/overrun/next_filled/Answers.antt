@@ -1,4 +1,5 @@
-use Rattle.std.proofs.Common.{arith}
+use Rattle.std.proofs.Common.{◌&&◌, refl, arith, get_or}
+use Rattle.calculus_specs.specs.State.{has}
 use Rattle.tableau_specs.specs.Steps.{below_of}
 use Rattle.step_finders.proofs.Later.{is_seen, seen_more, seen_all, next_is, next_is_later, next_is_node}
 use Rattle.step_finders.proofs.overrun.next_filled.Goals as goal
@@ -8,8 +9,10 @@ loop-edge-preserved g c =
     let below = below_of (g.R.Rules.context c.args.rules.now) in
     let fs = g.S.State.facts c.args.state.now in
     let edges = c.edges-edge-items.result.now in
-    seen_more below fs c.args.node c.args.role c.args.filler edges c.args.from c.loop-edge.edge-index (0, 0) c.is_counted-fits.result c.representative-end.result
-    (omega (arith, c.loop-edge-test.true)) c.is_counted-fits.ensures c.representative-end.ensures c.lesser-least.result
+    let p = get_or edges c.loop-edge.edge-index (0, 0) in
+    let counted = below p.0 c.args.role && has fs p.1 c.args.filler in
+    seen_more below fs c.args.node c.args.role c.args.filler edges c.args.from c.loop-edge.edge-index (0, 0) counted c.representative-end.result
+    (omega (arith, c.loop-edge-test.true)) refl c.representative-end.ensures c.lesser-least.result
     (c.lesser-least.ensures (is_seen below fs c.args.node c.args.role c.args.filler edges c.args.from c.loop-edge.edge-index) c.loop-edge.invariant)
 
 pub returns-clause-next : goal.returns-clause-next
