@@ -10,7 +10,7 @@ use Rattle.calculus_specs.specs.State.{node_count, first_origin, parent, has, Ha
 use Rattle.tableau_specs.specs.declared.Block.{Block}
 use Rattle.tableau_specs.specs.Blocked.{blocks_to, block_of}
 use Rattle.tableau_specs.proofs.Agreeing.{blocks_left_by_all, nodes_left_by_all}
-use Rattle.blocking.specs.Followed.{Printed, printed_more, printed_first, IsSound, AreSound, IsFollowed, AreBlocksBelow}
+use Rattle.blocking.specs.Followed.{Printed, printed_more, printed_first, IsSound, AreSound, IsFollowed, AreBlocksBelow, AreFirstBlocks, IsCurrent}
 use Rattle.blocking.specs.Laws.{GoingOnKeepsBlocks, GoingBackKeepsBlocks, CurrentIsBelow, LessIsBelow, NothingIsBelow}
 
 -- ---- the blocks of the first nodes
@@ -196,3 +196,15 @@ followed_more fs n p q block print h is s put =
         ]);
       };
     }
+
+-- what is kept of the first nodes
+pub first_kept : (fs : List (Fact ℕ)) (n : ℕ) (p : Printed) → AreBlocksBelow fs n p → AreFirstBlocks fs (printed_first n p)
+first_kept fs n p h =
+    let followed = followed_first fs n p h in
+    let count : length (printed_first n p).blocks ≡ n = ap length followed.all_blocks ∙ length-blocks_to fs n in
+    subst (λ (k : ℕ). AreBlocksBelow fs k (printed_first n p)) (sym count) (followed_below fs n n (printed_first n p) followed (omega arith) h.within)
+
+pub all_are_first : (fs : List (Fact ℕ)) (p : Printed) → IsCurrent fs p → AreFirstBlocks fs p
+all_are_first fs p h =
+    let count : length p.blocks ≡ node_count fs = ap length h.all_blocks ∙ length-blocks_to fs (node_count fs) in
+    current_below fs (length p.blocks) p h (omega (arith, count))

@@ -67,6 +67,10 @@ pub record AreBlocksBelow (fs : List (Fact ℕ)) (n : ℕ) (p : Printed) : Type 
   pub first_blocks : take n p.blocks ≡ blocks_to fs n
   pub sound : AreSound fs n p.prints
 
+-- the blocks that are there, maybe those of the first nodes alone, are those of the facts
+abbrev pub AreFirstBlocks : List (Fact ℕ) → Printed → Type 0
+AreFirstBlocks fs p = AreBlocksBelow fs (length p.blocks) p
+
 -- the blocks are those of all nodes of the facts
 abbrev pub IsCurrent : List (Fact ℕ) → Printed → Type 0
 IsCurrent fs p = IsFollowed fs (node_count fs) p

@@ -6,7 +6,7 @@ ghost use Rattle.calculus_specs.specs.State.{node_count, has as has_concept, lab
 ghost use Rattle.tableau_specs.specs.declared.Block.TheVariants.{Clear, By, Under};
 ghost use Rattle.tableau_specs.specs.Blocked.{is_parent_clear, may_block, is_clear as is_clear_of, block_of};
 ghost use Rattle.completion_tree.specs.Trail.{facts_in};
-ghost use Rattle.blocking.specs.Followed.{no_prints, printed_more, printed_first, IsPrintWithin, ShowsAll, IsSound, IsFollowed, AreBlocksBelow, IsCurrent, blocked_among};
+ghost use Rattle.blocking.specs.Followed.{no_prints, printed_more, printed_first, IsPrintWithin, ShowsAll, IsSound, IsFollowed, AreBlocksBelow, AreFirstBlocks, IsCurrent, blocked_among};
 
 use crate::Block;
 use crate::print::{full_print, print_of};
@@ -66,6 +66,36 @@ impl Blocks {
             self.follow_node(tree, node)?;
         }
         Ok(())
+    }
+
+    /// Of how many nodes, from node 0 on, the blocks are there.
+    pub fn len(&self) -> u32
+        ensures { result ≡ length self.now.blocks }
+    {
+        self.prints.len()
+    }
+
+    /// Keeps the blocks of the first nodes alone, which are so in the tree.
+    pub fn keep<A: Allocator + Copy>(&mut self, tree: &Tree<A>, len: u32)
+        requires { AreBlocksBelow (facts_in tree.now) len self.old }
+        ensures { AreFirstBlocks (facts_in tree.now) self.new }
+    {
+        let _ = tree;
+        self.cut(len);
+    }
+
+    /// Makes the blocks of all nodes of the tree, where those that are there are so.
+    ///
+    /// # Errors
+    ///
+    /// Want of memory.
+    pub fn complete<A: Allocator + Copy>(&mut self, tree: &Tree<A>) -> Result<(), NoMemory>
+        requires { AreFirstBlocks (facts_in tree.now) self.old }
+        ensures current { OnOk result (IsCurrent (facts_in tree.now) self.new) }
+        ensures first { OnOk result (AreFirstBlocks (facts_in tree.now) self.new) }
+    {
+        let len = self.len();
+        self.follow(tree, len)
     }
 
     // Keeps what there is of the first nodes alone.

@@ -42,13 +42,13 @@ module _ (w : SearchContext) (old : ProgressLists) (st : IsStanding w old) (clas
   fit = fit_back w old.sub old.not_sup lined u (lines_fit w old st old.trace.next line u [] [] r.resting)
 
   by_left : (left : List Place) (b : Back) → gone.passed ++ left ≡ st.places → length left ≡ length (turned_back lined u).opens → IsLeft w.theory w.table start (turned_back lined u) (gone_back lined.lines lined.opens u).used left b → HasGoneBack w back_progress b
-  by_left [] Closed are count is = record { asked = st.asked; follows = st.follows; current = st.current; has_clash = clash; closes = is; fit = fit }
+  by_left [] Closed are count is = record { asked = st.asked; follows = st.follows; blocks = st.blocks; has_clash = clash; closes = is; fit = fit }
   by_left [] (Turned mark marks) are count is = absurd is
   by_left (p ∷ older) Closed are count is = absurd is
   by_left (p ∷ older) (Turned mark marks) are count is = record {
     asked = st.asked;
     follows = st.follows;
-    current = st.current;
+    blocks = st.blocks;
     has_clash = clash;
     passed = gone.passed;
     place = p;

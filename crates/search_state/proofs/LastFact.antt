@@ -104,6 +104,6 @@ module _ (w : SearchContext) (s : ProgressLists) (st : IsStanding w s) where
   pub looked : (f : Fact ℕ) (last : IsLast w s.entries f) (found : Option Clash) → MatchOption found (NoClashByFact w (facts_in s.entries) f) (IsShown w (facts_in s.entries))
       → IsSearching w (record s { clash = found })
   looked f last found h = record {
-    standing = record { asked = st.asked; follows = st.follows; current = st.current; places = st.places; traced = st.traced; are_marks = st.are_marks; grounded = st.grounded; fit = st.fit };
+    standing = record { asked = st.asked; follows = st.follows; blocks = st.blocks; places = st.places; traced = st.traced; are_marks = st.are_marks; grounded = st.grounded; fit = st.fit };
     clash = clash_known f last found h;
   }

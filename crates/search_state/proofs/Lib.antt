@@ -14,3 +14,4 @@ pub mod Taking
 pub mod Nexts
 pub mod Begun
 pub mod Beginnings
+pub mod Followed

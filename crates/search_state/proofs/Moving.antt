@@ -19,7 +19,7 @@ use Rattle.search_trace.specs.Places.{Place}
 use Rattle.completion_tree.specs.declared.tree.By.{By}
 use Rattle.completion_tree.specs.declared.tree.Entry.{Entry}
 use Rattle.completion_tree.specs.Trail.{facts_in, items_of, grounded}
-use Rattle.step_agenda.specs.Followed.{IsCurrent}
+use Rattle.step_agenda.specs.Followed.{AreFirstBlocks}
 use Rattle.search_trace.specs.Trace.{TraceLists, with_line}
 use Rattle.search_trace.specs.Laws.{IsTracedAt}
 use Rattle.search_trace.proofs.Traced.{goes_on}
@@ -39,7 +39,7 @@ pub record IsNext (old new : ProgressLists) (entries : List Entry) (trace : Trac
   pub trace_is : new.trace ≡ trace
   pub marks_are : new.marks ≡ marks
   pub counted : new.steps ≡ old.steps + 1
-  pub current : IsCurrent (facts_in new.entries) new.prints
+  pub blocks : AreFirstBlocks (facts_in new.entries) new.prints
 
 module _ (w : SearchContext) (old : ProgressLists) where
   -- what is kept of the entries, the trace and the marks
@@ -61,7 +61,7 @@ module _ (w : SearchContext) (old : ProgressLists) where
       let here : IsStanding w explicit = record {
         asked = asked;
         follows = subst (λ (m : ℕ). Follows w (start old.sub old.not_sup) m (items_of entries)) more base;
-        current = subst (λ (es : List Entry). IsCurrent (facts_in es) new.prints) n.entries_are n.current;
+        blocks = subst (λ (es : List Entry). AreFirstBlocks (facts_in es) new.prints) n.entries_are n.blocks;
         places = k.places;
         traced = k.traced;
         are_marks = k.are_marks;

@@ -62,6 +62,6 @@ module _ (w : SearchContext) (s : ProgressLists) (st : IsStanding w s) (m : NewN
 
   pub new_looked : (found : Option Clash) → MatchOption found (NoClashByNew w (facts_in s.entries) m.parent m.role m.filler) (IsShown w (facts_in s.entries)) → IsSearching w (record s { clash = found })
   new_looked found h = record {
-    standing = record { asked = st.asked; follows = st.follows; current = st.current; places = st.places; traced = st.traced; are_marks = st.are_marks; grounded = st.grounded; fit = st.fit };
+    standing = record { asked = st.asked; follows = st.follows; blocks = st.blocks; places = st.places; traced = st.traced; are_marks = st.are_marks; grounded = st.grounded; fit = st.fit };
     clash = known found h;
   }

@@ -23,7 +23,7 @@ use Rattle.completion_tree.specs.declared.tree.By.{By}
 use Rattle.completion_tree.specs.declared.tree.Entry.{Entry}
 use Rattle.completion_tree.specs.declared.tree.Entry.TheVariants.{Fact as Grounded}
 use Rattle.completion_tree.specs.Trail.{facts_in, items_of, with_fresh}
-use Rattle.step_agenda.specs.Followed.{Printed, IsCurrent}
+use Rattle.step_agenda.specs.Followed.{Printed, AreFirstBlocks}
 use Rattle.step_finders.specs.declared.clash.Clash.{Clash}
 use Rattle.step_finders.specs.declared.make.NewNodes.{NewNodes}
 use Rattle.step_finders.specs.Clashing.{IsShown}
@@ -73,11 +73,11 @@ pub record IsFitLine (w : SearchContext) (sub not_sup : ℕ) (l : NotedLine) : T
       → list_all (λ c. p (tree_of w.table c)) (concept_numbers l.line) ≡ true
   pub has_part : HasPart w.theory l.line
 
--- the trail is reached by as many legal steps, blocks are known, and the trace is that of the trail
+-- the trail is reached by as many legal steps, the blocks that are known are those of the trail, and so is the trace
 pub record IsStanding (w : SearchContext) (s : ProgressLists) : Type 0 where
   pub asked : IsAsked w s.query s.sub s.not_sup
   pub follows : Follows w (start s.sub s.not_sup) s.steps (items_of s.entries)
-  pub current : IsCurrent (facts_in s.entries) s.prints
+  pub blocks : AreFirstBlocks (facts_in s.entries) s.prints
   pub places : List Place
   pub traced : IsTracedAt w.theory w.table (noted_start s.query.sub s.query.sup) s.trace places (marked_in s.entries)
   pub are_marks : AreMarks w s.entries s.marks places

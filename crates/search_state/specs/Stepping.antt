@@ -6,7 +6,8 @@ use Rattle.tableau_specs.specs.Reached.{start}
 use Rattle.search_trace.specs.Leaves.{leaves}
 use Rattle.search_trace.specs.Noted.{noted_start}
 use Rattle.search_trace.specs.Back.{step_of}
-use Rattle.completion_tree.specs.Trail.{items_of}
+use Rattle.completion_tree.specs.Trail.{facts_in, items_of}
+use Rattle.step_agenda.specs.Followed.{IsCurrent}
 use Rattle.search_state.specs.declared.stepping.Stepped.{Stepped}
 use Rattle.search_state.specs.declared.stepping.Stepped.TheVariants.{Moved, Saturated, Closed}
 use Rattle.search_state.specs.declared.stepping.Rested.{Rested}
@@ -19,12 +20,20 @@ pub record HasBegun (w : SearchContext) (s : ProgressLists) : Type 0 where
   pub trail_is : items_of s.entries ≡ start s.sub s.not_sup
   pub no_steps : s.steps ≡ 0
 
+-- nothing has changed but what is known of blocks
+abbrev pub IsSameButBlocks : ProgressLists → ProgressLists → Type 0
+IsSameButBlocks old new = new ≡ record old { prints = new.prints }
+
+-- nothing was done but that the blocks of all nodes were found
+pub record HasFollowed (old new : ProgressLists) : Type 0 where
+  pub same : IsSameButBlocks old new
+  pub current : IsCurrent (facts_in new.entries) new.prints
+
 module _ (w : SearchContext) where
   -- the lines close everything, and the trail is as it was
   pub record IsClosed (old new : ProgressLists) : Type 0 where
     pub same : IsSameQuery old new
     pub entries : new.entries ≡ old.entries
-    pub prints : new.prints ≡ old.prints
     pub steps : new.steps ≡ old.steps
     pub has_clash : HasClash w (items_of new.entries)
     pub closes : leaves (step_of w.theory w.table) (noted_start new.query.sub new.query.sup ∷ []) new.trace.lines ≡ Some []
@@ -32,7 +41,7 @@ module _ (w : SearchContext) where
 
   abbrev pub IsStepped : ProgressLists → ProgressLists → Stepped → Type 0
   IsStepped old new Moved = HasMoved w old new × IsSearching w new
-  IsStepped old new Saturated = (new ≡ old) × IsSaturated w (items_of new.entries)
+  IsStepped old new Saturated = HasFollowed old new × IsSaturated w (items_of new.entries)
   IsStepped old new Closed = IsClosed old new
 
   -- there is a legal step
@@ -41,6 +50,6 @@ module _ (w : SearchContext) where
     pub is_legal : IsLegal w (items_of s.entries) next
 
   abbrev pub IsRested : ProgressLists → ProgressLists → Rested → Type 0
-  IsRested old new CanMove = (new ≡ old) × HasNext new
-  IsRested old new RestSaturated = (new ≡ old) × IsSaturated w (items_of new.entries)
+  IsRested old new CanMove = IsSameButBlocks old new × IsSearching w new × HasNext new
+  IsRested old new RestSaturated = HasFollowed old new × IsSaturated w (items_of new.entries)
   IsRested old new RestClosed = IsClosed old new

@@ -12,7 +12,7 @@ use Rattle.search_trace.specs.Trail.{Puts}
 use Rattle.search_trace.specs.Back.{step_of}
 use Rattle.search_trace.specs.Places.{Place, turned_place}
 use Rattle.completion_tree.specs.Trail.{facts_in, items_of}
-use Rattle.step_agenda.specs.Followed.{IsCurrent}
+use Rattle.step_agenda.specs.Followed.{AreFirstBlocks}
 use Rattle.search_trace.specs.declared.opens.Back.{Back}
 use Rattle.search_trace.specs.declared.opens.Back.TheVariants.{Turned, Closed}
 use Rattle.search_trace.specs.Laws.{IsTracedAt}
@@ -24,7 +24,7 @@ use Rattle.search_state.specs.Progress.{ProgressLists, IsAsked, IsFitLine}
 pub record IsTurning (w : SearchContext) (s : ProgressLists) (mark : ℕ) (marks : NumberSet) : Type 0 where
   pub asked : IsAsked w s.query s.sub s.not_sup
   pub follows : Follows w (start s.sub s.not_sup) s.steps (items_of s.entries)
-  pub current : IsCurrent (facts_in s.entries) s.prints
+  pub blocks : AreFirstBlocks (facts_in s.entries) s.prints
   pub has_clash : HasClash w (items_of s.entries)
   pub passed : List Place
   pub place : Place
@@ -43,7 +43,7 @@ pub record IsTurning (w : SearchContext) (s : ProgressLists) (mark : ℕ) (marks
 pub record IsClosing (w : SearchContext) (s : ProgressLists) : Type 0 where
   pub asked : IsAsked w s.query s.sub s.not_sup
   pub follows : Follows w (start s.sub s.not_sup) s.steps (items_of s.entries)
-  pub current : IsCurrent (facts_in s.entries) s.prints
+  pub blocks : AreFirstBlocks (facts_in s.entries) s.prints
   pub has_clash : HasClash w (items_of s.entries)
   pub closes : leaves (step_of w.theory w.table) (noted_start s.query.sub s.query.sup ∷ []) s.trace.lines ≡ Some []
   pub fit : All (IsFitLine w s.sub s.not_sup) s.trace.lines

@@ -1,7 +1,7 @@
 // The next step of a search.
 ghost use Rattle.std.specs.Prelude.{◌≡◌, ◌+◌, ◌<◌, ◌^◌, None, MatchOption, OnOk, OnErr, IfOk, IfSome};
 ghost use Rattle.completion_tree.specs.Trail.{facts_in};
-ghost use Rattle.step_agenda.specs.Followed.{IsCurrent};
+ghost use Rattle.step_agenda.specs.Followed.{AreFirstBlocks, IsCurrent};
 ghost use Rattle.step_finders.specs.Clashing.{IsShown};
 ghost use Rattle.step_finders.specs.Choosing.{IsChoosable};
 ghost use Rattle.step_finders.specs.Making.{IsMaking};
@@ -14,7 +14,7 @@ ghost use Rattle.step_finders.specs.Choosing.{branch_of};
 ghost use Rattle.step_lines.specs.Kinds.{alternative_count};
 ghost use Rattle.search_state.specs.Turning.{IsTurning};
 ghost use Rattle.search_state.specs.Advancing.{HasAdvanced};
-ghost use Rattle.search_state.specs.Stepping.{IsStepped};
+ghost use Rattle.search_state.specs.Stepping.{HasFollowed, IsStepped};
 
 use crate::alternatives::count_alternatives;
 use crate::next_alternative::alternative_after;
@@ -25,7 +25,7 @@ use calculus_specs::Fact;
 use completion_tree::Deps;
 use search_trace::Back;
 use std::alloc::Allocator;
-use step_agenda::TreeState;
+use step_agenda::{TreeState, TreeWithBlocks};
 use step_finders::{
     Addition, Choosing, Clash, NewNodes, Rules, Step, find_step, no_step_is_saturated,
 };
@@ -39,7 +39,7 @@ impl<'b, A: Allocator + Copy> Progress<'b, A> {
         requires countable { self.old.steps + 1 < 2 ^ 64 }
         ensures { OnOk result (HasAdvanced (R.context rules.now) self.old self.new) }
     {
-        let resting = rest_addition(self.heap, &self.tree, &self.prints, rules, addition)?;
+        let resting = rest_addition(self.heap, &self.tree, rules, addition)?;
         self.put_addition(rules, addition, resting)?;
         self.look(rules, Fact::Has(addition.node, addition.concept));
         Ok(())
@@ -53,7 +53,7 @@ impl<'b, A: Allocator + Copy> Progress<'b, A> {
         requires countable { self.old.steps + 1 < 2 ^ 64 }
         ensures { OnOk result (HasAdvanced (R.context rules.now) self.old self.new) }
     {
-        let resting = rest_new_nodes(self.heap, &self.tree, &self.prints, rules, new)?;
+        let resting = rest_new_nodes(self.heap, &self.tree, rules, new)?;
         let first = self.put_new_nodes(rules, new, resting)?;
         self.look_at_new_nodes(rules, new, first);
         Ok(())
@@ -67,7 +67,7 @@ impl<'b, A: Allocator + Copy> Progress<'b, A> {
         requires countable { self.old.steps + 1 < 2 ^ 64 }
         ensures { OnOk result (HasAdvanced (R.context rules.now) self.old self.new) }
     {
-        let resting = rest_choice(self.heap, &self.tree, &self.prints, rules, choosing)?;
+        let resting = rest_choice(self.heap, &self.tree, rules, choosing)?;
         let left = left_after_first(rules, choosing)?;
         let fact = first_of(rules, choosing);
         self.put_choice(rules, choosing, resting, left, fact)?;
@@ -102,15 +102,39 @@ impl<'b, A: Allocator + Copy> Progress<'b, A> {
         }
     }
 
-    // A step at the latest facts, where one is seen there.
-    fn latest_step<R: Rules>(&mut self, rules: &R) -> Result<Option<Step>, NoMemory>
+    // Finds the blocks of all nodes. Nothing else changes.
+    pub(crate) fn follow(&mut self) -> Result<(), NoMemory>
+        requires { AreFirstBlocks (facts_in self.old.entries) self.old.prints }
+        ensures followed { OnOk result (HasFollowed self.old self.new) }
+        ensures first { OnOk result (AreFirstBlocks (facts_in self.new.entries) self.new.prints) }
+    {
+        self.prints.complete(&self.tree)
+    }
+
+    // A step that can be made whatever is blocked, where one is seen at the latest facts.
+    fn latest_at_any<R: Rules>(&mut self, rules: &R) -> Result<Option<Step>, NoMemory>
+        ensures found { let w = R.context rules.now in let fs = facts_in self.old.entries in
+            IfOk result (λ found. IfSome found (IsStep w fs (R.files rules.now))) }
+        ensures same { self.new ≡ self.old }
+    {
+        let state = TreeState::new(&self.tree);
+        let found = self
+            .agenda
+            .next_at_any(self.heap, &self.tree, &state, rules)?;
+        Ok(found)
+    }
+
+    // A step that rests on blocks, or one that comes after these, where one is seen at the latest facts.
+    fn latest_with_blocks<R: Rules>(&mut self, rules: &R) -> Result<Option<Step>, NoMemory>
         requires { IsCurrent (facts_in self.old.entries) self.old.prints }
         ensures found { let w = R.context rules.now in let fs = facts_in self.old.entries in
             IfOk result (λ found. IfSome found (IsStep w fs (R.files rules.now))) }
         ensures same { self.new ≡ self.old }
     {
-        let state = TreeState::new(&self.tree, &self.prints);
-        let found = self.agenda.next(self.heap, &self.tree, &state, rules)?;
+        let state = TreeWithBlocks::new(&self.tree, &self.prints);
+        let found = self
+            .agenda
+            .next_with_blocks(self.heap, &self.tree, &state, rules)?;
         if found.is_none() {
             self.effort = self.effort.with_scan();
         }
@@ -123,7 +147,7 @@ impl<'b, A: Allocator + Copy> Progress<'b, A> {
         ensures { let w = R.context rules.now in let fs = facts_in self.now.entries in
             IfOk result (λ found. MatchOption found (NoStep w fs) (IsStep w fs (R.files rules.now))) }
     {
-        let state = TreeState::new(&self.tree, &self.prints);
+        let state = TreeWithBlocks::new(&self.tree, &self.prints);
         let found = find_step(self.heap, &state, rules)?;
         Ok(found)
     }
@@ -149,7 +173,36 @@ impl<'b, A: Allocator + Copy> Progress<'b, A> {
         requires countable { self.old.steps + 1 < 2 ^ 64 }
         ensures { IfOk result (IsStepped (R.context rules.now) self.old self.new) }
     {
-        match self.latest_step(rules)? {
+        match self.latest_at_any(rules)? {
+            Some(step) => {
+                self.make(rules, &step)?;
+                Ok(Stepped::Moved)
+            }
+            None => self.go_on_with_blocks(rules),
+        }
+    }
+
+    // What there is to do where there is no plain clash, and no step is seen that can be made whatever is blocked. Only
+    // now the blocks of all nodes are found.
+    fn go_on_with_blocks<R: Rules>(&mut self, rules: &R) -> Result<Stepped, NoMemory>
+        requires standing { IsStanding (R.context rules.now) self.old }
+        requires none { IsClashOf (R.context rules.now) (facts_in self.old.entries) None }
+        requires countable { self.old.steps + 1 < 2 ^ 64 }
+        ensures { IfOk result (IsStepped (R.context rules.now) self.old self.new) }
+    {
+        self.follow()?;
+        self.go_on_followed(rules)
+    }
+
+    // The same, where the blocks of all nodes are known.
+    fn go_on_followed<R: Rules>(&mut self, rules: &R) -> Result<Stepped, NoMemory>
+        requires standing { IsStanding (R.context rules.now) self.old }
+        requires current { IsCurrent (facts_in self.old.entries) self.old.prints }
+        requires none { IsClashOf (R.context rules.now) (facts_in self.old.entries) None }
+        requires countable { self.old.steps + 1 < 2 ^ 64 }
+        ensures { IfOk result (IsStepped (R.context rules.now) self.old self.new) }
+    {
+        match self.latest_with_blocks(rules)? {
             Some(step) => {
                 self.make(rules, &step)?;
                 Ok(Stepped::Moved)
@@ -161,6 +214,7 @@ impl<'b, A: Allocator + Copy> Progress<'b, A> {
     // What there is to do where there is no plain clash.
     fn go_on_anywhere<R: Rules>(&mut self, rules: &R) -> Result<Stepped, NoMemory>
         requires standing { IsStanding (R.context rules.now) self.old }
+        requires current { IsCurrent (facts_in self.old.entries) self.old.prints }
         requires none { IsClashOf (R.context rules.now) (facts_in self.old.entries) None }
         requires countable { self.old.steps + 1 < 2 ^ 64 }
         ensures { IfOk result (IsStepped (R.context rules.now) self.old self.new) }

@@ -4,7 +4,7 @@ ghost use Rattle.refutation_tree.specs.RuleLine.{line_of};
 ghost use Rattle.tableau_specs.specs.Steps.{HasClash};
 ghost use Rattle.completion_tree.specs.declared.tree.Entry.TheVariants.{Mark as Marks};
 ghost use Rattle.completion_tree.specs.Trail.{facts_in, items_of, IsMarkAt};
-ghost use Rattle.step_agenda.specs.Followed.{Printed, AreBlocksBelow, IsCurrent};
+ghost use Rattle.step_agenda.specs.Followed.{Printed, AreBlocksBelow};
 ghost use Rattle.step_finders.specs.Clashing.{IsShown};
 ghost use Rattle.search_state.specs.Backing.{closed_trace, can_turn, IsLatest};
 ghost use Rattle.search_state.specs.Looking.{IsNoEdge};
@@ -14,14 +14,14 @@ ghost use Rattle.search_state.specs.Turning.{IsTurning, HasGoneBack};
 ghost use Rattle.search_trace.specs.Trace.{with_line, answer_of};
 
 use crate::next_alternative::alternative_after;
-use crate::progress::{follow, put_alternative};
+use crate::progress::{keep_blocks, put_alternative};
 use crate::resting::{RestingLine, rest_clash};
 use crate::{NoMemory, Progress};
 use calculus_specs::Fact;
 use completion_tree::{By, Choice, Deps, Item, Mark, Tree};
 use search_trace::Back;
 use std::alloc::Allocator;
-use step_agenda::{blocks_stay, current_before};
+use step_agenda::current_before;
 use step_finders::{Clash, Rules};
 use step_lines::{alternatives_speak_of_nodes, facts_stay_grounded};
 
@@ -55,7 +55,7 @@ impl<'b, A: Allocator + Copy> Progress<'b, A> {
         ensures gone { IfOk result (HasGoneBack (R.context rules.now) self.new) }
         ensures same { OnOk result (self.new ≡ record self.old { trace = self.new.trace }) }
     {
-        let resting = rest_clash(self.heap, &self.tree, &self.prints, rules, clash)?;
+        let resting = rest_clash(self.heap, &self.tree, rules, clash)?;
         self.close_child(rules, resting)
     }
 
@@ -79,10 +79,11 @@ impl<'b, A: Allocator + Copy> Progress<'b, A> {
         let choice = choice_at(&self.tree, place);
         let fact = alternative_after(rules, choice.branch, choice.alternative);
         let next = at_next(choice);
-        let from = cut(&mut self.tree, place);
+        let known = self.prints.len();
+        let from = cut(&mut self.tree, place, known);
         let by = By { line: mark, marks };
         put_alternative(&mut self.tree, next, fact, by)?;
-        follow(&self.tree, &mut self.prints, place, from)?;
+        keep_blocks(&self.tree, &mut self.prints, place, from);
         facts_stay_grounded();
         alternatives_speak_of_nodes();
         self.steps += 1;
@@ -125,15 +126,15 @@ fn choice_at<A: Allocator + Copy>(tree: &Tree<A>, place: u32) -> Choice
     }
 }
 
-// Takes the entries from a place on out, and answers below which node the blocks stand that stood before.
-fn cut<A: Allocator + Copy>(tree: &mut Tree<A>, place: u32) -> u32
+// Takes the entries from a place on out, and answers below which node the blocks stand of those below `from`, where
+// these stood before.
+fn cut<A: Allocator + Copy>(tree: &mut Tree<A>, place: u32, from: u32) -> u32
     requires { place ≤ length tree.old }
     ensures cut { tree.new ≡ take place tree.old }
-    ensures stand { (p : Printed) → IsCurrent (facts_in tree.old) p → AreBlocksBelow (facts_in (take place tree.old)) result p }
+    ensures stand { (p : Printed) → AreBlocksBelow (facts_in tree.old) from p → AreBlocksBelow (facts_in (take place tree.old)) result p }
 {
-    let nodes = tree.nodes();
-    blocks_stay();
-    let below = current_before(tree, place, nodes);
+    let _nodes = tree.nodes();
+    let below = current_before(tree, place, from);
     tree.back(Mark { len: place });
     below.min(tree.nodes())
 }

@@ -3,7 +3,6 @@ ghost use Rattle.std.specs.Prelude.{◌≡◌, [], ◌∷◌, ◌++◌, OnOk, If
 ghost use Rattle.calculus_specs.specs.declared.facts.Fact.TheVariants.{Has};
 ghost use Rattle.completion_tree.specs.declared.tree.Entry.TheVariants.{Fact as Grounded};
 ghost use Rattle.completion_tree.specs.Trail.{facts_in};
-ghost use Rattle.step_agenda.specs.Followed.{IsCurrent};
 ghost use Rattle.search_state.specs.Beginning.{by_start, begun_entries};
 ghost use Rattle.search_state.specs.Progress.{IsAsked, IsClashOf};
 ghost use Rattle.search_state.specs.Stepping.{HasBegun};
@@ -41,10 +40,9 @@ impl<'b, A: Allocator + Copy> Progress<'b, A> {
         let mut tree = Tree::new_in(alloc)?;
         put_start(&mut tree, sub)?;
         put_start(&mut tree, not_sup)?;
-        let mut prints = Blocks::new(heap);
+        let prints = Blocks::new(heap);
         blocks_stay();
-        prints.follow(&tree, 0)?;
-        let clash = find_clash_at_start(&tree, &prints, rules, sub, not_sup);
+        let clash = find_clash_at_start(&tree, rules, sub, not_sup);
         Ok(Progress {
             heap,
             query,
@@ -76,18 +74,16 @@ fn put_start<A: Allocator + Copy>(tree: &mut Tree<A>, concept: u32) -> Result<()
 // The plain clash that there is at the beginning, if there is one.
 fn find_clash_at_start<A: Allocator + Copy, R: Rules>(
     tree: &Tree<A>,
-    prints: &Blocks,
     rules: &R,
     sub: u32,
     not_sup: u32,
 ) -> Option<Clash>
-    requires current { IsCurrent (facts_in tree.now) prints.now }
     requires begun { tree.now ≡ begun_entries sub not_sup }
     ensures { IsClashOf (R.context rules.now) (facts_in tree.now) result }
 {
     rules.is_ready();
-    match find_clash_by(tree, prints, rules, Fact::Has(0, sub)) {
+    match find_clash_by(tree, rules, Fact::Has(0, sub)) {
         Some(clash) => Some(clash),
-        None => find_clash_by(tree, prints, rules, Fact::Has(0, not_sup)),
+        None => find_clash_by(tree, rules, Fact::Has(0, not_sup)),
     }
 }

@@ -1,14 +1,13 @@
 // Whether the last facts have made a plain clash.
 ghost use Rattle.std.specs.Prelude.{◌≡◌, MatchOption};
 ghost use Rattle.completion_tree.specs.Trail.{facts_in};
-ghost use Rattle.step_agenda.specs.Followed.{IsCurrent};
 ghost use Rattle.step_finders.specs.Clashing.{IsShown, NoClashByNew};
 ghost use Rattle.search_state.specs.Looking.{IsLookable, IsNewLookable, NoClashByFact};
 
 use calculus_specs::Fact;
 use completion_tree::Tree;
 use std::alloc::Allocator;
-use step_agenda::{Blocks, TreeState};
+use step_agenda::TreeState;
 use step_finders::{
     Clash, NewNodes, Rules, find_clash, find_clash_of_apart, find_clash_of_join,
     find_clash_of_new_nodes,
@@ -17,16 +16,14 @@ use step_finders::{
 /// A plain clash that is there by the fact; none exactly where there is none.
 pub(crate) fn find_clash_by<A: Allocator + Copy, R: Rules>(
     tree: &Tree<A>,
-    prints: &Blocks,
     rules: &R,
     fact: Fact<u32>,
 ) -> Option<Clash>
-    requires current { IsCurrent (facts_in tree.now) prints.now }
     requires lookable { IsLookable (facts_in tree.now) fact }
     ensures { let w = R.context rules.now in let fs = facts_in tree.now in
         MatchOption result (NoClashByFact w fs fact) (IsShown w fs) }
 {
-    let state = TreeState::new(tree, prints);
+    let state = TreeState::new(tree);
     match fact {
         Fact::Has(node, concept) => find_clash(&state, rules, node, concept),
         Fact::Edge(_, _, _) => None,
@@ -38,16 +35,14 @@ pub(crate) fn find_clash_by<A: Allocator + Copy, R: Rules>(
 /// A plain clash that is there by new nodes, of which this is the first; none exactly where there is none.
 pub(crate) fn find_clash_by_new<A: Allocator + Copy, R: Rules>(
     tree: &Tree<A>,
-    prints: &Blocks,
     rules: &R,
     new: &NewNodes,
     first: u32,
 ) -> Option<Clash>
-    requires current { IsCurrent (facts_in tree.now) prints.now }
     requires lookable { IsNewLookable (facts_in tree.now) new.now first }
     ensures { let w = R.context rules.now in let fs = facts_in tree.now in
         MatchOption result (NoClashByNew w fs new.now.parent new.now.role new.now.filler) (IsShown w fs) }
 {
-    let state = TreeState::new(tree, prints);
+    let state = TreeState::new(tree);
     find_clash_of_new_nodes(&state, rules, new.parent, new.role, new.filler, first)
 }

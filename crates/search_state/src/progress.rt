@@ -4,7 +4,7 @@ ghost use Rattle.calculus_specs.specs.declared.facts.Fact.TheVariants.{Has};
 ghost use Rattle.calculus_specs.specs.State.{node_count};
 ghost use Rattle.refutation_tree.specs.RuleLine.{line_of};
 ghost use Rattle.completion_tree.specs.Trail.{facts_in};
-ghost use Rattle.step_agenda.specs.Followed.{IsCurrent, AreBlocksBelow};
+ghost use Rattle.step_agenda.specs.Followed.{AreBlocksBelow, AreFirstBlocks};
 ghost use Rattle.step_finders.specs.Reasons.{IsAddition};
 ghost use Rattle.fact_tree.specs.Entries.{IsFit};
 ghost use Rattle.completion_tree.specs.declared.tree.Entry.TheVariants.{Fact as Grounded, Mark};
@@ -27,11 +27,11 @@ use search_trace::Trace;
 use shq_terms::Query;
 use std::alloc::{Allocator, Global};
 use std::marker::Model;
-use step_agenda::{Agenda, Blocks, blocks_stay, still_current};
+use step_agenda::{Agenda, Blocks, still_current};
 use step_finders::{Addition, Choosing, Clash, NewNodes, Rules};
 use step_lines::{alternatives_speak_of_nodes, facts_stay_grounded, new_nodes_stay_grounded};
 
-/// The tree of a search with the blocks of its nodes, its trace, and the places of the marks.
+/// The tree of a search with the blocks that are known of its nodes, its trace, and the places of the marks.
 #[derive(Drop)]
 pub struct Progress<'b, A: Allocator> {
     pub(crate) heap: Global,
@@ -75,20 +75,20 @@ impl<'b, A: Allocator> Model for Progress<'b, A> {
     } };
 }
 
-// Finds the blocks again, of which those below `from` stood before the entries from `place` on were put.
-pub(crate) fn follow<A: Allocator + Copy>(
+// Keeps those blocks that stand, where those below `from` stood before the entries from `place` on were put.
+pub(crate) fn keep_blocks<A: Allocator + Copy>(
     tree: &Tree<A>,
     prints: &mut Blocks,
     place: u32,
     from: u32,
-) -> Result<(), NoMemory>
+)
     requires place { place ≤ length tree.now }
     requires stood { AreBlocksBelow (facts_in (take place tree.now)) from prints.old }
-    ensures { OnOk result (IsCurrent (facts_in tree.now) prints.new) }
+    ensures { AreFirstBlocks (facts_in tree.now) prints.new }
 {
     let _count = tree.nodes();
     let still = still_current(tree, place, from);
-    prints.follow(tree, still)
+    prints.keep(tree, still);
 }
 
 impl<'b, A: Allocator + Copy> Progress<'b, A> {
@@ -109,7 +109,7 @@ impl<'b, A: Allocator + Copy> Progress<'b, A> {
     {
         let RestingLine { line, marks } = resting;
         let place = self.tree.len();
-        let nodes = self.tree.nodes();
+        let known = self.prints.len();
         let shared = marks.try_clone()?;
         let number = self.trace.put(line, shared)?;
         let by = By {
@@ -118,8 +118,7 @@ impl<'b, A: Allocator + Copy> Progress<'b, A> {
         };
         self.tree
             .add(Fact::Has(addition.node, addition.concept), by)?;
-        blocks_stay();
-        follow(&self.tree, &mut self.prints, place, nodes)?;
+        keep_blocks(&self.tree, &mut self.prints, place, known);
         facts_stay_grounded();
         self.steps += 1;
         Ok(())
@@ -133,7 +132,7 @@ impl<'b, A: Allocator + Copy> Progress<'b, A> {
         ensures found { IsSearching (R.context rules.now) self.new }
         ensures same { self.new ≡ record self.old { clash = self.new.clash } }
     {
-        let clash = find_clash_by(&self.tree, &self.prints, rules, fact);
+        let clash = find_clash_by(&self.tree, rules, fact);
         self.clash = clash;
     }
 
@@ -154,7 +153,7 @@ impl<'b, A: Allocator + Copy> Progress<'b, A> {
     {
         let RestingLine { line, marks } = resting;
         let place = self.tree.len();
-        let nodes = self.tree.nodes();
+        let known = self.prints.len();
         let shared = marks.try_clone()?;
         let number = self.trace.put(line, shared)?;
         let by = By {
@@ -164,8 +163,7 @@ impl<'b, A: Allocator + Copy> Progress<'b, A> {
         let first = self
             .tree
             .fresh(new.parent, new.role, new.filler, new.count, by)?;
-        blocks_stay();
-        follow(&self.tree, &mut self.prints, place, nodes)?;
+        keep_blocks(&self.tree, &mut self.prints, place, known);
         new_nodes_stay_grounded();
         self.steps += 1;
         Ok(first)
@@ -179,7 +177,7 @@ impl<'b, A: Allocator + Copy> Progress<'b, A> {
         ensures found { IsSearching (R.context rules.now) self.new }
         ensures same { self.new ≡ record self.old { clash = self.new.clash } }
     {
-        let clash = find_clash_by_new(&self.tree, &self.prints, rules, new, first);
+        let clash = find_clash_by_new(&self.tree, rules, new, first);
         self.clash = clash;
     }
 
@@ -206,7 +204,7 @@ impl<'b, A: Allocator + Copy> Progress<'b, A> {
     {
         let RestingLine { line, marks } = resting;
         let place = self.tree.len();
-        let nodes = self.tree.nodes();
+        let known = self.prints.len();
         let shared = marks.try_clone()?;
         let mark = self.trace.open(line, shared, left)?;
         let more = with_mark(self.heap, &marks, mark)?;
@@ -222,8 +220,7 @@ impl<'b, A: Allocator + Copy> Progress<'b, A> {
         };
         put_alternative(&mut self.tree, choice, fact, by)?;
         self.marks.push(place)?;
-        blocks_stay();
-        follow(&self.tree, &mut self.prints, place, nodes)?;
+        keep_blocks(&self.tree, &mut self.prints, place, known);
         self.agenda.put_mark()?;
         facts_stay_grounded();
         alternatives_speak_of_nodes();

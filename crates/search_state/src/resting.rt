@@ -6,7 +6,6 @@ ghost use Rattle.calculus_specs.specs.State.{is_so};
 ghost use Rattle.refutation_tree.specs.RuleLine.{line_of};
 ghost use Rattle.search_trace.specs.Grounded.{AreGrounded};
 ghost use Rattle.completion_tree.specs.Trail.{facts_in};
-ghost use Rattle.step_agenda.specs.Followed.{IsCurrent};
 ghost use Rattle.step_finders.specs.Choosing.{branch_of, IsChoosable};
 ghost use Rattle.step_finders.specs.Clashing.{IsShown};
 ghost use Rattle.step_finders.specs.Making.{IsMaking};
@@ -22,7 +21,7 @@ use calculus_specs::Fact;
 use completion_tree::{Deps, Tree};
 use refutation_tree::Line;
 use std::alloc::{Allocator, Global};
-use step_agenda::{Blocks, TreeState};
+use step_agenda::TreeState;
 use step_finders::{Addition, Choosing, Clash, NewNodes, Rules};
 use step_lines::{line_of_addition, line_of_choice, line_of_clash, line_of_new_nodes};
 
@@ -69,16 +68,14 @@ fn with_marks<A: Allocator + Copy>(
 pub(crate) fn rest_addition<A: Allocator + Copy, R: Rules>(
     alloc: Global,
     tree: &Tree<A>,
-    prints: &Blocks,
     rules: &R,
     addition: &Addition,
 ) -> Result<RestingLine, NoMemory>
-    requires current { IsCurrent (facts_in tree.now) prints.now }
     requires grounded { AreGrounded (marked_in tree.now) }
     requires addition { IsAddition (R.context rules.now) (facts_in tree.now) (R.files rules.now) addition.now }
     ensures { IfOk result (λ l. RestsAddition (R.context rules.now) tree.now addition.now.node addition.now.concept (line_of l.line) l.marks) }
 {
-    let line = line_of_addition(alloc, &TreeState::new(tree, prints), rules, addition)?;
+    let line = line_of_addition(alloc, &TreeState::new(tree), rules, addition)?;
     let marks = marks_of_all(alloc, tree, &line.grounds)?;
     Ok(RestingLine {
         line: line.line,
@@ -90,16 +87,14 @@ pub(crate) fn rest_addition<A: Allocator + Copy, R: Rules>(
 pub(crate) fn rest_new_nodes<A: Allocator + Copy, R: Rules>(
     alloc: Global,
     tree: &Tree<A>,
-    prints: &Blocks,
     rules: &R,
     new: &NewNodes,
 ) -> Result<RestingLine, NoMemory>
-    requires current { IsCurrent (facts_in tree.now) prints.now }
     requires grounded { AreGrounded (marked_in tree.now) }
     requires making { IsMaking (R.context rules.now) (facts_in tree.now) new.now }
     ensures { IfOk result (λ l. RestsNewNodes (R.context rules.now) tree.now new.now (line_of l.line) l.marks) }
 {
-    let line = line_of_new_nodes(alloc, &TreeState::new(tree, prints), rules, new)?;
+    let line = line_of_new_nodes(alloc, &TreeState::new(tree), rules, new)?;
     let marks = marks_of_all(alloc, tree, &line.grounds)?;
     Ok(RestingLine {
         line: line.line,
@@ -111,17 +106,15 @@ pub(crate) fn rest_new_nodes<A: Allocator + Copy, R: Rules>(
 pub(crate) fn rest_choice<A: Allocator + Copy, R: Rules>(
     alloc: Global,
     tree: &Tree<A>,
-    prints: &Blocks,
     rules: &R,
     choosing: &Choosing,
 ) -> Result<RestingLine, NoMemory>
-    requires current { IsCurrent (facts_in tree.now) prints.now }
     requires grounded { AreGrounded (marked_in tree.now) }
     requires choosable { IsChoosable (R.context rules.now) (facts_in tree.now) choosing.now }
     requires closed { IsClosedFor (R.context rules.now) }
     ensures { IfOk result (λ l. RestsChoice (R.context rules.now) tree.now (branch_of choosing.now) (line_of l.line) l.marks) }
 {
-    let line = line_of_choice(alloc, &TreeState::new(tree, prints), rules, choosing)?;
+    let line = line_of_choice(alloc, &TreeState::new(tree), rules, choosing)?;
     let marks = marks_of_all(alloc, tree, &line.grounds)?;
     Ok(RestingLine {
         line: line.line,
@@ -133,16 +126,14 @@ pub(crate) fn rest_choice<A: Allocator + Copy, R: Rules>(
 pub(crate) fn rest_clash<A: Allocator + Copy, R: Rules>(
     alloc: Global,
     tree: &Tree<A>,
-    prints: &Blocks,
     rules: &R,
     clash: &Clash,
 ) -> Result<RestingLine, NoMemory>
-    requires current { IsCurrent (facts_in tree.now) prints.now }
     requires grounded { AreGrounded (marked_in tree.now) }
     requires shown { IsShown (R.context rules.now) (facts_in tree.now) clash.now }
     ensures { IfOk result (λ l. RestsClash (R.context rules.now) tree.now (line_of l.line) l.marks) }
 {
-    let line = line_of_clash(alloc, &TreeState::new(tree, prints), rules, clash)?;
+    let line = line_of_clash(alloc, &TreeState::new(tree), rules, clash)?;
     let marks = marks_of_all(alloc, tree, &line.grounds)?;
     Ok(RestingLine {
         line: line.line,

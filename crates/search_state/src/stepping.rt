@@ -72,11 +72,11 @@ impl<'b, A: Allocator + Copy> Progress<'b, A> {
 
     // Looks whether going back from a clash turns to a next alternative. If not, the lines close everything.
     fn rest_at_clash<R: Rules>(&mut self, rules: &R, clash: &Clash) -> Result<Rested, NoMemory>
-        requires standing { IsStanding (R.context rules.now) self.old }
+        requires searching { IsSearching (R.context rules.now) self.old }
         requires shown { IsShown (R.context rules.now) (facts_in self.old.entries) clash.now }
         ensures { IfOk result (IsRested (R.context rules.now) self.old self.new) }
     {
-        let resting = rest_clash(self.heap, &self.tree, &self.prints, rules, clash)?;
+        let resting = rest_clash(self.heap, &self.tree, rules, clash)?;
         if self.turns(&resting)? {
             Ok(Rested::CanMove)
         } else {
@@ -107,10 +107,11 @@ impl<'b, A: Allocator + Copy> Progress<'b, A> {
     }
 
     fn rest_without_clash<R: Rules>(&mut self, rules: &R) -> Result<Rested, NoMemory>
-        requires standing { IsStanding (R.context rules.now) self.old }
+        requires searching { IsSearching (R.context rules.now) self.old }
         requires none { IsClashOf (R.context rules.now) (facts_in self.old.entries) None }
         ensures { IfOk result (IsRested (R.context rules.now) self.old self.new) }
     {
+        self.follow()?;
         match self.next_step(rules)? {
             Some(_) => Ok(Rested::CanMove),
             None => {
@@ -137,7 +138,7 @@ impl<'b, A: Allocator + Copy> Progress<'b, A> {
         &self.tree
     }
 
-    /// The blocks of the tree's nodes.
+    /// The blocks of the tree's nodes, as far as they are known.
     pub fn prints(&self) -> &Blocks
         ensures { result.now ≡ self.now.prints }
     {

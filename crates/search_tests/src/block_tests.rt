@@ -10,8 +10,8 @@ use completion_tree::Tree;
 use std::alloc::Global;
 use std::process::Abort;
 use std::test::Fail;
-use step_agenda::TreeState;
-use step_finders::State;
+use step_agenda::{TreeState, TreeWithBlocks};
+use step_finders::{State, StateWithBlocks};
 
 /// Node 0 has concept 1, node 1 below it concept 2, node 2 below node 1 concept 1, and node 3 below node 2 both.
 const CHAIN: &[Fact<u32>] = &[
@@ -134,7 +134,7 @@ const ARE_CLEAR: &[(u32, bool)] = &[
     (u32::MAX, false),
 ];
 
-fn are_clear<S: State>(state: &S) -> bool {
+fn are_clear<S: StateWithBlocks>(state: &S) -> bool {
     let mut are_so = true;
     for (node, wanted) in ARE_CLEAR {
         are_so &= state.is_clear(*node) == *wanted;
@@ -159,14 +159,19 @@ fn are_nodes<S: State>(state: &S) -> bool {
 }
 
 fn is_state<S: State>(state: &S) -> bool {
-    are_nodes(state) && are_labels(state) && are_clear(state)
+    are_nodes(state) && are_labels(state)
+}
+
+fn is_state_with_blocks<S: StateWithBlocks>(state: &S) -> bool {
+    is_state(state) && are_clear(state)
 }
 
 fn is_state_of(tree: &mut Tree<Global>, blocks: &mut Blocks) -> Result<bool, NoMemory>
     requires { IsCurrent (facts_in tree.old) blocks.old }
 {
     fill(tree, blocks, STATE)?;
-    Ok(is_state(&TreeState::new(tree, blocks)))
+    let is_alone = is_state(&TreeState::new(tree));
+    Ok(is_alone && is_state_with_blocks(&TreeWithBlocks::new(tree, blocks)))
 }
 
 fn is_told(heap: Global) -> Result<bool, NoMemory> {

@@ -53,7 +53,9 @@ pub(crate) fn put(
     tree.add(fact, by)?;
     let _ = tree.nodes();
     blocks_stay();
-    blocks.follow(tree, still_current(tree, place, from))
+    let still = still_current(tree, place, from);
+    blocks.keep(tree, still);
+    blocks.complete(tree)
 }
 
 /// Puts facts last in turn.

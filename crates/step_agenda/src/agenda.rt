@@ -11,7 +11,7 @@ use crate::watched::UnionIndex;
 use blocking::least_changed;
 use completion_tree::Tree;
 use std::alloc::{Allocator, Global};
-use step_finders::{Rules, State, Step};
+use step_finders::{Rules, State, StateWithBlocks, Step};
 
 // Up to which entry of the trail, from 0, a search has looked for each kind of step.
 #[derive(Clone, Copy, Debug, PartialEq, Eq)]
@@ -107,15 +107,14 @@ impl Agenda {
         self.looks = self.looks.wrapping_add(count);
     }
 
-    /// A step that can be made, where one is seen at the facts that were not looked at before: concepts first; then a
-    /// part of a union of which at most one part does not clash at once; then whether two successors are one, where
-    /// there may be too many; then new nodes, those of nodes last that were not clear when they were looked at; then
-    /// unions, and last which successors have a filler. Of each kind, the oldest.
+    /// A step that can be made whatever is blocked, where one is seen at the facts that were not looked at before:
+    /// concepts first; then a part of a union of which at most one part does not clash at once; then whether two
+    /// successors are one, where there may be too many. Of each kind, the oldest.
     ///
     /// # Errors
     ///
     /// Want of memory.
-    pub fn next<A: Allocator + Copy, S: State, R: Rules>(
+    pub fn next_at_any<A: Allocator + Copy, S: State, R: Rules>(
         &mut self,
         heap: Global,
         tree: &Tree<A>,
@@ -158,7 +157,7 @@ impl Agenda {
         }
     }
 
-    // Whether two successors are one, or what comes after that.
+    // Whether two successors are one.
     fn next_pair<A: Allocator + Copy, S: State, R: Rules>(
         &mut self,
         heap: Global,
@@ -180,12 +179,18 @@ impl Agenda {
         self.cursors.pairs = place;
         match pair {
             Some(choosing) => Ok(Some(Step::Choose(choosing))),
-            None => self.next_making(heap, tree, state, rules),
+            None => Ok(None),
         }
     }
 
-    // New nodes, or what comes after them.
-    fn next_making<A: Allocator + Copy, S: State, R: Rules>(
+    /// A step that can be made where none is seen that can be made whatever is blocked: new nodes first, those of nodes
+    /// last that were not clear when they were looked at; then unions, and last which successors have a filler. Of each
+    /// kind, the oldest.
+    ///
+    /// # Errors
+    ///
+    /// Want of memory.
+    pub fn next_with_blocks<A: Allocator + Copy, S: StateWithBlocks, R: Rules>(
         &mut self,
         heap: Global,
         tree: &Tree<A>,
@@ -211,7 +216,7 @@ impl Agenda {
     }
 
     // New nodes below one that was not clear when it was looked at, or what comes after them.
-    fn next_held<A: Allocator + Copy, S: State, R: Rules>(
+    fn next_held<A: Allocator + Copy, S: StateWithBlocks, R: Rules>(
         &mut self,
         heap: Global,
         tree: &Tree<A>,

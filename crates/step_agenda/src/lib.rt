@@ -14,7 +14,11 @@
 //! Solver", DAC 2001). What is found can be done. That nothing is found says nothing, since a join or a block that goes
 //! can make an old fact count again: then `step_finders::find_step` looks through everything.
 //!
-//! [`TreeState`] is a completion tree with the blocks of its nodes, as the state that finders look through.
+//! What needs no look at blocks is looked for first, so that blocks are found where nothing of it is left alone, and not
+//! after each step.
+//!
+//! [`TreeState`] is a completion tree as the state that finders look through, and [`TreeWithBlocks`] one with the blocks
+//! of its nodes.
 #![tactic(auto)]
 
 mod additions;
@@ -29,4 +33,4 @@ mod watched;
 pub use agenda::Agenda;
 pub use blocking::{Blocks, blocks_stay, current_before, still_current};
 pub use step_finders::NoMemory;
-pub use tree_state::TreeState;
+pub use tree_state::{TreeState, TreeWithBlocks};

@@ -7,7 +7,7 @@ use calculus_specs::Fact;
 use completion_tree::{Item, Tree};
 use shq_nnf::Shape;
 use std::alloc::{Allocator, Global};
-use step_finders::{NewNodes, Rules, State, find_making_by};
+use step_finders::{NewNodes, Rules, StateWithBlocks, find_making_by};
 
 /// An entry that asks for nodes, as far as its node was not clear.
 #[derive(Clone, Copy, Debug, PartialEq, Eq)]
@@ -24,7 +24,7 @@ pub(crate) struct Held {
 /// # Errors
 ///
 /// Want of memory.
-pub(crate) fn first_making<A: Allocator + Copy, S: State, R: Rules>(
+pub(crate) fn first_making<A: Allocator + Copy, S: StateWithBlocks, R: Rules>(
     heap: Global,
     tree: &Tree<A>,
     state: &S,
@@ -45,7 +45,7 @@ pub(crate) fn first_making<A: Allocator + Copy, S: State, R: Rules>(
 }
 
 // Puts the entry last in the list, where its concept asks for nodes and its node is not clear.
-fn hold<S: State, R: Rules>(
+fn hold<S: StateWithBlocks, R: Rules>(
     held: &mut Vec<Held>,
     item: Item,
     place: u32,
@@ -72,7 +72,7 @@ fn hold<S: State, R: Rules>(
 /// # Errors
 ///
 /// Want of memory.
-pub(crate) fn first_held<A: Allocator + Copy, S: State, R: Rules>(
+pub(crate) fn first_held<A: Allocator + Copy, S: StateWithBlocks, R: Rules>(
     heap: Global,
     tree: &Tree<A>,
     state: &S,
@@ -94,7 +94,7 @@ pub(crate) fn first_held<A: Allocator + Copy, S: State, R: Rules>(
 }
 
 // What nodes the entry asks for.
-fn making_by<S: State, R: Rules>(
+fn making_by<S: StateWithBlocks, R: Rules>(
     heap: Global,
     item: Item,
     state: &S,
@@ -114,7 +114,7 @@ fn making_by<S: State, R: Rules>(
 }
 
 // What nodes are to be made since the node has the concept, where it is a representative and clear.
-fn making_at<S: State, R: Rules>(
+fn making_at<S: StateWithBlocks, R: Rules>(
     heap: Global,
     state: &S,
     rules: &R,

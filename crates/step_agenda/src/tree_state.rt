@@ -1,5 +1,5 @@
-//! A completion tree with the blocks of its nodes, as the state that the finders of steps look through.
-// A tree and its blocks.
+//! A completion tree as the state that the finders of steps look through, by itself and with the blocks of its nodes.
+// A tree as a state.
 ghost use Rattle.std.specs.Prelude.{◌≡◌};
 ghost use Rattle.completion_tree.specs.Trail.{facts_in};
 ghost use Rattle.blocking.specs.Followed.{IsCurrent};
@@ -7,26 +7,21 @@ ghost use Rattle.blocking.specs.Followed.{IsCurrent};
 use blocking::{Blocks, is_clear};
 use completion_tree::Tree;
 use std::alloc::Allocator;
-use step_finders::State;
+use step_finders::{State, StateWithBlocks};
 
-/// A completion tree, and the blocks of its nodes as it is now.
+/// A completion tree.
 #[derive(Drop)]
 pub struct TreeState<'a, A: Allocator> {
     /// The tree.
     pub tree: &'a Tree<A>,
-    /// The blocks of its nodes.
-    pub prints: &'a Blocks,
-    ghost current: { IsCurrent (facts_in tree.now) prints.now },
 }
 
 impl<'a, A: Allocator + Copy> TreeState<'a, A> {
-    /// The tree with its blocks, which have been followed since it changed.
-    pub fn new(tree: &'a Tree<A>, prints: &'a Blocks) -> Self
-        requires { IsCurrent (facts_in tree.now) prints.now }
+    /// The tree as it is now.
+    pub fn new(tree: &'a Tree<A>) -> Self
         ensures tree { result.tree.now ≡ tree.now }
-        ensures prints { result.prints.now ≡ prints.now }
     {
-        TreeState { tree, prints }
+        TreeState { tree }
     }
 }
 
@@ -61,11 +56,73 @@ impl<'a, A: Allocator + Copy> State for TreeState<'a, A> {
         self.tree.edges(node)
     }
 
-    fn is_clear(&self, node: u32) -> bool {
-        is_clear(self.tree, self.prints, node)
+    fn are_apart(&self, first: u32, second: u32) -> bool {
+        self.tree.are_apart(first, second)
+    }
+}
+
+/// A completion tree, and the blocks of its nodes as it is now.
+#[derive(Drop)]
+pub struct TreeWithBlocks<'a, A: Allocator> {
+    /// The tree.
+    pub state: TreeState<'a, A>,
+    /// The blocks of its nodes.
+    pub prints: &'a Blocks,
+    ghost current: { IsCurrent (facts_in state.tree.now) prints.now },
+}
+
+impl<'a, A: Allocator + Copy> TreeWithBlocks<'a, A> {
+    /// The tree with its blocks, which have been followed since it changed.
+    pub fn new(tree: &'a Tree<A>, prints: &'a Blocks) -> Self
+        requires { IsCurrent (facts_in tree.now) prints.now }
+        ensures tree { result.state.tree.now ≡ tree.now }
+        ensures prints { result.prints.now ≡ prints.now }
+    {
+        TreeWithBlocks {
+            state: TreeState::new(tree),
+            prints,
+        }
+    }
+}
+
+impl<'a, A: Allocator + Copy> State for TreeWithBlocks<'a, A> {
+    ghost facts = { λ s. facts_in s.state.tree.now };
+
+    fn nodes(&self) -> u32 {
+        self.state.nodes()
+    }
+
+    fn representative(&self, node: u32) -> u32 {
+        self.state.representative(node)
+    }
+
+    fn parent(&self, node: u32) -> Option<u32> {
+        self.state.parent(node)
+    }
+
+    fn origin(&self, node: u32) -> Option<(u32, u32)> {
+        self.state.origin(node)
+    }
+
+    fn has(&self, node: u32, concept: u32) -> bool {
+        self.state.has(node, concept)
+    }
+
+    fn label(&self, node: u32) -> &[u32] {
+        self.state.label(node)
+    }
+
+    fn edges(&self, node: u32) -> &[(u32, u32)] {
+        self.state.edges(node)
     }
 
     fn are_apart(&self, first: u32, second: u32) -> bool {
-        self.tree.are_apart(first, second)
+        self.state.are_apart(first, second)
+    }
+}
+
+impl<'a, A: Allocator + Copy> StateWithBlocks for TreeWithBlocks<'a, A> {
+    fn is_clear(&self, node: u32) -> bool {
+        is_clear(self.state.tree, self.prints, node)
     }
 }

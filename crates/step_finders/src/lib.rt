@@ -37,5 +37,5 @@ pub use rows::{
     find_by_rows, find_general,
 };
 pub use shq_terms::NoMemory;
-pub use state::{NamedRow, PlainRow, Rules, State};
+pub use state::{NamedRow, PlainRow, Rules, State, StateWithBlocks};
 pub use step::{Step, find_step, no_step_is_saturated};

@@ -10,7 +10,7 @@ ghost use Rattle.tableau_specs.specs.Steps.{below_of, IsOpen};
 ghost use Rattle.step_finders.specs.Making.{IsMaking, HasFiller, AnswersRun, AnswersAmong, NoMakingByShape, NoMakingAt, NothingToMake};
 
 use crate::counted::filled_successors;
-use crate::{NoMemory, Rules, State};
+use crate::{NoMemory, Rules, State, StateWithBlocks};
 use shq_nnf::Shape;
 use std::alloc::Global;
 
@@ -225,7 +225,7 @@ pub fn find_making_at<S: State, R: Rules>(
 }
 
 // The same, where the node is clear and a representative.
-fn find_at_open<S: State, R: Rules>(
+fn find_at_open<S: StateWithBlocks, R: Rules>(
     alloc: Global,
     state: &S,
     rules: &R,
@@ -249,7 +249,7 @@ fn find_at_open<S: State, R: Rules>(
 /// # Errors
 ///
 /// Want of memory.
-pub fn find_making<S: State, R: Rules>(
+pub fn find_making<S: StateWithBlocks, R: Rules>(
     alloc: Global,
     state: &S,
     rules: &R,

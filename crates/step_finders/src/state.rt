@@ -54,15 +54,19 @@ pub trait State {
     fn edges(&self, node: u32) -> &[(u32, u32)]
         ensures { AreEdges (facts self.now) node result.now };
 
-    /// Whether nodes may be made below a representative.
-    fn is_clear(&self, node: u32) -> bool
-        ensures { IsTrue result ↔ (block_of (facts self.now) node ≡ Clear) };
-
     /// Whether two nodes are apart.
     fn are_apart(&self, first: u32, second: u32) -> bool
         requires first { first < node_count (facts self.now) }
         requires second { second < node_count (facts self.now) }
         ensures { result ≡ kept_apart (facts self.now) first second };
+}
+
+/// A state of a search of which the blocks of all nodes are known. Only whether nodes may be made rests on these, so
+/// all other steps are found in a [`State`].
+pub trait StateWithBlocks: State {
+    /// Whether nodes may be made below a representative.
+    fn is_clear(&self, node: u32) -> bool
+        ensures { IsTrue result ↔ (block_of (Self.facts self.now) node ≡ Clear) };
 }
 
 /// A row that waits for no concept.

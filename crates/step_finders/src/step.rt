@@ -7,7 +7,7 @@ ghost use Rattle.step_finders.specs.Choosing.{NothingToChoose};
 use crate::add::find_add;
 use crate::choose::find_choice;
 use crate::make::{NewNodes, find_making};
-use crate::{Addition, Choosing, NoMemory, Rules, State};
+use crate::{Addition, Choosing, NoMemory, Rules, StateWithBlocks};
 use std::alloc::Global;
 
 /// A step that is legal where there is no plain clash.
@@ -26,7 +26,7 @@ pub enum Step {
 /// # Errors
 ///
 /// Want of memory.
-pub fn find_step<S: State, R: Rules>(
+pub fn find_step<S: StateWithBlocks, R: Rules>(
     alloc: Global,
     state: &S,
     rules: &R,
@@ -41,7 +41,7 @@ pub fn find_step<S: State, R: Rules>(
 }
 
 // A step that makes nodes or branches: nodes first, and unions last.
-fn find_branching<S: State, R: Rules>(
+fn find_branching<S: StateWithBlocks, R: Rules>(
     alloc: Global,
     state: &S,
     rules: &R,

@@ -7,16 +7,15 @@ use Rattle.tableau_specs.specs.Reached.{start, IsReached, Follows}
 use Rattle.tableau_specs.specs.Steps.{IsLegal}
 use Rattle.tableau_specs.specs.declared.Item.{Item}
 use Rattle.completion_tree.specs.declared.tree.Entry.{Entry}
-use Rattle.completion_tree.specs.Trail.{items_of, facts_in}
+use Rattle.completion_tree.specs.Trail.{items_of}
 use Rattle.search_laws.specs.Runs.{IsRun}
 use Rattle.seen_concepts.specs.Seen.{SeenSets, AreOver, AreSeenIn}
-use Rattle.search_state.specs.Followed.{IsCurrent}
 use Rattle.search_trace.specs.Trace.{begun}
 use Rattle.search_rules.specs.RuleLists.{RuleLists, AreNumbersOf, context_in}
 use Rattle.search_state.specs.Progress.{ProgressLists, IsStanding, IsSearching, HasMoved}
-use Rattle.search_state.specs.Stepping.{HasBegun, IsClosed, IsStepped, IsRested}
+use Rattle.search_state.specs.Stepping.{HasBegun, IsClosed, IsStepped, IsRested, IsSameButBlocks}
 use Rattle.search_state.specs.declared.stepping.Stepped.{Stepped}
-use Rattle.search_state.specs.declared.stepping.Stepped.TheVariants.{Moved as StepMoved, Closed as StepClosed}
+use Rattle.search_state.specs.declared.stepping.Stepped.TheVariants.{Closed as StepClosed}
 use Rattle.search_state.specs.declared.stepping.Rested.{Rested}
 use Rattle.search_state.specs.declared.stepping.Rested.TheVariants.{Closed as RestClosed}
 use Rattle.tableau.specs.SearchState.{SearchState, room_for, context_of, trail_of, IsReachedBy, HasRun, IsSameSearch}
@@ -58,7 +57,6 @@ module _ (rules : RuleLists) (query : Query) (sub not_sup : ℕ) (p : ProgressLi
     numbers = numbers;
     reached = λ whole. reached_by h.standing ended failed;
     has_run = λ whole. run;
-    current = λ whole. h.standing.current;
     progress = λ whole goes. record { query = query_is; sub = s; not_sup = n; steps = steps_is };
     searching = λ whole goes. h;
   }
@@ -77,7 +75,6 @@ has_closed : (rules : RuleLists) (old mid new : ProgressLists) (r : RefutationLi
 has_closed rules old mid new r h left refutes =
     subst (λ (p : ProgressLists). HasClosed rules r old p) (sym left) (record {
       entries = h.entries;
-      prints = h.prints;
       steps = h.steps;
       has_clash = h.has_clash;
       refutes = subst (λ (q : Query). Refutes rules q r) h.same.query refutes;
@@ -104,14 +101,11 @@ module _ (rules : RuleLists) (query : Query) (sub not_sup : ℕ) (p p' : Progres
     progress_is : IsProgressOf was p
     progress_is = kept.progress whole goes_still
 
-    same_stays : p' ≡ p → steps' ≡ p'.steps → (goes : Bool) → Stays was (now goes)
+    same_stays : IsSameButBlocks p p' → steps' ≡ p'.steps → (goes : Bool) → Stays was (now goes)
     same_stays same counts goes = record { entries = ap (λ (q : ProgressLists). q.entries) same; steps = counts ∙ ap (λ (q : ProgressLists). q.steps) same ∙ progress_is.steps }
 
     closed_stays : (r : RefutationLists) → HasClosed rules r p p' → steps' ≡ p'.steps → (goes : Bool) → Stays was (now goes)
     closed_stays r h counts goes = record { entries = h.entries; steps = counts ∙ h.steps ∙ progress_is.steps }
-
-    current : p' ≡ p → IsCurrent (facts_in p'.entries) p'.prints
-    current same = subst (λ (q : ProgressLists). IsCurrent (facts_in q.entries) q.prints) (sym same) (kept.searching whole goes_still).standing.current
 
     refuted : (r : RefutationLists) → HasClosed rules r p p' → (goes : Bool) → goes ≡ false → IsAtRefutation r (now goes)
     refuted r h goes is = record {
@@ -126,21 +120,33 @@ module _ (rules : RuleLists) (query : Query) (sub not_sup : ℕ) (p p' : Progres
       counted = counts ∙ h.0.counted ∙ ap (λ (n : ℕ). n + 1) progress_is.steps;
       goes_on = ap not is;
     }
-    event_is Saturated h counts goes is = (same_stays h.0 counts goes, record { is_saturated = h.1; is_current = current h.0; ended = ap not is })
+    event_is Saturated h counts goes is = (same_stays h.0.same counts goes, record { is_saturated = h.1; is_current = h.0.current; ended = ap not is })
     event_is (Closed r) h counts goes is = (closed_stays r h counts goes, refuted r h goes is)
 
     pub end_is : (e : End) → IsSettled rules p p' e → steps' ≡ p'.steps → (goes : Bool) → goes ≡ is_spent e → IsHalted was (now goes) e
-    end_is Spent h counts goes is = (same_stays h.0 counts goes, ap not is, h.1.next, h.1.is_legal)
-    end_is RunSaturated h counts goes is = (same_stays h.0 counts goes, record { is_saturated = h.1; is_current = current h.0; ended = ap not is })
+    end_is Spent h counts goes is = (same_stays h.0 counts goes, ap not is, h.2.next, h.2.is_legal)
+    end_is RunSaturated h counts goes is = (same_stays h.0.same counts goes, record { is_saturated = h.1; is_current = h.0.current; ended = ap not is })
     end_is (RunClosed r) h counts goes is = (closed_stays r h counts goes, refuted r h goes is)
 
     -- ---- what is kept after it
 
     -- a trail that stays is reached by the same run
-    stays_kept : p'.entries ≡ p.entries → p'.prints ≡ p.prints → seen' ≡ seen → steps' ≡ steps → (goes : Bool) → goes ≡ false → IsKept (now goes) p'
-    stays_kept entries prints seen_is steps_is goes stops =
+    same_run : p'.entries ≡ p.entries → seen' ≡ seen → steps' ≡ steps → (goes : Bool) → HasRun (now goes)
+    same_run entries seen_is steps_is goes =
         let w = context_in rules in
         let run = kept.has_run whole in
+        record {
+          earlier = run.earlier;
+          is_run = subst (λ (es : List Entry). IsRun w (start sub not_sup) (items_of es ∷ run.earlier)) (sym entries) run.is_run;
+          counted = run.counted ∙ sym steps_is;
+          are_over = subst (AreOver (room_for (length rules.ontology.classes) not_sup)) (sym seen_is) run.are_over;
+          are_seen = subst (λ (es : List Entry). AreSeenIn rules.table (items_of es ∷ run.earlier) seen') (sym entries)
+              (subst (AreSeenIn rules.table (items_of p.entries ∷ run.earlier)) (sym seen_is) run.are_seen);
+        }
+
+    stays_kept : p'.entries ≡ p.entries → seen' ≡ seen → steps' ≡ steps → (goes : Bool) → goes ≡ false → IsKept (now goes) p'
+    stays_kept entries seen_is steps_is goes stops =
+        let w = context_in rules in
         record {
           in_limit = kept.in_limit;
           set = kept.set;
@@ -148,16 +154,7 @@ module _ (rules : RuleLists) (query : Query) (sub not_sup : ℕ) (p p' : Progres
           reached = λ still.
               subst (λ (es : List Entry). IsReached w.theory query.sub query.sup w.table w.rows steps' (items_of es)) (sym entries)
               (subst (λ (k : ℕ). IsReached w.theory query.sub query.sup w.table w.rows k (items_of p.entries)) (sym steps_is) (kept.reached whole));
-          has_run = λ still. record {
-            earlier = run.earlier;
-            is_run = subst (λ (es : List Entry). IsRun w (start sub not_sup) (items_of es ∷ run.earlier)) (sym entries) run.is_run;
-            counted = run.counted ∙ sym steps_is;
-            are_over = subst (AreOver (room_for (length rules.ontology.classes) not_sup)) (sym seen_is) run.are_over;
-            are_seen = subst (λ (es : List Entry). AreSeenIn rules.table (items_of es ∷ run.earlier) seen') (sym entries)
-                (subst (AreSeenIn rules.table (items_of p.entries ∷ run.earlier)) (sym seen_is) run.are_seen);
-          };
-          current = λ still.
-              subst (λ (es : List Entry). IsCurrent (facts_in es) p'.prints) (sym entries) (subst (IsCurrent (facts_in p.entries)) (sym prints) (kept.current whole));
+          has_run = λ still. same_run entries seen_is steps_is goes;
           progress = λ still goes_again. absurd (ended_now goes stops goes_again);
           searching = λ still goes_again. absurd (ended_now goes stops goes_again);
         }
@@ -166,16 +163,13 @@ module _ (rules : RuleLists) (query : Query) (sub not_sup : ℕ) (p p' : Progres
         ended_now true e h = cc
         ended_now false e h = cc
 
-    -- nothing was done
-    rested_kept : p' ≡ p → seen' ≡ seen → steps' ≡ steps → (goes : Bool) → IsKept (now goes) p'
-    rested_kept same seen_is counts goes =
+    -- nothing was done but to find blocks
+    rested_kept : IsSameButBlocks p p' → IsSearching (context_in rules) p' → seen' ≡ seen → steps' ≡ steps → (goes : Bool) → IsKept (now goes) p'
+    rested_kept same h seen_is steps_is goes =
         let is = progress_is in
-        let run = kept.has_run whole in
-        subst (λ (q : ProgressLists). IsKept (state rules query sub not_sup q seen' steps' (not goes) false) q) (sym same)
-        (subst (λ (s : SeenSets). IsKept (state rules query sub not_sup p s steps' (not goes) false) p) (sym seen_is)
-        (subst (λ (k : ℕ). IsKept (state rules query sub not_sup p seen k (not goes) false) p) (sym counts)
-        (searching_is_kept rules query sub not_sup p seen steps is.query is.steps kept.in_limit kept.set kept.numbers is.sub is.not_sup (kept.searching whole goes_still) (not goes) false
-        (record { earlier = run.earlier; is_run = run.is_run; counted = run.counted; are_over = run.are_over; are_seen = run.are_seen }))))
+        searching_is_kept rules query sub not_sup p' seen' steps' (ap (λ (q : ProgressLists). q.query) same ∙ is.query) (ap (λ (q : ProgressLists). q.steps) same ∙ is.steps ∙ sym steps_is) kept.in_limit kept.set
+        kept.numbers (ap (λ (q : ProgressLists). q.sub) same ∙ is.sub) (ap (λ (q : ProgressLists). q.not_sup) same ∙ is.not_sup) h (not goes) false
+        (same_run (ap (λ (q : ProgressLists). q.entries) same) seen_is steps_is goes)
 
     -- a trail that has moved on
     moved_kept : HasMoved (context_in rules) p p' → IsSearching (context_in rules) p' → HasNotedNew rules (length p.entries) p'.entries seen seen' → steps' ≡ p'.steps → (goes : Bool) → IsKept (now goes) p'
@@ -195,18 +189,18 @@ module _ (rules : RuleLists) (query : Query) (sub not_sup : ℕ) (p p' : Progres
     pub stepped_kept : (e : Event) → IsAdvanced rules p p' e → IsNotedAfter rules p p' seen seen' e → steps' ≡ p'.steps → (goes : Bool) → goes ≡ goes_on e → IsKept (now goes) p'
     stepped_kept Moved h noted counts goes is = moved_kept h.0 h.1 noted counts goes
     stepped_kept Saturated h noted counts goes is =
-        stays_kept (ap (λ (q : ProgressLists). q.entries) h.0) (ap (λ (q : ProgressLists). q.prints) h.0) noted (counts ∙ ap (λ (q : ProgressLists). q.steps) h.0 ∙ progress_is.steps) goes is
-    stepped_kept (Closed r) h noted counts goes is = stays_kept h.entries h.prints noted (counts ∙ h.steps ∙ progress_is.steps) goes is
+        stays_kept (ap (λ (q : ProgressLists). q.entries) h.0.same) noted (counts ∙ ap (λ (q : ProgressLists). q.steps) h.0.same ∙ progress_is.steps) goes is
+    stepped_kept (Closed r) h noted counts goes is = stays_kept h.entries noted (counts ∙ h.steps ∙ progress_is.steps) goes is
 
     pub settled_kept : (e : End) → IsSettled rules p p' e → seen' ≡ seen → steps' ≡ steps → (goes : Bool) → goes ≡ is_spent e → IsKept (now goes) p'
-    settled_kept Spent h same counts goes is = rested_kept h.0 same counts goes
-    settled_kept RunSaturated h same counts goes is = stays_kept (ap (λ (q : ProgressLists). q.entries) h.0) (ap (λ (q : ProgressLists). q.prints) h.0) same counts goes is
-    settled_kept (RunClosed r) h same counts goes is = stays_kept h.entries h.prints same counts goes is
+    settled_kept Spent h same counts goes is = rested_kept h.0 h.1 same counts goes
+    settled_kept RunSaturated h same counts goes is = stays_kept (ap (λ (q : ProgressLists). q.entries) h.0.same) same counts goes is
+    settled_kept (RunClosed r) h same counts goes is = stays_kept h.entries same counts goes is
 
     -- what halts has made no step
     pub halted_steps : (e : End) → IsSettled rules p p' e → p'.steps ≡ steps
     halted_steps Spent h = ap (λ (q : ProgressLists). q.steps) h.0 ∙ progress_is.steps
-    halted_steps RunSaturated h = ap (λ (q : ProgressLists). q.steps) h.0 ∙ progress_is.steps
+    halted_steps RunSaturated h = ap (λ (q : ProgressLists). q.steps) h.0.same ∙ progress_is.steps
     halted_steps (RunClosed r) h = h.steps ∙ progress_is.steps
 
 -- ---- several steps

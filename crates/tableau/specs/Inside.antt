@@ -6,15 +6,14 @@ use Rattle.tableau_specs.specs.declared.Item.{Item}
 use Rattle.tableau_specs.specs.Steps.{IsLegal, IsSaturated, HasClash}
 use Rattle.tableau_specs.specs.Items.{facts_of}
 use Rattle.completion_tree.specs.declared.tree.Entry.{Entry}
-use Rattle.completion_tree.specs.Trail.{items_of, facts_in}
+use Rattle.completion_tree.specs.Trail.{items_of}
 use Rattle.seen_concepts.specs.Seen.{SeenSets, HasNoted}
 use Rattle.search_trace.specs.Leaves.{leaves}
 use Rattle.search_trace.specs.Noted.{noted_start}
 use Rattle.search_trace.specs.Back.{step_of}
 use Rattle.search_rules.specs.RuleLists.{RuleLists, AreNumbersOf, context_in, theory_in}
 use Rattle.search_state.specs.Progress.{ProgressLists, IsAsked, IsFitLine, IsSearching, HasMoved}
-use Rattle.search_state.specs.Stepping.{HasNext}
-use Rattle.search_state.specs.Followed.{IsCurrent}
+use Rattle.search_state.specs.Stepping.{HasNext, HasFollowed, IsSameButBlocks}
 use Rattle.tableau.specs.SearchState.{SearchState, context_of, trail_of, IsReachedBy, HasRun}
 use Rattle.tableau.specs.Steps.{Refutes, Runs, Stays, IsAtModel, IsAtRefutation}
 use Rattle.tableau.specs.declared.search.Event.{Event}
@@ -32,15 +31,14 @@ pub record IsProgressOf (s : SearchState) (p : ProgressLists) : Type 0 where
   pub steps : p.steps ≡ s.steps
 
 -- the ontology and the query are within the limits, the set is one of the ontology's axioms, the numbers are the
--- query's, and unless memory was refused the trail is reached by a run whose classes were noted, its blocks are known,
--- and it can go on until the search has ended
+-- query's, and unless memory was refused the trail is reached by a run whose classes were noted, and it can go on until
+-- the search has ended
 pub record IsKept (s : SearchState) (p : ProgressLists) : Type 0 where
   pub in_limit : IsInLimit s.rules.ontology s.query
   pub set : s.rules.set.limit ≡ length s.rules.ontology.axioms
   pub numbers : AreNumbersOf s.rules s.query s.sub s.not_sup
   pub reached : s.failed ≡ false → IsReachedBy s
   pub has_run : s.failed ≡ false → HasRun s
-  pub current : s.failed ≡ false → IsCurrent (facts_in s.entries) s.prints
   pub progress : s.failed ≡ false → s.ended ≡ false → IsProgressOf s p
   pub searching : s.failed ≡ false → s.ended ≡ false → IsSearching (context_of s) p
 
@@ -57,7 +55,6 @@ pub record IsClosing (rules : RuleLists) (p : ProgressLists) : Type 0 where
 -- the trail stays, it has a clash, and the refutation is one of the query
 pub record HasClosed (rules : RuleLists) (r : RefutationLists) (old new : ProgressLists) : Type 0 where
   pub entries : new.entries ≡ old.entries
-  pub prints : new.prints ≡ old.prints
   pub steps : new.steps ≡ old.steps
   pub has_clash : HasClash (context_in rules) (items_of new.entries)
   pub refutes : Refutes rules old.query r
@@ -66,12 +63,12 @@ pub record HasClosed (rules : RuleLists) (r : RefutationLists) (old new : Progre
 
 abbrev pub IsAdvanced : RuleLists → ProgressLists → ProgressLists → Event → Type 0
 IsAdvanced rules old new Moved = HasMoved (context_in rules) old new × IsSearching (context_in rules) new
-IsAdvanced rules old new Saturated = (new ≡ old) × IsSaturated (context_in rules) (items_of new.entries)
+IsAdvanced rules old new Saturated = HasFollowed old new × IsSaturated (context_in rules) (items_of new.entries)
 IsAdvanced rules old new (Closed r) = HasClosed rules r old new
 
 abbrev pub IsSettled : RuleLists → ProgressLists → ProgressLists → End → Type 0
-IsSettled rules old new Spent = (new ≡ old) × HasNext (context_in rules) new
-IsSettled rules old new RunSaturated = (new ≡ old) × IsSaturated (context_in rules) (items_of new.entries)
+IsSettled rules old new Spent = IsSameButBlocks old new × IsSearching (context_in rules) new × HasNext (context_in rules) new
+IsSettled rules old new RunSaturated = HasFollowed old new × IsSaturated (context_in rules) (items_of new.entries)
 IsSettled rules old new (RunClosed r) = HasClosed rules r old new
 
 -- the facts are noted that a step has put, in a trail that had so many entries before

@@ -295,10 +295,11 @@ impl<'b, A: Allocator + Copy> Search<'b, A> {
         self.progress.tree()
     }
 
-    /// The blocks of the tree's nodes, unless memory was refused.
+    /// The blocks of the tree's nodes, of which those of all nodes are sure to be known where the search has ended at a
+    /// model.
     pub fn prints(&self) -> &Blocks
         ensures blocks { result.now ≡ self.now.prints }
-        ensures current { self.now.failed ≡ false → IsCurrent (facts_in self.now.entries) self.now.prints }
+        ensures current { IsAtModel self.now → IsCurrent (facts_in self.now.entries) self.now.prints }
     {
         self.progress.prints()
     }

@@ -1,7 +1,9 @@
-use Rattle.std.proofs.Common.{◌≡◌, ◌∙◌, List, [], ◌∷◌, ◌++◌, ap, reverse}
+use Rattle.std.proofs.Common.{◌≡◌, ◌∙◌, List, [], ◌∷◌, ◌++◌, ap, reverse, subst, sym}
 use Rattle.calculus_specs.specs.declared.facts.Fact.TheVariants.{Has}
 use Rattle.completion_tree.specs.declared.tree.Entry.{Entry}
 use Rattle.completion_tree.specs.declared.tree.Entry.TheVariants.{Fact as Grounded}
+use Rattle.completion_tree.specs.Trail.{facts_in}
+use Rattle.step_agenda.specs.Followed.{AreFirstBlocks, no_prints}
 use Rattle.search_state.specs.Beginning.{by_start, begun_entries}
 use Rattle.search_state.proofs.Beginnings.{begins}
 use Rattle.search_state.proofs.progress.Progress.new_in.Goals as goal
@@ -14,4 +16,5 @@ returns-clause-begun g c =
     let es = c.put_start-2.new.tree in
     let are : es ≡ begun_entries sub not_sup =
     c.in_ok-put_start-2.ensures ∙ ap (λ (xs : List Entry). xs ++ Grounded (Has 0 not_sup) by_start ∷ []) (c.in_ok-put_start.ensures ∙ ap (λ (xs : List Entry). xs ++ Grounded (Has 0 sub) by_start ∷ []) c.in_ok-tree.ensures) in
-    begins w c.args.query.now sub not_sup c.requires es are c.follow.new.self c.in_ok-follow.ensures.followed c.new.result c.new.ensures (reverse c.new-2.result.items) (ap reverse c.new-2.ensures.items) c.find_clash_at_start-clash.result c.find_clash_at_start-clash.ensures
+    let blocks = subst (AreFirstBlocks (facts_in es)) (sym c.new-prints.ensures) (c.blocks_stay.ensures.none (facts_in es) no_prints) in
+    begins w c.args.query.now sub not_sup c.requires es are c.new-prints.result blocks c.new.result c.new.ensures (reverse c.new-2.result.items) (ap reverse c.new-2.ensures.items) c.find_clash_at_start-clash.result c.find_clash_at_start-clash.ensures

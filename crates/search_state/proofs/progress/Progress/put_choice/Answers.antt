@@ -1,4 +1,4 @@
-use Rattle.std.proofs.Common.{◌≡◌, ◌∙◌, ℕ, List, ap, refl, sym, subst, reverse, take, [], append_assoc, arith}
+use Rattle.std.proofs.Common.{◌≡◌, ◌∙◌, ℕ, List, ap, refl, sym, subst, reverse, take, [], append_assoc}
 use Rattle.std.specs.Prelude.{◌+◌, ◌∷◌, ◌++◌, None}
 use Rattle.std.specs.FinSet as sets
 use Rattle.std.proofs.lemmas.List.{reverse-append}
@@ -22,8 +22,8 @@ use Rattle.search_state.proofs.Entries.{facts-marked}
 use Rattle.search_state.proofs.Choices.{choice_moves}
 use Rattle.search_state.proofs.progress.Progress.put_choice.Goals as goal
 
-pub follow-requires-clause-stood : goal.follow-requires-clause-stood
-follow-requires-clause-stood g c =
+pub keep_blocks-requires-clause-stood : goal.keep_blocks-requires-clause-stood
+keep_blocks-requires-clause-stood g c =
     let w = g.R.Rules.context c.args.rules.now in
     let s = c.self.inside in
     let old : ProgressLists = record { query = s.query.now; sub = s.sub; not_sup = s.not_sup; entries = s.tree; prints = s.prints; trace = s.trace; marks = reverse s.marks.items; clash = s.clash; steps = s.steps } in
@@ -33,8 +33,8 @@ follow-requires-clause-stood g c =
     let choice : Choice = record { line = c.in_ok-mark.mark; branch = c.branch-branch.result; alternative = 1 } in
     let more : List Entry = Mark choice ∷ Grounded c.args.fact by ∷ [] in
     let front : take c.len-place.result c.put_alternative.new.tree ≡ s.tree = (λ i. take (c.len-place.ensures i) (c.in_ok-put_alternative.ensures i)) ∙ take-append_seam s.tree more in
-    subst (λ (es : List Entry). AreBlocksBelow (facts_in es) c.nodes-nodes.result s.prints) (sym front)
-    (c.blocks_stay.ensures.all (facts_in s.tree) c.nodes-nodes.result s.prints st.current (omega (arith, c.nodes-nodes.ensures.count)))
+    subst (λ (es : List Entry). AreBlocksBelow (facts_in es) c.len-known.result s.prints) (sym front)
+    (subst (λ (n : ℕ). AreBlocksBelow (facts_in s.tree) n s.prints) (sym c.len-known.ensures) st.blocks)
 
 pub returns-clause-moved : goal.returns-clause-moved
 returns-clause-moved g c =
@@ -46,7 +46,7 @@ returns-clause-moved g c =
     let line = line_of c.args.resting.line in
     let u = c.args.resting.marks in
     let by : By = record { line = c.in_ok-mark.mark; marks = c.in_ok-more.more } in
-    let new : ProgressLists = record { query = s.query.now; sub = s.sub; not_sup = s.not_sup; entries = c.put_alternative.new.tree; prints = c.follow.new.prints; trace = c.open.new.self; marks = reverse c.push.new.self.items; clash = s.clash; steps = s.steps + 1 } in
+    let new : ProgressLists = record { query = s.query.now; sub = s.sub; not_sup = s.not_sup; entries = c.put_alternative.new.tree; prints = c.keep_blocks.new.prints; trace = c.open.new.self; marks = reverse c.push.new.self.items; clash = s.clash; steps = s.steps + 1 } in
     subst (λ (q : ProgressLists). HasMoved w q new) is
     (choice_moves w old (subst (λ (q : ProgressLists). IsStanding w q) (sym is) c.requires.standing) k
     (subst (λ (q : ProgressLists). IsClashOf w (facts_in q.entries) None) (sym is) c.requires.none)
@@ -63,7 +63,7 @@ returns-clause-moved g c =
       trace_is = c.in_ok-mark.ensures.opened ∙ ap (λ (v : NumberSet). with_branching s.trace line v c.args.left) c.in_ok-shared.ensures;
       marks_are = ap reverse c.in_ok-push.ensures.items ∙ reverse-append s.marks.items (c.len-place.result ∷ []) ∙ ap (λ (n : ℕ). n ∷ reverse s.marks.items) c.len-place.ensures;
       counted = refl;
-      current = c.in_ok-follow.ensures;
+      blocks = c.keep_blocks.ensures;
     }))
 
 pub returns-clause-last : goal.returns-clause-last

@@ -22,7 +22,7 @@ returns-clause-moved g c =
     let line = line_of c.args.resting.line in
     let u = c.args.resting.marks in
     let by : By = record { line = c.in_ok-number.number; marks = u } in
-    let new : ProgressLists = record { query = s.query.now; sub = s.sub; not_sup = s.not_sup; entries = c.fresh.new.self; prints = c.follow.new.prints; trace = c.put.new.self; marks = reverse s.marks.items; clash = s.clash; steps = s.steps + 1 } in
+    let new : ProgressLists = record { query = s.query.now; sub = s.sub; not_sup = s.not_sup; entries = c.fresh.new.self; prints = c.keep_blocks.new.prints; trace = c.put.new.self; marks = reverse s.marks.items; clash = s.clash; steps = s.steps + 1 } in
     subst (λ (q : ProgressLists). HasMoved w q new) is
     (new_nodes_move w old (subst (λ (q : ProgressLists). IsStanding w q) (sym is) c.requires.standing) m
     (subst (λ (q : ProgressLists). IsClashOf w (facts_in q.entries) None) (sym is) c.requires.none)
@@ -38,7 +38,7 @@ returns-clause-moved g c =
       trace_is = c.in_ok-number.ensures.put ∙ ap (λ (v : NumberSet). with_line s.trace line v) c.in_ok-shared.ensures;
       marks_are = refl;
       counted = refl;
-      current = c.in_ok-follow.ensures;
+      blocks = c.keep_blocks.ensures;
     }))
 
 pub returns-clause-last : goal.returns-clause-last

@@ -19,4 +19,4 @@ returns-then-branch g c =
     let old : ProgressLists = record { query = i.query.now; sub = i.sub; not_sup = i.not_sup; entries = i.tree; prints = i.prints; trace = i.trace; marks = reverse i.marks.items; clash = i.clash; steps = i.steps } in
     let is : old ≡ s = c.self.view_is in
     let rests : RestsClash w s.entries line u = subst (λ (q : ProgressLists). RestsClash w q.entries line u) is c.in_ok-resting.ensures in
-    (refl, clash_has_next w s c.requires.standing clash line u rests (sym c.in_ok-turns.ensures ∙ c.if-branch.true))
+    (refl, c.requires.searching, clash_has_next w s c.requires.searching.standing clash line u rests (sym c.in_ok-turns.ensures ∙ c.if-branch.true))

@@ -1,4 +1,4 @@
-use Rattle.std.proofs.Common.{◌≡◌, ◌≤◌, ◌+◌, List, take, ap, refl, sym, subst, reverse, length, ◌∙◌, arith}
+use Rattle.std.proofs.Common.{◌≡◌, ◌≤◌, ◌+◌, ℕ, List, take, ap, refl, sym, subst, reverse, length, ◌∙◌, arith}
 use Rattle.std.proofs.lemmas.List.{length-reverse}
 use Rattle.calculus_specs.specs.State.{node_count}
 use Rattle.fact_tree.specs.Entries.{IsFit}
@@ -91,8 +91,8 @@ put_alternative-requires g c =
     let t : IsTurning w old m ms = subst (λ (q : ProgressLists). IsTurning w q m ms) (sym is) c.requires.turning in
     subst (λ (es : List Entry). IsFit (node_count (facts_in es)) c.alternative_after-fact.result) (sym c.cut-from.ensures.cut) (fits_at w old m ms t s.marks.items refl c.open_count-count.result c.cut_marks-place.result c.open_count-count.ensures c.cut_marks-place.ensures.latest c.choice_at-choice.result c.choice_at-choice.ensures c.alternative_after-fact.result c.alternative_after-fact.ensures)
 
-pub follow-requires-clause-place : goal.follow-requires-clause-place
-follow-requires-clause-place g c =
+pub keep_blocks-requires-clause-place : goal.keep_blocks-requires-clause-place
+keep_blocks-requires-clause-place g c =
     let w = g.R.Rules.context c.args.rules.now in
     let s = c.self.inside in
     let old : ProgressLists = record { query = s.query.now; sub = s.sub; not_sup = s.not_sup; entries = s.tree; prints = s.prints; trace = s.trace; marks = reverse s.marks.items; clash = s.clash; steps = s.steps } in
@@ -107,8 +107,8 @@ follow-requires-clause-place g c =
     let put : c.put_alternative.new.tree ≡ with_choice (take at s.tree) next f by = c.in_ok-put_alternative.ensures ∙ ap (λ (es : List Entry). with_choice es next f by) c.cut-from.ensures.cut in
     subst (λ (es : List Entry). at ≤ length es) (sym put) (at_still_within w old m ms t s.marks.items refl c.open_count-count.result c.cut_marks-place.result c.open_count-count.ensures c.cut_marks-place.ensures.latest next f by)
 
-pub follow-requires-clause-stood : goal.follow-requires-clause-stood
-follow-requires-clause-stood g c =
+pub keep_blocks-requires-clause-stood : goal.keep_blocks-requires-clause-stood
+keep_blocks-requires-clause-stood g c =
     let w = g.R.Rules.context c.args.rules.now in
     let s = c.self.inside in
     let old : ProgressLists = record { query = s.query.now; sub = s.sub; not_sup = s.not_sup; entries = s.tree; prints = s.prints; trace = s.trace; marks = reverse s.marks.items; clash = s.clash; steps = s.steps } in
@@ -121,7 +121,7 @@ follow-requires-clause-stood g c =
     let f = c.alternative_after-fact.result in
     let at = c.cut_marks-place.result in
     let put : c.put_alternative.new.tree ≡ with_choice (take at s.tree) next f by = c.in_ok-put_alternative.ensures ∙ ap (λ (es : List Entry). with_choice es next f by) c.cut-from.ensures.cut in
-    subst (λ (es : List Entry). AreBlocksBelow (facts_in es) c.cut-from.result s.prints) (sym (ap (take at) put ∙ front_at w old m ms t s.marks.items refl c.open_count-count.result c.cut_marks-place.result c.open_count-count.ensures c.cut_marks-place.ensures.latest next f by)) (c.cut-from.ensures.stand s.prints t.current)
+    subst (λ (es : List Entry). AreBlocksBelow (facts_in es) c.cut-from.result s.prints) (sym (ap (take at) put ∙ front_at w old m ms t s.marks.items refl c.open_count-count.result c.cut_marks-place.result c.open_count-count.ensures c.cut_marks-place.ensures.latest next f by)) (c.cut-from.ensures.stand s.prints (subst (λ (n : ℕ). AreBlocksBelow (facts_in s.tree) n s.prints) (sym c.len-known.ensures) t.blocks))
 
 pub returns-clause-last : goal.returns-clause-last
 returns-clause-last g c =
@@ -153,7 +153,7 @@ returns-clause-moved g c =
     let f = c.alternative_after-fact.result in
     let at = c.cut_marks-place.result in
     let put : c.put_alternative.new.tree ≡ with_choice (take at s.tree) next f by = c.in_ok-put_alternative.ensures ∙ ap (λ (es : List Entry). with_choice es next f by) c.cut-from.ensures.cut in
-    let new : ProgressLists = record { query = s.query.now; sub = s.sub; not_sup = s.not_sup; entries = c.put_alternative.new.tree; prints = c.follow.new.prints; trace = s.trace; marks = reverse c.cut_marks-place.new.marks.items; clash = s.clash; steps = s.steps + 1 } in
+    let new : ProgressLists = record { query = s.query.now; sub = s.sub; not_sup = s.not_sup; entries = c.put_alternative.new.tree; prints = c.keep_blocks.new.prints; trace = s.trace; marks = reverse c.cut_marks-place.new.marks.items; clash = s.clash; steps = s.steps + 1 } in
     subst (λ (q : ProgressLists). HasMoved w q new) is
     (moves_at w old m ms t s.marks.items refl c.open_count-count.result c.cut_marks-place.result c.open_count-count.ensures c.cut_marks-place.ensures.latest c.choice_at-choice.result c.choice_at-choice.ensures c.facts_stay_grounded.ensures c.alternatives_speak_of_nodes.ensures f c.alternative_after-fact.ensures by refl new
     (record {
@@ -164,7 +164,7 @@ returns-clause-moved g c =
       trace_is = refl;
       marks_are = ap reverse c.cut_marks-place.ensures.kept;
       counted = refl;
-      current = c.in_ok-follow.ensures;
+      blocks = c.keep_blocks.ensures;
     }))
 
 pub returns-clause-chosen : goal.returns-clause-chosen

@@ -1,5 +1,5 @@
 use Rattle.std.proofs.Common.{◌≡◌, ℕ, ◌<◌, not, subst}
-use Rattle.seen_concepts.specs.Seen.{SeenSets, holds, has_seen}
+use Rattle.seen_concepts.specs.Seen.{holds, has_seen}
 use Rattle.tableau.specs.SearchState.{SearchState}
 use Rattle.tableau.specs.Inside.{IsKept}
 use Rattle.tableau.proofs.Apart.{left_out_classes}
