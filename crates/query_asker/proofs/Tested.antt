@@ -29,7 +29,7 @@ use Rattle.query_asker.specs.AskerLists.{AskerLists, origin_of}
 use Rattle.query_asker.specs.Told.{IsTestOfOther, AreTestsOfOthers, IsShownNoIn, asker_meaning, IsAskerLog, IsUnknown, LogsNode}
 use Rattle.query_asker.specs.Memory.{yes_by, yes_of, no_of, IsMemo}
 use Rattle.query_asker.specs.Asking.{lists_of, CanAsk, IsAsker, IsLater, reply_of}
-use Rattle.query_asker.specs.Deciding.{GainsTest}
+use Rattle.query_asker.specs.Deciding.{GainsTest, GainsAtMostOne}
 use Rattle.query_asker.proofs.Remembered.{kept_still}
 use Rattle.query_asker.proofs.Logged.{goes_on, with_entry, with_asks, MayBeLast, log_with, log_counted}
 use Rattle.query_asker.proofs.Answering.{yes_by_log, no_by_log}
@@ -328,6 +328,11 @@ gains_none a s =
       is_more = λ i. record { ontology = a.ontology; query = a.query; budget = a.budget; local_part = a.local_part; before = a.before; gained = none i; asks = one_more a.asks };
       is_test = inr (refl, refl);
     }
+
+-- so there is one test at most
+pub gains_one : (old new : AskerLists) (s : Limited) (v : Outcome) → GainsTest old new s v → GainsAtMostOne old new s
+gains_one old new s v g =
+    record { more = g.more; is_more = g.is_more; at_most_one = elim g.is_test [ inl test ↦ inr (test.steps, test.ended, test.is_more) | inr none ↦ inl none.0 ] }
 
 -- ---- what such a call leaves as it is
 

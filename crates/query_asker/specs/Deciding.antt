@@ -35,3 +35,9 @@ pub record GainsTest (old new : AskerLists) (s : Limited) (v : Outcome) : Type 0
   pub more : List Entry
   pub is_more : new ≡ record old { gained = old.gained ++ more; asks = one_more old.asks }
   pub is_test : IsOneTestAs old.query s v more ⊎ ((more ≡ []) × (v ≡ Undecided))
+
+-- The log gained one test of the set, or nothing. One ask more was counted.
+pub record GainsAtMostOne (old new : AskerLists) (s : Limited) : Type 0 where
+  pub more : List Entry
+  pub is_more : new ≡ record old { gained = old.gained ++ more; asks = one_more old.asks }
+  pub at_most_one : (more ≡ []) ⊎ ((steps : ℕ) × (ended : TestEnd) × (more ≡ Test s old.query steps ended ∷ []))

@@ -10,10 +10,10 @@ ghost use Rattle.set_questions.specs.Meaning.{Keeps, ShowsTheSame, one_more};
 ghost use Rattle.run_log.specs.Entries.{is_spent, nodes_of, IsAnswered};
 ghost use Rattle.query_asker.specs.AskerLists.{origin_of};
 ghost use Rattle.query_asker.specs.Told.{KeepsAnswers, AreTestsOfOthers, asker_meaning, IsAskerLog};
-ghost use Rattle.query_asker.specs.Told.{IsUnknown, LogsNode};
+ghost use Rattle.query_asker.specs.Told.{IsUnknown, LogsNode, part_in};
 ghost use Rattle.query_asker.specs.Asking.{part_of, IsPartIn, IsLocalPart, IsRecalled, IsLater, reply_of};
 ghost use Rattle.shq_oracle.specs.Decided.{outcome_of, IsAnswer};
-ghost use Rattle.query_asker.specs.Deciding.{IsKnown, GainsTest};
+ghost use Rattle.query_asker.specs.Deciding.{IsKnown, GainsTest, GainsAtMostOne};
 
 use crate::memo::Memo;
 use crate::{Known, NoMemory};
@@ -236,6 +236,8 @@ impl<'a> Asker<'a> {
         ensures nodes { nodes_of self.new.gained ≡ nodes_of self.old.gained }
         ensures counted { OnOk result (self.new.asks ≡ one_more self.old.asks) }
         ensures uncounted { OnErr result (self.new.asks ≡ self.old.asks) }
+        ensures gains { OnOk result (GainsAtMostOne self.old self.new part.now) }
+        ensures unchanged { OnErr result (self.new ≡ self.old) }
     {
         let counted = self.asks.saturating_add(1);
         if self.oracle.left() == 0 {
@@ -300,10 +302,10 @@ impl<'a> Entail for Asker<'a> {
     }
 
     /// Asks whether the query follows from the set: first the log, and then, where it has no answer and something of
-    /// the budget is left, the oracle. Where nothing is left, too, the log is asked first.
+    /// the budget is left, the oracle. Where nothing is left, too, the log is asked first. The log gains one test at most.
     ///
     /// # Errors
-    /// Memory may be refused. The log is as before then.
+    /// Memory may be refused. Nothing has changed then.
     fn ask(&mut self, set: &AxiomSet) -> Result<Reply, NoMemory>
         requires { set.now.limit ≡ (asker_meaning self.old).size }
         ensures answer { IfOk result (Answers (asker_meaning self.new) set.now) }
@@ -314,6 +316,8 @@ impl<'a> Entail for Asker<'a> {
         ensures uncounted { OnErr result ((asker_meaning self.new).asks ≡ (asker_meaning self.old).asks) }
         ensures taken { (asker_meaning self.new).taken ≡ (asker_meaning self.old).taken }
         ensures same { origin_of self.new ≡ origin_of self.old }
+        ensures logged { OnOk result (GainsAtMostOne self.old self.new (part_in self.old set.now)) }
+        ensures unchanged { OnErr result (self.new ≡ self.old) }
     {
         match self.known(set)? {
             Known::Answered(reply) => Ok(reply),

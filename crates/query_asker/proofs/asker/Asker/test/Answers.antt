@@ -7,7 +7,10 @@ use Rattle.run_log.specs.Shown.{IsShownYes}
 use Rattle.query_asker.specs.AskerLists.{AskerLists}
 use Rattle.query_asker.specs.Told.{asker_meaning, IsUnknown}
 use Rattle.query_asker.specs.Asking.{IsAsker, IsLater, lists_of}
-use Rattle.query_asker.proofs.Tested.{is_new, after_test, answered, unknown, shows, later, same_nodes}
+use Rattle.shq_oracle.specs.declared.answer.Outcome.TheVariants.{Undecided}
+use Rattle.query_asker.specs.Deciding.{GainsAtMostOne}
+use Rattle.query_asker.proofs.Logged.{with_asks}
+use Rattle.query_asker.proofs.Tested.{is_new, after_test, answered, unknown, shows, later, same_nodes, gains, gains_none, gains_one}
 use Rattle.query_asker.proofs.asker.Asker.test.Goals as goal
 
 pub test-requires-clause-is_new : goal.test-requires-clause-is_new
@@ -109,3 +112,28 @@ returns-clause-nodes c =
     let some : ¬ (spent_of o.log ≡ o.budget) = λ e. absurd (omega (arith, e, c.left.ensures.left, c.if-left-eq0.false)) in
     same_nodes o i.query.now i.among i.first i.asks c.test.new.self s c.in_ok-outcome.outcome c.self.invariant.is_log some d.same_ontology d.same_budget ok.entry ok.spent d.within part new c.self.invariant.first_within
     ∙ ap (λ (b : AskerLists). nodes_of b.gained) c.self.view_is
+
+pub returns-then-left-eq0-clause-gains : goal.returns-then-left-eq0-clause-gains
+returns-then-left-eq0-clause-gains c =
+    let i = c.self.inside in
+    let s = c.args.part.now in
+    let a = lists_of i.oracle i.query.now i.among i.first i.asks in
+    subst (λ (n : ℕ). GainsAtMostOne c.args.self.now (lists_of i.oracle i.query.now i.among i.first n) s) (sym c.saturating_add-counted.ensures)
+    (subst (λ (b : AskerLists). GainsAtMostOne b (with_asks a (one_more i.asks)) s) c.self.view_is (gains_one a (with_asks a (one_more i.asks)) s Undecided (gains_none a s)))
+
+pub returns-clause-gains : goal.returns-clause-gains
+returns-clause-gains c =
+    let i = c.self.inside in
+    let o = i.oracle in
+    let s = c.args.part.now in
+    let a = lists_of o i.query.now i.among i.first i.asks in
+    let d = c.test.ensures in
+    let ok = c.in_ok-outcome.ensures in
+    let v = c.in_ok-outcome.outcome in
+    let new : ¬ IsAnswered a.gained s i.query.now = subst (λ (b : AskerLists). ¬ IsAnswered b.gained s b.query) (sym c.self.view_is) c.requires.is_new in
+    let part : IsPart s.members a.local_part = subst (λ (b : AskerLists). IsPart s.members b.local_part) (sym c.self.view_is) c.requires.local_part in
+    let some : ¬ (spent_of o.log ≡ o.budget) = λ e. absurd (omega (arith, e, c.left.ensures.left, c.if-left-eq0.false)) in
+    let after = lists_of c.test.new.self i.query.now i.among i.first (one_more i.asks) in
+    subst (λ (n : ℕ). GainsAtMostOne c.args.self.now (lists_of c.test.new.self i.query.now i.among i.first n) s) (sym c.saturating_add-counted.ensures)
+    (subst (λ (b : AskerLists). GainsAtMostOne b after s) c.self.view_is
+    (gains_one a after s v (gains o i.query.now i.among i.first i.asks c.test.new.self s v c.self.invariant.is_log some d.same_ontology d.same_budget ok.entry ok.spent d.within part new c.self.invariant.first_within)))

@@ -1,5 +1,6 @@
 use Rattle.std.proofs.Common.{◌≡◌, ◌∙◌, length, ap, sym, subst}
-use Rattle.std.specs.Prelude.{IfOk}
+use Rattle.std.specs.Prelude.{IfOk, OnOk, OnErr}
+use Rattle.axiom_sets.specs.Sets.{Limited}
 use Rattle.std.proofs.lemmas.Result.{IfOk-weaker}
 use Rattle.lane_sieve.specs.Sets.{IsPart}
 use Rattle.set_questions.specs.Asked.{Answers, IsUnknownIf, ShowsNoOther}
@@ -7,10 +8,13 @@ use Rattle.set_questions.specs.Meaning.{one_more}
 use Rattle.run_log.specs.Entries.{IsAnswered}
 use Rattle.query_asker.specs.declared.known.Known.TheVariants.{Answered, Unknown}
 use Rattle.query_asker.specs.AskerLists.{AskerLists}
-use Rattle.query_asker.specs.Told.{asker_meaning, IsUnknown}
+use Rattle.shq_oracle.specs.declared.answer.Outcome.TheVariants.{Undecided}
+use Rattle.query_asker.specs.Told.{asker_meaning, IsUnknown, part_in}
 use Rattle.query_asker.specs.Asking.{IsLater}
-use Rattle.query_asker.specs.Deciding.{IsKnown}
+use Rattle.query_asker.specs.Deciding.{IsKnown, GainsAtMostOne}
 use Rattle.query_asker.proofs.Answering.{keeps_later, lifted, unknown_whole, left_out, shows_counted, local_inside, local_later}
+use Rattle.query_asker.proofs.Logged.{with_asks}
+use Rattle.query_asker.proofs.Tested.{gains_none, gains_one}
 use Rattle.query_asker.proofs.asker.AskerEntail.ask.Goals as goal
 
 pub returns-in-Answered-clause-unknown : goal.returns-in-Answered-clause-unknown
@@ -72,3 +76,28 @@ returns-in-Unknown-clause-keeps c =
     let new = c.test.new.self in
     let known : IsKnown c.args.self.now c.known.new.self c.args.set.now (Unknown c.in-Unknown.part) = rw c.in-Unknown.is at c.in_ok-reply.ensures.known in
     keeps_later c.args.self.now new (subst (λ (b : AskerLists). IsLater b new) known.0 c.test.ensures.later)
+
+pub returns-in-Answered-clause-logged : goal.returns-in-Answered-clause-logged
+returns-in-Answered-clause-logged c =
+    let a = c.args.self.now in
+    let new = c.known.new.self in
+    let s = part_in a c.args.set.now in
+    let known : IsKnown a new c.args.set.now (Answered c.in-Answered.reply) = rw c.in-Answered.is at c.in_ok-reply.ensures.known in
+    let counted = with_asks a (one_more a.asks) in
+    subst (λ (b : AskerLists). GainsAtMostOne a b s) (sym known.0) (gains_one a counted s Undecided (gains_none a s))
+
+pub returns-in-Unknown-clause-logged : goal.returns-in-Unknown-clause-logged
+returns-in-Unknown-clause-logged c =
+    let a = c.args.self.now in
+    let p = c.in-Unknown.part in
+    let new = c.test.new.self in
+    let known : IsKnown a c.known.new.self c.args.set.now (Unknown p) = rw c.in-Unknown.is at c.in_ok-reply.ensures.known in
+    let same : p ≡ part_in a c.args.set.now = λ i. record { limit = known.1.limit i; members = known.1.members i } in
+    subst (λ (t : Limited). OnOk c.test.result (GainsAtMostOne a new t)) same
+    (subst (λ (b : AskerLists). OnOk c.test.result (GainsAtMostOne b new p)) known.0 c.test.ensures.gains)
+
+pub returns-in-Unknown-clause-unchanged : goal.returns-in-Unknown-clause-unchanged
+returns-in-Unknown-clause-unchanged c =
+    let new = c.test.new.self in
+    let known : IsKnown c.args.self.now c.known.new.self c.args.set.now (Unknown c.in-Unknown.part) = rw c.in-Unknown.is at c.in_ok-reply.ensures.known in
+    subst (λ (b : AskerLists). OnErr c.test.result (new ≡ b)) known.0 c.test.ensures.unchanged
