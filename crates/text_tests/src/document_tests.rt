@@ -41,6 +41,10 @@ fn kind(axiom: &Axiom) -> u32 {
         Axiom::Range(_, _) => 7,
         Axiom::Functional(_) => 8,
         Axiom::Transitive(_) => 9,
+        Axiom::Member(_, _) => 10,
+        Axiom::Pair(_, _, _) => 11,
+        Axiom::SameAll(_) => 12,
+        Axiom::Different(_) => 13,
     }
 }
 

@@ -1,9 +1,9 @@
 // Small models, worked out by hand.
 
-use crate::small_ontologies::add_names;
+use crate::small_ontologies::{add_individuals, add_names};
 use certificate_lines::lines;
 use finite_model::{Interp, ModelFault, NoMemory, read_text};
-use shq_terms::{Axiom, Concept, Node, Ontology, Query};
+use shq_terms::{Axiom, Concept, Node, NumberList, On, Ontology, Query};
 use std::alloc::Global;
 use std::process::Abort;
 use std::test::Fail;
@@ -127,8 +127,104 @@ fn are_counter_elements(alloc: Global) -> Result<bool, NoMemory> {
     let query = Query {
         sub: name(0),
         sup: name(1),
+        on: On::Any,
     };
     is_refuted(&mut Interp::new(alloc, 3), &query)
+}
+
+fn place(model: &mut Interp, individual: u32, x: u32) -> Result<(), NoMemory> {
+    if x < model.size() {
+        model.put_individual(individual, x)?;
+    }
+    Ok(())
+}
+
+// Individuals 1 and 2 are the element 1, and all others 0, which alone is in class 0 and begins a pair, with 1.
+fn put_named(model: &mut Interp) -> Result<(), NoMemory> {
+    for (individual, x) in [(1, 2), (2, 1), (3, 2), (3, 0), (1, 1)] {
+        place(model, individual, x)?;
+    }
+    put(model, 0, 0)?;
+    join(model, 0, 1)
+}
+
+fn numbers(alloc: Global, items: &[u32]) -> Result<NumberList, NoMemory> {
+    let mut list = NumberList::new(alloc);
+    for item in items {
+        list.push(*item)?;
+    }
+    Ok(list)
+}
+
+fn are_same(alloc: Global, model: &Interp, individuals: &[u32]) -> Result<bool, NoMemory> {
+    let axiom = Axiom::SameAll(numbers(alloc, individuals)?);
+    Ok(model.meets(&axiom))
+}
+
+fn are_different(alloc: Global, model: &Interp, individuals: &[u32]) -> Result<bool, NoMemory> {
+    let axiom = Axiom::Different(numbers(alloc, individuals)?);
+    Ok(model.meets(&axiom))
+}
+
+fn is_member(model: &Interp, individual: u32) -> bool {
+    model.meets(&Axiom::Member(name(0), individual))
+}
+
+fn is_pair(model: &Interp, from: u32, to: u32) -> bool {
+    model.meets(&Axiom::Pair(0, from, to))
+}
+
+/// Individuals, whether all are the same, and whether all are different.
+const COMPARED: &[(&[u32], bool, bool)] = &[
+    (&[1, 2], true, false),
+    (&[1, 2, 0], false, false),
+    (&[0, 1], false, true),
+    (&[0, 3], true, false),
+    (&[1, 1], true, false),
+    (&[2, 9], false, true),
+];
+
+fn are_compared(alloc: Global, model: &Interp) -> Result<bool, NoMemory> {
+    let mut are_so = true;
+    for (individuals, same, different) in COMPARED {
+        are_so &= are_same(alloc, model, individuals)? == *same;
+        are_so &= are_different(alloc, model, individuals)? == *different;
+    }
+    Ok(are_so)
+}
+
+fn are_asserted(model: &Interp) -> bool {
+    is_member(model, 0) && !is_member(model, 2) && is_pair(model, 3, 1) && !is_pair(model, 1, 3)
+}
+
+/// Individuals, and the counter-element to the question whether they are in class 0.
+const ASKED: &[(On, Option<u32>)] = &[
+    (On::Any, Some(1)),
+    (On::Individual(0), None),
+    (On::Individual(2), Some(1)),
+];
+
+fn counter_element(model: &Interp, on: On) -> Option<u32> {
+    let query = Query {
+        sub: Concept { node: Node::Top },
+        sup: name(0),
+        on,
+    };
+    model.refutes(&query)
+}
+
+fn are_asked(model: &Interp) -> bool {
+    let mut are_so = true;
+    for (on, least) in ASKED {
+        are_so &= counter_element(model, *on) == *least;
+    }
+    are_so
+}
+
+fn are_named(alloc: Global) -> Result<bool, NoMemory> {
+    let mut model = Interp::new(alloc, 3);
+    put_named(&mut model)?;
+    Ok(are_compared(alloc, &model)? && are_asserted(&model) && are_asked(&model))
 }
 
 #[test]
@@ -136,10 +232,12 @@ fn judges_axioms_and_queries(rt: HostRuntime) -> Result<(), Fail> {
     assert!(rt; are_successors(rt.alloc())?, "two successors");
     assert!(rt; are_ends(rt.alloc())?, "one successor");
     assert!(rt; are_counter_elements(rt.alloc())?, "counter-elements");
+    assert!(rt; are_named(rt.alloc())?, "individuals");
     Ok(())
 }
 
-const MODEL: &[u8] = b"model 3\nclass <B> 0 2\nrole <R> 0,0 0,2 2,1\nclass <A> 1\nend\n \n";
+const MODEL: &[u8] =
+    b"model 3\nclass <B> 0 2\nindividual <b> 2\nrole <R> 0,0 0,2 2,1\nclass <A> 1\nend\n \n";
 
 /// Classes, elements, and whether these are members.
 const MEMBERS: &[(u32, u32, bool)] = &[
@@ -151,7 +249,7 @@ const MEMBERS: &[(u32, u32, bool)] = &[
 ];
 
 fn are_members(model: &Interp) -> bool {
-    let mut are_so = model.size() == 3;
+    let mut are_so = model.size() == 3 && model.individual(0) == 0 && model.individual(1) == 2;
     for (class, x, member) in MEMBERS {
         are_so &= holds(model, &name(*class), *x) == *member;
     }
@@ -181,6 +279,11 @@ const TEXTS: &[(&[u8], u32)] = &[
     (b"model 2\nrole <R> 1,0 0,1\nend\n", 3),
     (b"model 2\nrole <R> 0,1 0,1\nend\n", 3),
     (b"model 2\nrole <R> 0,1\nrole <R> 1,0\nend\n", 4),
+    (b"model 2\nindividual <c> 0\nend\n", 3),
+    (b"model 2\nindividual <a>\nend\n", 3),
+    (b"model 2\nindividual <a> 2\nend\n", 3),
+    (b"model 2\nindividual <a> 0 1\nend\n", 3),
+    (b"model 2\nindividual <a> 1\nindividual <a> 1\nend\n", 4),
     (b"model 2\nend\n\nend\n", 5),
 ];
 
@@ -195,14 +298,18 @@ fn is_malformed(
     Ok(fault == Some(ModelFault::Malformed(line)))
 }
 
-// Writes a model of two members and two pairs.
+// Writes a model of two members and two pairs, and of two individuals, one of which is put.
 fn write_model(alloc: Global, text: &mut Vec<u8>, ontology: &Ontology) -> Result<(), NoMemory> {
     let mut model = Interp::new(alloc, 11);
     model.put_class(1, 10)?;
     model.put_class(1, 2)?;
     model.put_pair(0, 10, 2)?;
     model.put_pair(0, 2, 10)?;
-    if ontology.class_count() == 2 && ontology.role_count() == 1 {
+    model.put_individual(1, 10)?;
+    if ontology.class_count() == 2
+        && ontology.role_count() == 1
+        && ontology.individual_count() == 2
+    {
         model.text(alloc, text, ontology)?;
     }
     Ok(())
@@ -211,12 +318,14 @@ fn write_model(alloc: Global, text: &mut Vec<u8>, ontology: &Ontology) -> Result
 fn writes_model(alloc: Global, ontology: &Ontology) -> Result<bool, NoMemory> {
     let mut text = Vec::from_slice(alloc, b"#")?;
     write_model(alloc, &mut text, ontology)?;
-    let wanted: &[u8] = b"#model 11\nclass <B> 2 10\nrole <R> 2,10 10,2\nend\n";
+    let wanted: &[u8] =
+        b"#model 11\nclass <B> 2 10\nrole <R> 2,10 10,2\nindividual <a> 0\nindividual <b> 10\nend\n";
     Ok(text.as_slice() == wanted)
 }
 
 fn test_on(rt: &impl Abort, alloc: Global, ontology: &mut Ontology) -> Result<(), Fail> {
     add_names(ontology, &["A", "B"])?;
+    add_individuals(ontology, &["a", "b"])?;
     assert!(rt; reads_model(alloc, ontology)?, "a model");
     for (text, line) in TEXTS {
         assert!(rt; is_malformed(alloc, ontology, text, *line)?, "{text:?}");

@@ -14,6 +14,14 @@ fn add_role(ontology: &mut Ontology, role: &str) -> Result<(), AddFault> {
     Ok(())
 }
 
+/// Lists the individuals.
+pub fn add_individuals(ontology: &mut Ontology, individuals: &[&str]) -> Result<(), AddFault> {
+    for individual in individuals {
+        ontology.add_individual(individual)?;
+    }
+    Ok(())
+}
+
 /// Lists the classes and the role `R`.
 pub fn add_names(ontology: &mut Ontology, classes: &[&str]) -> Result<(), AddFault> {
     add_classes(ontology, classes)?;

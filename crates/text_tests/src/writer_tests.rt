@@ -82,6 +82,13 @@ fn put_axiom(text: &mut Vec<u8>, ontology: &Ontology) -> Result<(), NoMemory> {
     axiom_text(text, &Axiom::SubClassOf(name(0), name(0)), ontology)
 }
 
+fn put_assertion(text: &mut Vec<u8>, ontology: &Ontology) -> Result<(), NoMemory> {
+    if ontology.role_count() == 0 || ontology.individual_count() < 2 {
+        return Err(NoMemory);
+    }
+    axiom_text(text, &Axiom::Pair(0, 1, 0), ontology)
+}
+
 fn put_expression(
     text: &mut Vec<u8>,
     concept: &Concept,
@@ -95,9 +102,11 @@ fn put_expression(
     concept_text(text, concept, ontology)
 }
 
-// What is written of an axiom, and of an expression behind it.
-fn put_both(alloc: Global, text: &mut Vec<u8>, ontology: &Ontology) -> Result<(), NoMemory> {
+// What is written of an axiom, of an assertion behind it, and of an expression.
+fn put_all(alloc: Global, text: &mut Vec<u8>, ontology: &Ontology) -> Result<(), NoMemory> {
     put_axiom(text, ontology)?;
+    text.push(b'#')?;
+    put_assertion(text, ontology)?;
     text.push(b'#')?;
     put_expression(text, &twenty(alloc)?, ontology)
 }
@@ -105,11 +114,15 @@ fn put_both(alloc: Global, text: &mut Vec<u8>, ontology: &Ontology) -> Result<()
 fn put_named(alloc: Global, text: &mut Vec<u8>, ontology: &mut Ontology) -> Result<(), AddFault> {
     ontology.add_class("A")?;
     ontology.add_role("R")?;
-    Ok(put_both(alloc, text, ontology)?)
+    ontology.add_individual("a")?;
+    ontology.add_individual("b")?;
+    Ok(put_all(alloc, text, ontology)?)
 }
 
 fn is_written(text: &[u8]) -> bool {
-    text == b"SubClassOf(<A> <A>)#ObjectMinCardinality(20 <R> <A>)".as_slice()
+    let wanted: &[u8] =
+        b"SubClassOf(<A> <A>)#ObjectPropertyAssertion(<R> <b> <a>)#ObjectMinCardinality(20 <R> <A>)";
+    text == wanted
 }
 
 fn writes_on(alloc: Global, ontology: &mut Ontology) -> Result<bool, AddFault> {
