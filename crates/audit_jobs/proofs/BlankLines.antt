@@ -1,5 +1,5 @@
 -- Blank lines in front of a text do not count.
-use Rattle.std.proofs.Common.{◌≡◌, ℕ, zero, suc, ◌+◌, ◌-◌, Bool, true, false, cond, ◌&&◌, List, [], ◌∷◌, ◌++◌, length, map, take, drop, refl, ap, sym, ◌∙◌, arith, nat_eq}
+use Rattle.std.proofs.Common.{◌≡◌, ℕ, zero, suc, ◌+◌, ◌-◌, Bool, true, false, cond, ◌&&◌, List, [], ◌∷◌, ◌++◌, length, map, take, drop, refl, ap, ◌∙◌, arith, nat_eq}
 use Rattle.std.specs.Prelude.{slice_index}
 use Rattle.std.specs.List.{list_all, prefix_len, slice_split, onto_first}
 use Rattle.std.specs.Str.Lines.{strip_carriage_return}
@@ -21,7 +21,6 @@ strip_blank line blank = by (nat_eq (slice_index line (length line - 1)) 13)
     by : (v : Bool) → is_blank (cond v (take (length line - 1) line) line) ≡ true
     by true = all_of_front is_space (length line - 1) line blank
     by false = blank
-
 
 onto_blank : (b : ℕ) (ls : List (List ℕ)) → is_space b ≡ true → list_all is_blank ls ≡ true → list_all is_blank (onto_first b ls) ≡ true
 onto_blank b [] space all = λ i. (space i && true) && true

@@ -1,5 +1,5 @@
 -- What is printed is accepted behind its document.
-use Rattle.std.proofs.Common.{◌≡◌, ◌≢◌, ℕ, ◌+◌, ◌≤◌, Bool, true, false, List, [], ◌∷◌, ◌++◌, length, take, drop, Option, Some, None, Result, Ok, Err, inl, inr, ◌⊎◌, refl, ap, sym, ◌∙◌, subst, arith, append_assoc, length-append, codes}
+use Rattle.std.proofs.Common.{◌≡◌, ◌≢◌, ℕ, ◌+◌, ◌≤◌, Bool, true, false, List, [], ◌∷◌, ◌++◌, length, take, drop, Option, Some, None, Result, Ok, Err, inl, inr, refl, ap, sym, ◌∙◌, subst, arith, append_assoc, length-append, codes}
 use Rattle.std.specs.List.{prefix_len}
 use Rattle.std.proofs.lemmas.List.{drop_at, length-take-le}
 use Rattle.shq_terms.specs.Listed.{Listed}
@@ -12,7 +12,7 @@ use Rattle.certificate_check.specs.Certificates.{certificate_lines}
 use Rattle.certificate_check.proofs.Blanks.{few_lines}
 use Rattle.job_inputs.specs.Answer.{Answer, IsAnswer, line, complaint_answer}
 use Rattle.job_inputs.specs.Asked.{Reply}
-use Rattle.job_inputs.specs.Complaints.{Complaint, sort_status, complaint, complaint_text}
+use Rattle.job_inputs.specs.Complaints.{Complaint, sort_status, complaint}
 use Rattle.job_inputs.specs.Questions.{Text, follows, IsQuestion, IsRefusedQuestion, document, query}
 use Rattle.job_inputs.specs.Replies.{reply_answer}
 use Rattle.job_inputs.specs.declared.complaint.Place.{Place}
@@ -30,7 +30,7 @@ use Rattle.audit_file.proofs.Joined.{fed_first}
 use Rattle.audit_check.specs.declared.verdict.AuditVerdict.{AuditVerdict}
 use Rattle.audit_check.specs.declared.verdict.AuditVerdict.TheVariants as verdict
 use Rattle.pinpointing_jobs.specs.Listings.{end_status}
-use Rattle.audit_jobs.specs.Answers.{IsAuditText, IsEvidenceText, IsEvidenced}
+use Rattle.audit_jobs.specs.Answers.{IsAuditText, IsEvidenceText}
 use Rattle.audit_jobs.specs.Audited.{Audited, IsAuditEnd, IsAskedOn, IsJudged, IsJudgedOn, audit_after, end_answer}
 use Rattle.audit_jobs.specs.Laws.{AreBlankLines, PrintedEvidenceIsAccepted}
 use Rattle.audit_jobs.proofs.Accepted.{read_back, all_listed}

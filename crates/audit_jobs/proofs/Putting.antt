@@ -12,7 +12,6 @@ use Rattle.std.proofs.lemmas.Option.{slice_get-map, slice_get-get_or}
 use Rattle.axiom_sets.specs.Sets.{Limited, IsWithin, list_cmp}
 use Rattle.axiom_sets.proofs.Same.{set_of_parts, same_limited}
 use Rattle.pinpointing_specs.specs.Order.{IsAscending}
-use Rattle.pinpointing_specs.specs.Smallest.{rest}
 use Rattle.pinpointing_specs.proofs.Choices.{in_rest, to_rest}
 use Rattle.lane_sieve.specs.Sets.{IsPart}
 use Rattle.hitting_set_tree.specs.declared.tree.Found.{Found}
