@@ -26,8 +26,8 @@ abbrev pub meets_rest : Interpretation → ℕ → NumberSet → List Numbered �
 meets_rest i k s [] = true
 meets_rest i k s (a ∷ as_) = (set.contains s k || meets i a.axiom) && meets_rest i (k + 1) s as_
 
--- each individual is an element of the model, which meets the axioms without those of the set, and some element of which
--- the query speaks is in its left class and not in the right one
+-- each individual is an element of the model, which meets the axioms without those of the set, and some element of
+-- which the query speaks is in its left class and not in the right one
 pub record IsCounterModel (axioms : List Numbered) (q : Query) (r : Repair) : Type 0 where
   pub places : PlacesIndividuals (meaning r.model)
   pub meets_them : IsTrue (meets_rest (meaning r.model) 1 r.set.members axioms)

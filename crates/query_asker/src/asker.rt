@@ -302,7 +302,8 @@ impl<'a> Entail for Asker<'a> {
     }
 
     /// Asks whether the query follows from the set: first the log, and then, where it has no answer and something of
-    /// the budget is left, the oracle. Where nothing is left, too, the log is asked first. The log gains one test at most.
+    /// the budget is left, the oracle. Where nothing is left, too, the log is asked first. The log gains one test at
+    /// most.
     ///
     /// # Errors
     /// Memory may be refused. Nothing has changed then.

@@ -113,8 +113,8 @@ pub record UsesListed (o : Listed) (i : Interpretation) : Type 0 where
   pub class_is : (a v : ℕ) → v < i.size → i.in_class a v ≡ true → a < length o.classes
   pub role_is : (s v u : ℕ) → v < i.size → u < i.size → i.in_role s v u ≡ true → s < length o.roles
 
--- The interpretation uses listed names alone, has an element, and the individuals among its elements, meets the axioms of
--- these numbers, and has a counter-example to the query in element 0.
+-- The interpretation uses listed names alone, has an element, and the individuals among its elements, meets the axioms
+-- of these numbers, and has a counter-example to the query in element 0.
 pub record IsCounterModel (o : Listed) (ks : List ℕ) (q : Query) (i : Interpretation) : Type 0 where
   pub names_are_listed : UsesListed o i
   pub has_element : 1 ≤ i.size

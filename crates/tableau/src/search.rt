@@ -16,7 +16,7 @@ use axiom_sets::AxiomSet;
 use completion_tree::Tree;
 use search_laws::{few_marks, few_steps_without_going_back};
 use search_rules::SearchRules;
-use search_state::{Blocks, Effort, Progress};
+use search_state::{Blocks, Effort, Progress, blocks_stay};
 use seen_concepts::SeenClasses;
 use shq_terms::Query;
 use std::alloc::{Allocator, Global};
@@ -302,6 +302,20 @@ impl<'b, A: Allocator + Copy> Search<'b, A> {
         ensures current { IsAtModel self.now → IsCurrent (facts_in self.now.entries) self.now.prints }
     {
         self.progress.prints()
+    }
+
+    /// The blocks of all nodes of the tree, whatever the search has come to: made anew, at the cost of a look at each node.
+    ///
+    /// # Errors
+    ///
+    /// Out of memory. The search is as before.
+    pub fn all_prints(&self) -> Result<Blocks, NoMemory>
+        ensures { IfOk result (IsCurrent (facts_in self.now.entries)) }
+    {
+        let mut prints = Blocks::new(self.heap);
+        blocks_stay();
+        prints.complete(self.tree())?;
+        Ok(prints)
     }
 
     /// The rules of the search.

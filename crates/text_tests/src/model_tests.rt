@@ -182,6 +182,8 @@ const COMPARED: &[(&[u32], bool, bool)] = &[
     (&[0, 3], true, false),
     (&[1, 1], true, false),
     (&[2, 9], false, true),
+    (&[2], true, true),
+    (&[], true, true),
 ];
 
 fn are_compared(alloc: Global, model: &Interp) -> Result<bool, NoMemory> {
@@ -221,6 +223,24 @@ fn are_asked(model: &Interp) -> bool {
     are_so
 }
 
+// The counter-element to the question whether individual 0 is in class 1.
+fn counter_of_first(model: &Interp) -> Option<u32> {
+    let query = Query {
+        sub: Concept { node: Node::Top },
+        sup: name(1),
+        on: On::Individual(0),
+    };
+    model.refutes(&query)
+}
+
+// Of one element in class 0 alone, that class 0 is in class 1 is not so, and that individual 0 is in class 0 is.
+fn breaks_inclusion_alone(alloc: Global) -> Result<bool, NoMemory> {
+    let mut model = Interp::new(alloc, 1);
+    put(&mut model, 0, 0)?;
+    let inclusion = Axiom::SubClassOf(name(0), name(1));
+    Ok(is_member(&model, 0) && !model.meets(&inclusion) && counter_of_first(&model) == Some(0))
+}
+
 fn are_named(alloc: Global) -> Result<bool, NoMemory> {
     let mut model = Interp::new(alloc, 3);
     put_named(&mut model)?;
@@ -233,6 +253,10 @@ fn judges_axioms_and_queries(rt: HostRuntime) -> Result<(), Fail> {
     assert!(rt; are_ends(rt.alloc())?, "one successor");
     assert!(rt; are_counter_elements(rt.alloc())?, "counter-elements");
     assert!(rt; are_named(rt.alloc())?, "individuals");
+    assert!(rt;
+        breaks_inclusion_alone(rt.alloc())?,
+        "an assertion beside an inclusion"
+    );
     Ok(())
 }
 

@@ -14,8 +14,8 @@ use Rattle.text_laws.specs.WritingLaws.{axioms_of}
 use Rattle.workload.specs.WorkloadAxioms.{prefix_iri_of_workloads, workload_classes, workload_roles, workload_axioms}
 
 -- The text is a document of the workload of n groups: it lists exactly the workload's classes, roles and axioms, each
--- in their order, and no individual. Nothing but whitespace stands behind it. A query on it may use the empty prefix, and goes on from so
--- many class expressions.
+-- in their order, and no individual. Nothing but whitespace stands behind it. A query on it may use the empty prefix,
+-- and goes on from so many class expressions.
 pub record IsWorkload (n : ℕ) (text : List ℕ) : Type 0 where
   pub read : Listed
   pub kept : DocumentContext
