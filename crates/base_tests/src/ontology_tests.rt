@@ -2,8 +2,7 @@
 ghost use Rattle.std.specs.Prelude.{◌≡◌, ◌<◌, ◌≤◌, [], length};
 
 use shq_terms::{
-    AddFault, Axiom, Concept, ConceptList, MAX_ROLES, NoMemory, Node, NumberList, Numbered,
-    Ontology,
+    AddFault, Axiom, Concept, ConceptList, MAX_ROLES, NoMemory, Node, NumberList, Ontology,
 };
 use std::alloc::Global;
 use std::process::Abort;
@@ -156,11 +155,14 @@ fn is_asserted(alloc: Global) -> Result<bool, AddFault> {
     let mut ontology = Ontology::new(alloc);
     let individual = ontology.add_individual("a")?;
     let number = add_assertion(&mut ontology, individual)?;
-    Ok(number == 1 && is_about(ontology.axiom(1), individual))
+    Ok(number == 1 && is_about(&ontology, number, individual))
 }
 
-fn is_about(numbered: &Numbered, individual: u32) -> bool {
-    match &numbered.axiom {
+fn is_about(ontology: &Ontology, number: u32, individual: u32) -> bool {
+    if number < 1 || number > ontology.axiom_count() {
+        return false;
+    }
+    match &ontology.axiom(number).axiom {
         Axiom::Member(_, named) => *named == individual,
         _ => false,
     }

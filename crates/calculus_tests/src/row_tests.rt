@@ -28,7 +28,7 @@ enum Kind {
 }
 
 fn inclusion(alloc: Global) -> Result<Axiom, NoMemory>
-    ensures uses { IfOk result (λ a. IsTrue (axiom_uses_listed 3 1 a)) }
+    ensures uses { IfOk result (λ a. IsTrue (axiom_uses_listed 3 1 0 a)) }
     ensures counts { IfOk result (λ a. IsTrue (axiom_has_counts_within 100 a)) }
     ensures parts { IfOk result (λ a. length (axiom_parts a) ≡ 1) }
 {
@@ -46,7 +46,7 @@ fn inclusion(alloc: Global) -> Result<Axiom, NoMemory>
 }
 
 fn disjoint(alloc: Global) -> Result<Axiom, NoMemory>
-    ensures uses { IfOk result (λ a. IsTrue (axiom_uses_listed 3 1 a)) }
+    ensures uses { IfOk result (λ a. IsTrue (axiom_uses_listed 3 1 0 a)) }
     ensures counts { IfOk result (λ a. IsTrue (axiom_has_counts_within 100 a)) }
     ensures parts { IfOk result (λ a. length (axiom_parts a) ≡ 3) }
 {
@@ -58,7 +58,7 @@ fn disjoint(alloc: Global) -> Result<Axiom, NoMemory>
 }
 
 fn axiom_of(alloc: Global, kind: Kind) -> Result<Axiom, NoMemory>
-    ensures uses { IfOk result (λ a. IsTrue (axiom_uses_listed 3 1 a)) }
+    ensures uses { IfOk result (λ a. IsTrue (axiom_uses_listed 3 1 0 a)) }
     ensures counts { IfOk result (λ a. IsTrue (axiom_has_counts_within 100 a)) }
     ensures parts { IfOk result (λ a. length (axiom_parts a) ≤ 500000) }
 {
@@ -73,8 +73,9 @@ fn axiom_of(alloc: Global, kind: Kind) -> Result<Axiom, NoMemory>
 fn add_first(ontology: &mut Ontology, axiom: Axiom) -> Result<(), AddFault>
     requires classes { length ontology.old.classes ≡ 3 }
     requires roles { length ontology.old.roles ≡ 1 }
+    requires individuals { length ontology.old.individuals ≡ 0 }
     requires axioms { length ontology.old.axioms ≡ 0 }
-    requires uses { IsTrue (axiom_uses_listed 3 1 «axiom») }
+    requires uses { IsTrue (axiom_uses_listed 3 1 0 «axiom») }
     requires counts { IsTrue (axiom_has_counts_within 100 «axiom») }
     requires parts { length (axiom_parts «axiom») ≤ 500000 }
     ensures { OnOk result (AreInLimit ontology.new.axioms) }
@@ -83,13 +84,26 @@ fn add_first(ontology: &mut Ontology, axiom: Axiom) -> Result<(), AddFault>
     Ok(())
 }
 
+// Whether three classes and a role are listed, no individual, and no axiom.
+fn has_names_alone(ontology: &Ontology) -> bool
+    ensures classes { IsTrue result → length ontology.now.classes ≡ 3 }
+    ensures roles { IsTrue result → length ontology.now.roles ≡ 1 }
+    ensures individuals { IsTrue result → length ontology.now.individuals ≡ 0 }
+    ensures axioms { IsTrue result → length ontology.now.axioms ≡ 0 }
+{
+    ontology.class_count() == 3
+        && ontology.role_count() == 1
+        && ontology.individual_count() == 0
+        && ontology.axiom_count() == 0
+}
+
 // The names of the tests, and the axiom.
 fn fill(alloc: Global, ontology: &mut Ontology, kind: Kind) -> Result<(), AddFault>
     ensures { OnOk result (AreInLimit ontology.new.axioms) }
 {
     add_classes(ontology, &["A", "B", "C"])?;
     ontology.add_role("r")?;
-    if ontology.class_count() != 3 || ontology.role_count() != 1 || ontology.axiom_count() != 0 {
+    if !has_names_alone(ontology) {
         return Err(AddFault::Full);
     }
     let axiom = axiom_of(alloc, kind)?;

@@ -19,7 +19,7 @@ use std::test::Fail;
 
 // What is in the classes 0 and 1 is in 2.
 fn inclusion(alloc: Global) -> Result<Axiom, NoMemory>
-    ensures uses { IfOk result (λ a. IsTrue (axiom_uses_listed 3 2 a)) }
+    ensures uses { IfOk result (λ a. IsTrue (axiom_uses_listed 3 2 0 a)) }
     ensures counts { IfOk result (λ a. IsTrue (axiom_has_counts_within 100 a)) }
     ensures parts { IfOk result (λ a. length (axiom_parts a) ≤ 500000) }
 {
@@ -35,23 +35,38 @@ fn inclusion(alloc: Global) -> Result<Axiom, NoMemory>
 fn push(ontology: &mut Ontology, axiom: Axiom) -> Result<(), AddFault>
     requires classes { length ontology.old.classes ≡ 3 }
     requires roles { length ontology.old.roles ≡ 2 }
+    requires individuals { length ontology.old.individuals ≡ 0 }
     requires within { AreInLimit ontology.old.axioms }
-    requires uses { IsTrue (axiom_uses_listed 3 2 «axiom») }
+    requires uses { IsTrue (axiom_uses_listed 3 2 0 «axiom») }
     requires counts { IsTrue (axiom_has_counts_within 100 «axiom») }
     requires parts { length (axiom_parts «axiom») ≤ 500000 }
     ensures classes { OnOk result (length ontology.new.classes ≡ 3) }
     ensures roles { OnOk result (length ontology.new.roles ≡ 2) }
+    ensures individuals { OnOk result (length ontology.new.individuals ≡ 0) }
     ensures within { OnOk result (AreInLimit ontology.new.axioms) }
 {
     ontology.add_axiom(axiom, 1)?;
     Ok(())
 }
 
+// Whether three classes and two roles are listed, no individual, and no axiom.
+fn has_names_alone(ontology: &Ontology) -> bool
+    ensures classes { IsTrue result → length ontology.now.classes ≡ 3 }
+    ensures roles { IsTrue result → length ontology.now.roles ≡ 2 }
+    ensures individuals { IsTrue result → length ontology.now.individuals ≡ 0 }
+    ensures axioms { IsTrue result → length ontology.now.axioms ≡ 0 }
+{
+    ontology.class_count() == 3
+        && ontology.role_count() == 2
+        && ontology.individual_count() == 0
+        && ontology.axiom_count() == 0
+}
+
 // Role 0 is below role 1, which is transitive; what is at the end of an edge of role 1 is in class 2.
 fn add_axioms(alloc: Global, ontology: &mut Ontology) -> Result<(), AddFault>
     ensures { OnOk result (AreInLimit ontology.new.axioms) }
 {
-    if ontology.class_count() != 3 || ontology.role_count() != 2 || ontology.axiom_count() != 0 {
+    if !has_names_alone(ontology) {
         return Err(AddFault::Full);
     }
     push(ontology, Axiom::SubRole(0, 1))?;

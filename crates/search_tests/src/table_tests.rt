@@ -60,7 +60,7 @@ fn class(number: u32) -> Concept
 }
 
 fn two_names(alloc: Global) -> Result<Axiom, NoMemory>
-    ensures uses { IfOk result (λ a. IsTrue (axiom_uses_listed 3 1 a)) }
+    ensures uses { IfOk result (λ a. IsTrue (axiom_uses_listed 3 1 0 a)) }
     ensures counts { IfOk result (λ a. IsTrue (axiom_has_counts_within 100 a)) }
     ensures parts { IfOk result (λ a. length (axiom_parts a) ≡ 1) }
 {
@@ -78,7 +78,7 @@ fn two_names(alloc: Global) -> Result<Axiom, NoMemory>
 }
 
 fn edge(alloc: Global) -> Result<Axiom, NoMemory>
-    ensures uses { IfOk result (λ a. IsTrue (axiom_uses_listed 3 1 a)) }
+    ensures uses { IfOk result (λ a. IsTrue (axiom_uses_listed 3 1 0 a)) }
     ensures counts { IfOk result (λ a. IsTrue (axiom_has_counts_within 100 a)) }
     ensures parts { IfOk result (λ a. length (axiom_parts a) ≡ 1) }
 {
@@ -90,7 +90,7 @@ fn edge(alloc: Global) -> Result<Axiom, NoMemory>
 }
 
 fn disjoint(alloc: Global) -> Result<Axiom, NoMemory>
-    ensures uses { IfOk result (λ a. IsTrue (axiom_uses_listed 3 1 a)) }
+    ensures uses { IfOk result (λ a. IsTrue (axiom_uses_listed 3 1 0 a)) }
     ensures counts { IfOk result (λ a. IsTrue (axiom_has_counts_within 100 a)) }
     ensures parts { IfOk result (λ a. length (axiom_parts a) ≡ 3) }
 {
@@ -102,7 +102,7 @@ fn disjoint(alloc: Global) -> Result<Axiom, NoMemory>
 }
 
 fn axiom_of(alloc: Global, kind: Kind) -> Result<Axiom, NoMemory>
-    ensures uses { IfOk result (λ a. IsTrue (axiom_uses_listed 3 1 a)) }
+    ensures uses { IfOk result (λ a. IsTrue (axiom_uses_listed 3 1 0 a)) }
     ensures counts { IfOk result (λ a. IsTrue (axiom_has_counts_within 100 a)) }
     ensures parts { IfOk result (λ a. length (axiom_parts a) ≤ 500000) }
 {
@@ -129,7 +129,8 @@ fn add(ontology: &mut Ontology, axiom: Axiom) -> Result<(), AddFault>
     requires within { AreInLimit ontology.old.axioms }
     requires classes { length ontology.old.classes ≡ 3 }
     requires roles { length ontology.old.roles ≡ 1 }
-    requires uses { IsTrue (axiom_uses_listed 3 1 «axiom») }
+    requires individuals { length ontology.old.individuals ≡ 0 }
+    requires uses { IsTrue (axiom_uses_listed 3 1 0 «axiom») }
     requires counts { IsTrue (axiom_has_counts_within 100 «axiom») }
     requires parts { length (axiom_parts «axiom») ≤ 500000 }
     ensures within { OnOk result (AreInLimit ontology.new.axioms) }
@@ -143,7 +144,10 @@ fn add_kind(alloc: Global, ontology: &mut Ontology, kind: Kind) -> Result<(), Ad
     requires within { AreInLimit ontology.old.axioms }
     ensures within { OnOk result (AreInLimit ontology.new.axioms) }
 {
-    if ontology.class_count() != 3 || ontology.role_count() != 1 {
+    if ontology.class_count() != 3
+        || ontology.role_count() != 1
+        || ontology.individual_count() != 0
+    {
         return Err(AddFault::Full);
     }
     let axiom = axiom_of(alloc, kind)?;
