@@ -10,7 +10,7 @@ pub fn malformed_line_is_the_first()
 {}
 
 /// The lines of a model's text are the text of that model, for names that are listed once and have no blank and no end
-/// of a line in them, as IRIs have none, and for an interpretation of listed classes and roles.
+/// of a line in them, as IRIs have none, and for an interpretation of listed classes, roles and individuals.
 pub fn models_are_read_back()
     ensures { ModelsAreReadBack }
 {}

@@ -261,8 +261,8 @@ fn put_spaced_individuals(
     Ok(())
 }
 
-/// Appends the text of an axiom, whose classes, roles and individuals are listed. The forms of its class expressions are those of
-/// [`concept_text`](crate::concept_text).
+/// Appends the text of an axiom, whose classes, roles and individuals are listed. The forms of its class expressions
+/// are those of [`concept_text`](crate::concept_text).
 ///
 /// # Errors
 ///

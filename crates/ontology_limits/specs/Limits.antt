@@ -70,8 +70,8 @@ part_count [] = 0
 part_count (a ∷ as_) = length (axiom_parts a.axiom) + part_count as_
 
 -- The names of an ontology's axioms are listed, their groups have as many items as they need, no cardinality is above
--- 100, each role that is counted is simple, and there are not too many axioms, names and parts. There are no individuals
--- yet.
+-- 100, each role that is counted is simple, and there are not too many axioms, names and parts. There are no
+-- individuals yet.
 pub record IsOntologyInLimit (o : Listed) : Type 0 where
   pub listed : all_use_listed (length o.classes) (length o.roles) (length o.individuals) o.axioms ≡ true
   pub items : list_all (λ (a : Numbered). has_enough_items a.axiom) o.axioms ≡ true

@@ -1,5 +1,5 @@
--- The signature of class expressions, axioms and queries: the names of classes and roles that stand in them. Individuals
--- are no part of it.
+-- The signature of class expressions, axioms and queries: the names of classes and roles that stand in them.
+-- Individuals are no part of it.
 use Rattle.std.specs.Prelude.{Bool, false, eqb, List, [], ◌∷◌, ◌++◌, map}
 use Rattle.std.specs.List.{list_any}
 use Rattle.shq_terms.specs.Concept.{Concept, top, bottom, name, complement, intersection, union, some_of, all_of, at_least, at_most, exactly, Parts, no_parts, part, parts_of}

@@ -5,8 +5,8 @@
 //! - **At most n successors fit.** In a saturated trail an 'at most n' counts n successors at most: of more, two are
 //!   apart no further, and could be joined, or all are apart, which is a clash (the rules for 'at most' of Horrocks,
 //!   Sattler and Tobies, "Practical Reasoning for Expressive Description Logics", 1999).
-//! - **A theory says what its axioms say.** Where no axiom is an assertion, an interpretation meets axioms exactly where
-//!   it meets the parts and roles that a search reads of them.
+//! - **A theory says what its axioms say.** Where no axiom is an assertion, an interpretation meets axioms exactly
+//!   where it meets the parts and roles that a search reads of them.
 ghost use Rattle.search_laws.specs.TrailLaws.{StartStays, FewSuccessorsFit, TheoriesAreTheirAxioms};
 
 /// Node 0 keeps the concepts of the start in each reached trail.

@@ -93,7 +93,7 @@ are_different i [] = true
 are_different i (a ∷ as_) = differs_from_all i a as_ && are_different i as_
 
 -- the interpretation meets the axiom: the class axioms of section 2.3.1, the role axioms of section 2.3.2, and the
--- assertions of section 2.3.5
+-- assertions of section 2.3.6
 abbrev pub meets : Interpretation → Axiom → Bool
 meets i (SubClassOf c d) = all_below i.size (λ x. implies (holds i c x) (holds i d x))
 meets i (EquivalentClasses cs) = all_below i.size (λ x. all_same i cs x)

@@ -1,5 +1,5 @@
--- Whether the names that an expression or an axiom uses are listed: each class number is below the count of classes, each
--- role number below the count of roles, and each number of an individual below the count of individuals.
+-- Whether the names that an expression or an axiom uses are listed: each class number is below the count of classes,
+-- each role number below the count of roles, and each number of an individual below the count of individuals.
 use Rattle.std.specs.Prelude.{ℕ, Bool, true, ◌&&◌, nat_lt, List, [], ◌∷◌}
 use Rattle.std.specs.List.{list_all}
 use Rattle.shq_base.specs.Concept.{Concept, top, bottom, name, complement, intersection, union, some_of, all_of, at_least, at_most, exactly, Parts, no_parts, part, parts_of}

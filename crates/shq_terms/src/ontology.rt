@@ -179,7 +179,8 @@ impl Ontology {
         self.roles.number_of_bytes(iri)
     }
 
-    /// The number of the individual whose IRI has these bytes, which may be no text. `None` exactly where none is listed.
+    /// The number of the individual whose IRI has these bytes, which may be no text. `None` exactly where none is
+    /// listed.
     pub fn individual_of_bytes(&self, iri: &[u8]) -> Option<u32>
         ensures { result ≡ position (bytes_eq iri.now) self.now.individuals }
     {

@@ -14,11 +14,11 @@
 //! Solver", DAC 2001). What is found can be done. That nothing is found says nothing, since a join or a block that goes
 //! can make an old fact count again: then `step_finders::find_step` looks through everything.
 //!
-//! What needs no look at blocks is looked for first, so that blocks are found where nothing of it is left alone, and not
-//! after each step.
+//! What needs no look at blocks is looked for first, so that blocks are found where nothing of it is left alone, and
+//! not after each step.
 //!
-//! [`TreeState`] is a completion tree as the state that finders look through, and [`TreeWithBlocks`] one with the blocks
-//! of its nodes.
+//! [`TreeState`] is a completion tree as the state that finders look through, and [`TreeWithBlocks`] one with the
+//! blocks of its nodes.
 #![tactic(auto)]
 
 mod additions;

@@ -304,7 +304,8 @@ impl<'b, A: Allocator + Copy> Search<'b, A> {
         self.progress.prints()
     }
 
-    /// The blocks of all nodes of the tree, whatever the search has come to: made anew, at the cost of a look at each node.
+    /// The blocks of all nodes of the tree, whatever the search has come to: made anew, at the cost of a look at each
+    /// node.
     ///
     /// # Errors
     ///
