@@ -17,6 +17,8 @@ pub data Line : Type 0 where
   bottom_line : (x : ℕ) → Line
   clash_line : (x c : ℕ) → Line
   most_line : (x c : ℕ) (ys : List ℕ) → Line
+  fact_line : (axiom_number place : ℕ) → Line
+  differ_line : (y z : ℕ) → Line
 
 mutual
   -- a line and the trees of its children

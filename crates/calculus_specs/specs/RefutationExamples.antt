@@ -1,14 +1,14 @@
 -- Worked examples. Class names are numbers from 10. Role 1 is below role 0, which is transitive.
-use Rattle.std.specs.Prelude.{◌≡◌, ◌==◌, ◌||◌, ◌&&◌, List, [], ◌∷◌, ◌++◌, Option, Some, None, refl}
-use Rattle.shq_base.specs.Concept.{Concept, bottom, name, complement, intersection, union, some_of, all_of, at_least, at_most, parts_of}
+use Rattle.std.specs.Prelude.{◌≡◌, ◌==◌, ◌||◌, ◌&&◌, List, [], ◌∷◌, ◌++◌, Option, Some, None, if◌then◌else◌, refl}
+use Rattle.shq_base.specs.Concept.{Concept, top, bottom, name, complement, intersection, union, some_of, all_of, at_least, at_most, parts_of}
 use Rattle.calculus_specs.specs.Shape.{Shape}
 use Rattle.calculus_specs.specs.Shape.Shape.{name as name_shape, not_name, intersection as and_shape, union as union_shape, some_of as some_shape, all_of as all_shape, at_least as least_shape, at_most as most_shape}
 use Rattle.calculus_specs.specs.Rows.{Theory, inclusion_of, range_of}
 use Rattle.calculus_specs.specs.declared.facts.Fact.{Fact}
 use Rattle.calculus_specs.specs.declared.facts.Fact.TheVariants.{Has, Edge, Apart, Same}
 use Rattle.calculus_specs.specs.Line.{Line, node, no_trees, tree}
-use Rattle.calculus_specs.specs.Line.Line.{start_line, and_line, or_line, all_line, carry_line, row_line, range_line, some_line, least_line, choose_line, pair_line, bottom_line, clash_line, most_line}
-use Rattle.calculus_specs.specs.Rules.{Known, nothing_known}
+use Rattle.calculus_specs.specs.Line.Line.{start_line, and_line, or_line, all_line, carry_line, row_line, range_line, some_line, least_line, choose_line, pair_line, bottom_line, clash_line, most_line, fact_line, differ_line}
+use Rattle.calculus_specs.specs.Rules.{Question, on_any, Known, nothing_known}
 use Rattle.calculus_specs.specs.Valid.{concept_at, open_after, open_after_all, IsRefutation}
 
 abbrev a : Concept
@@ -40,11 +40,12 @@ shapes = name_shape 10 ∷ name_shape 11 ∷ not_name 10 ∷ some_shape 1 1 ∷ 
 
 -- what lines leave open of a refutation that `sub` is in `sup`
 abbrev left_open : Concept → Concept → List Line → Option (List Known)
-left_open sub sup lines = open_after_all theory sub sup (concept_at shapes) (nothing_known ∷ []) lines
+left_open sub sup lines = open_after_all (on_any theory sub sup) (concept_at shapes) (nothing_known ∷ []) lines
 
 -- what a line leaves open of a branch that knows nodes 0 to 2 and these facts
 abbrev left_at : List (Fact Concept) → Line → Option (List Known)
-left_at facts line = open_after theory a b (concept_at shapes) (record { nodes = 0 ∷ 1 ∷ 2 ∷ []; facts = facts } ∷ []) line
+left_at facts line =
+    open_after (on_any theory a b) (concept_at shapes) (record { nodes = 0 ∷ 1 ∷ 2 ∷ []; facts = facts } ∷ []) line
 
 abbrev known_with : List (Fact Concept) → Known
 known_with facts = record { nodes = 0 ∷ 1 ∷ 2 ∷ []; facts = facts }
@@ -55,7 +56,7 @@ known_with facts = record { nodes = 0 ∷ 1 ∷ 2 ∷ []; facts = facts }
 abbrev by_a_row : List Line
 by_a_row = start_line ∷ and_line 0 11 ∷ row_line 0 1 1 (1 ∷ 2 ∷ []) ∷ clash_line 0 2 ∷ []
 
-pub row_refutes : IsRefutation theory (both a c) b shapes by_a_row
+pub row_refutes : IsRefutation (on_any theory (both a c) b) shapes by_a_row
 row_refutes = record {
   tree = node start_line (tree (node (and_line 0 11) (tree (node (row_line 0 1 1 (1 ∷ 2 ∷ [])) (tree (node (clash_line 0 2) no_trees) no_trees)) no_trees)) no_trees);
   in_preorder = refl;
@@ -151,3 +152,72 @@ no_concept = refl
 
 pub no_such_concept : left_at [] (choose_line 2 13) ≡ None
 no_such_concept = refl
+
+-- ---- individuals
+
+-- axiom 3 says that individual 0 is different from itself, and axiom 4 that it has an edge to individual 1; in question
+-- is whether individual 0 is in b. Node 2 is the one without a name.
+abbrev asserted : Question
+asserted = record {
+  theory = theory;
+  sub = top;
+  sup = b;
+  first = 3;
+  at = 0;
+  fact_of = λ x p.
+      if x == 3 && p == 1 then Some (Apart 0 0) else (if x == 4 && p == 1 then Some (Edge 1 0 1) else None);
+}
+
+-- and the same of an individual that is not listed
+abbrev unlisted : Question
+unlisted = record { theory = theory; sub = top; sup = b; first = 3; at = 3; fact_of = asserted.fact_of }
+
+abbrev asserted_open : List Line → Option (List Known)
+asserted_open lines = open_after_all asserted (concept_at shapes) (nothing_known ∷ []) lines
+
+-- `start` knows every first node
+pub first_nodes : asserted_open (start_line ∷ [])
+    ≡ Some (record { nodes = 0 ∷ 1 ∷ 2 ∷ []; facts = Has 0 top ∷ Has 0 (complement b) ∷ [] } ∷ [])
+first_nodes = refl
+
+pub started_without_node : open_after_all unlisted (concept_at shapes) (nothing_known ∷ []) (start_line ∷ []) ≡ None
+started_without_node = refl
+
+-- the end of a given edge is in the range, which clashes at the node in question alone
+pub given_edge : asserted_open (start_line ∷ fact_line 4 1 ∷ range_line 0 1 2 ∷ [])
+    ≡ Some (record { nodes = 0 ∷ 1 ∷ 2 ∷ []; facts = Has 0 top ∷ Has 0 (complement b) ∷ Edge 1 0 1 ∷ Has 1 b ∷ [] } ∷ [])
+given_edge = refl
+
+pub given_edge_elsewhere : asserted_open (start_line ∷ fact_line 4 1 ∷ range_line 0 1 2 ∷ clash_line 1 2 ∷ []) ≡ None
+given_edge_elsewhere = refl
+
+-- no node differs from itself
+pub differing : asserted_open (start_line ∷ fact_line 3 1 ∷ differ_line 0 0 ∷ []) ≡ Some []
+differing = refl
+
+pub not_differing : asserted_open (start_line ∷ fact_line 3 1 ∷ differ_line 0 1 ∷ []) ≡ None
+not_differing = refl
+
+-- nodes that are joined are one, and nodes that are apart need not be
+pub joined_differ : left_at (Apart 1 2 ∷ Same 2 0 ∷ Same 0 1 ∷ []) (differ_line 2 1) ≡ Some []
+joined_differ = refl
+
+pub apart_alone : left_at (Apart 1 2 ∷ []) (differ_line 1 2) ≡ None
+apart_alone = refl
+
+pub joined_alone : left_at (Same 1 2 ∷ []) (differ_line 1 2) ≡ None
+joined_alone = refl
+
+pub unknown_differ : left_at (Apart 3 3 ∷ []) (differ_line 3 3) ≡ None
+unknown_differ = refl
+
+-- a fact has its place in its axiom, and none stands before `start`
+pub no_such_fact : asserted_open (start_line ∷ fact_line 3 2 ∷ []) ≡ None
+no_such_fact = refl
+
+pub not_yet_started : asserted_open (fact_line 3 1 ∷ []) ≡ None
+not_yet_started = refl
+
+-- without individuals there is no fact
+pub no_facts : left_open top b (start_line ∷ fact_line 1 1 ∷ []) ≡ None
+no_facts = refl

@@ -8,9 +8,25 @@ use Rattle.calculus_specs.specs.Rows.{Part, Theory, part_at, conjunct_at, are_na
 use Rattle.calculus_specs.specs.Rows.Part.{inclusion, range}
 use Rattle.calculus_specs.specs.declared.facts.Fact.{Fact}
 use Rattle.calculus_specs.specs.declared.facts.Fact.TheVariants.{Has, Apart, Same}
-use Rattle.calculus_specs.specs.State.{has_tree, has_edge, all_apart, fresh_facts}
+use Rattle.calculus_specs.specs.Joins.{rep}
+use Rattle.calculus_specs.specs.State.{has_tree, has_edge, are_apart, all_apart, fresh_facts}
 use Rattle.calculus_specs.specs.Line.{Line}
-use Rattle.calculus_specs.specs.Line.Line.{start_line, and_line, or_line, all_line, carry_line, row_line, range_line, some_line, least_line, choose_line, pair_line, bottom_line, clash_line, most_line}
+use Rattle.calculus_specs.specs.Line.Line.{start_line, and_line, or_line, all_line, carry_line, row_line, range_line, some_line, least_line, choose_line, pair_line, bottom_line, clash_line, most_line, fact_line, differ_line}
+
+-- What a refutation is of: that something is in `sub` and not in `sup`, over the axioms of a theory. The first nodes
+-- are those below `first`: one for each individual, and one for an element without a name. Node `at` is the one in
+-- question, and `fact_of a p` is the p-th fact, from 1, of axiom a, where axiom a says something of individuals.
+pub record Question : Type 0 where
+  pub theory : Theory
+  pub sub : Concept
+  pub sup : Concept
+  pub first : ℕ
+  pub at : ℕ
+  pub fact_of : ℕ → ℕ → Option (Fact Concept)
+
+-- the question without individuals: node 0 is the only first node
+abbrev pub on_any : Theory → Concept → Concept → Question
+on_any theory sub sup = record { theory = theory; sub = sub; sup = sup; first = 1; at = 0; fact_of = λ a p. None }
 
 -- the nodes and the facts that a branch knows
 pub record Known : Type 0 where
@@ -96,34 +112,53 @@ abbrev pub most_children : Theory → Known → ℕ → List ℕ → Concept →
 most_children theory k x ys (at_most n s e) = when (length ys == n + 1 && are_fillers theory k x s e ys && all_apart k.facts ys) (Some [])
 most_children theory k x ys _ = None
 
+-- ---- lines without a concept
+
+-- the fact that an axiom gives, once the first nodes are known
+abbrev pub fact_children : Known → Option (Fact Concept) → Option (List Known)
+fact_children k None = None
+fact_children k (Some f) = when (knows k 0) (Some (with_facts k (f ∷ []) ∷ []))
+
+-- the branch ends where two nodes are apart and one
+abbrev pub differ_children : Known → ℕ → ℕ → Option (List Known)
+differ_children k y z =
+    when (knows k y && knows k z && are_apart k.facts y z && rep k.facts y == rep k.facts z) (Some [])
+
 -- ---- any line
 
 -- nothing is known before the line `start`
 abbrev pub nothing_known : Known
 nothing_known = record { nodes = []; facts = [] }
 
--- node 0, which is in `sub` and not in `sup`
-abbrev pub started : Concept → Concept → Known
-started sub sup = record { nodes = 0 ∷ []; facts = Has 0 (normal_form sub) ∷ Has 0 (negated_form sup) ∷ [] }
+-- the first nodes, of which the one in question is in `sub` and not in `sup`
+abbrev pub started : Question → Known
+started q = record {
+  nodes = range_with_len 0 q.first;
+  facts = Has q.at (normal_form q.sub) ∷ Has q.at (negated_form q.sup) ∷ [];
+}
 
-abbrev pub start_children : Concept → Concept → List ℕ → Option (List Known)
-start_children sub sup [] = Some (started sub sup ∷ [])
-start_children sub sup (x ∷ xs) = None
+-- by the nodes that are known: nothing stands before `start`, and the node in question has to be a first one
+abbrev pub start_children : Question → List ℕ → Option (List Known)
+start_children q [] = when (nat_lt q.at q.first) (Some (started q ∷ []))
+start_children q (x ∷ xs) = None
 
--- what is known in each child of the line, where its premises hold over the axioms of a theory, in a refutation that
--- `sub` is in `sup`, whose concept numbers read as `concept` says
-abbrev pub children_of : Theory → Concept → Concept → (ℕ → Option Concept) → Known → Line → Option (List Known)
-children_of theory sub sup concept k start_line = start_children sub sup k.nodes
-children_of theory sub sup concept k (and_line x c) = at_concept k x (concept c) (and_children k x)
-children_of theory sub sup concept k (or_line x c) = at_concept k x (concept c) (or_children k x)
-children_of theory sub sup concept k (all_line x y c) = at_concept k x (concept c) (all_children theory k x y)
-children_of theory sub sup concept k (carry_line x y t c) = at_concept k x (concept c) (carry_children theory k x y t)
-children_of theory sub sup concept k (row_line x a p positions) = row_children k x positions (part_at theory a p)
-children_of theory sub sup concept k (range_line x y a) = range_children theory k x y (part_at theory a 1)
-children_of theory sub sup concept k (some_line x y c) = at_concept k x (concept c) (some_children k x y)
-children_of theory sub sup concept k (least_line x y c) = at_concept k x (concept c) (least_children k x y)
-children_of theory sub sup concept k (choose_line y c) = choose_children k y (concept c)
-children_of theory sub sup concept k (pair_line y z) = when (knows k y && knows k z) (Some (with_facts k (Same y z ∷ []) ∷ with_facts k (Apart y z ∷ []) ∷ []))
-children_of theory sub sup concept k (bottom_line x) = when (knows k x && has_tree k.facts x bottom) (Some [])
-children_of theory sub sup concept k (clash_line x c) = at_concept k x (concept c) (clash_children k x)
-children_of theory sub sup concept k (most_line x c ys) = at_concept k x (concept c) (most_children theory k x ys)
+-- what is known in each child of the line, where its premises hold, in a refutation of the question whose concept
+-- numbers read as `concept` says
+abbrev pub children_of : Question → (ℕ → Option Concept) → Known → Line → Option (List Known)
+children_of q concept k start_line = start_children q k.nodes
+children_of q concept k (and_line x c) = at_concept k x (concept c) (and_children k x)
+children_of q concept k (or_line x c) = at_concept k x (concept c) (or_children k x)
+children_of q concept k (all_line x y c) = at_concept k x (concept c) (all_children q.theory k x y)
+children_of q concept k (carry_line x y t c) = at_concept k x (concept c) (carry_children q.theory k x y t)
+children_of q concept k (row_line x a p positions) = row_children k x positions (part_at q.theory a p)
+children_of q concept k (range_line x y a) = range_children q.theory k x y (part_at q.theory a 1)
+children_of q concept k (some_line x y c) = at_concept k x (concept c) (some_children k x y)
+children_of q concept k (least_line x y c) = at_concept k x (concept c) (least_children k x y)
+children_of q concept k (choose_line y c) = choose_children k y (concept c)
+children_of q concept k (pair_line y z) =
+    when (knows k y && knows k z) (Some (with_facts k (Same y z ∷ []) ∷ with_facts k (Apart y z ∷ []) ∷ []))
+children_of q concept k (bottom_line x) = when (knows k x && has_tree k.facts x bottom) (Some [])
+children_of q concept k (clash_line x c) = at_concept k x (concept c) (clash_children k x)
+children_of q concept k (most_line x c ys) = at_concept k x (concept c) (most_children q.theory k x ys)
+children_of q concept k (fact_line a p) = fact_children k (q.fact_of a p)
+children_of q concept k (differ_line y z) = differ_children k y z

@@ -5,19 +5,18 @@ use Rattle.shq_base.specs.Concept.{Concept}
 use Rattle.calculus_specs.specs.Shape.{Shape}
 use Rattle.calculus_specs.specs.Shape.Shape.{top}
 use Rattle.calculus_specs.specs.Tree.{tree_of}
-use Rattle.calculus_specs.specs.Rows.{Theory}
 use Rattle.calculus_specs.specs.Line.{Line, Tree, node, Trees, no_trees, tree, preorder}
-use Rattle.calculus_specs.specs.Rules.{Known, children_of, nothing_known}
+use Rattle.calculus_specs.specs.Rules.{Question, Known, children_of, nothing_known}
 
 -- the concept of a number in a refutation, whose shapes are numbered from 1
 abbrev pub concept_at : List Shape → ℕ → Option Concept
 concept_at shapes c = if nat_lt 0 c && nat_lt c (length shapes + 1) then Some (tree_of (top ∷ shapes) c) else None
 
-module _ (theory : Theory) (sub sup : Concept) (concept : ℕ → Option Concept) where
+module _ (q : Question) (concept : ℕ → Option Concept) where
   -- the premises of the tree's line hold under what is known, and each child is shut under what it adds
   abbrev mutual
     pub IsShut : Known → Tree → Type 0
-    IsShut k (node line kids) = AreShut (children_of theory sub sup concept k line) kids
+    IsShut k (node line kids) = AreShut (children_of q concept k line) kids
 
     -- the trees, one for each child, are shut; none are where the premises do not hold
     pub AreShut : Option (List Known) → Trees → Type 0
@@ -30,7 +29,7 @@ module _ (theory : Theory) (sub sup : Concept) (concept : ℕ → Option Concept
   -- the open branches that a line leaves of those that are open, of which it belongs to the first
   abbrev pub open_after : List Known → Line → Option (List Known)
   open_after [] line = None
-  open_after (k ∷ ks) line = option_map (λ (new : List Known). new ++ ks) (children_of theory sub sup concept k line)
+  open_after (k ∷ ks) line = option_map (λ (new : List Known). new ++ ks) (children_of q concept k line)
 
   -- and those that several lines leave
   abbrev pub open_after_all : List Known → List Line → Option (List Known)
@@ -53,8 +52,8 @@ module _ (theory : Theory) (sub sup : Concept) (concept : ℕ → Option Concept
     pub before : open_after_all (nothing_known ∷ []) (take count lines) ≡ Some left
     pub breaks : Breaks left (drop count lines)
 
--- the lines, over these axioms and these shapes, refute that something is in `sub` and not in `sup`
-pub record IsRefutation (theory : Theory) (sub sup : Concept) (shapes : List Shape) (lines : List Line) : Type 0 where
+-- the lines, over these shapes, refute what is in question
+pub record IsRefutation (q : Question) (shapes : List Shape) (lines : List Line) : Type 0 where
   pub tree : Tree
   pub in_preorder : preorder tree ≡ lines
-  pub is_shut : IsShut theory sub sup (concept_at shapes) nothing_known tree
+  pub is_shut : IsShut q (concept_at shapes) nothing_known tree
