@@ -9,5 +9,6 @@ pub mod Stable
 pub mod Truth
 pub mod Pairs
 pub mod Meeting
+pub mod Facts
 pub use Rattle.shq_meaning.proofs.Implied
 pub use Rattle.shq_meaning.proofs.Bools

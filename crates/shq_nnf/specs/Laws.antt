@@ -1,5 +1,6 @@
 -- What normal forms, tables and parts mean.
-use Rattle.std.specs.Prelude.{◌≡◌, ℕ, ◌<◌, not, false, List, length}
+use Rattle.std.specs.Prelude.{◌≡◌, ℕ, ◌<◌, not, true, false, List, length}
+use Rattle.std.specs.List.{list_all}
 use Rattle.shq_meaning.specs.Concept.{Concept}
 use Rattle.shq_meaning.specs.Axiom.{Axiom}
 use Rattle.calculus_specs.specs.Normal.{normal_form, negated_form}
@@ -7,7 +8,8 @@ use Rattle.calculus_specs.specs.Shape.{Shape, IsTable}
 use Rattle.calculus_specs.specs.Tree.{tree_of}
 use Rattle.shq_meaning.specs.Truth.{Interpretation, holds, meets}
 use Rattle.shq_nnf.specs.Parts.{axiom_parts}
-use Rattle.shq_nnf.specs.Meeting.{meets_parts, is_role_axiom, is_assertion}
+use Rattle.shq_nnf.specs.Facts.{facts_of}
+use Rattle.shq_nnf.specs.Meeting.{meets_parts, is_true, is_role_axiom, is_assertion}
 
 -- in each finite interpretation, at each element, the normal form of a class expression has its truth, and the normal
 -- form of its complement the opposite truth
@@ -18,6 +20,10 @@ NormalFormsKeepTruth = (i : Interpretation) (c : Concept) (x : ℕ) → (holds i
 -- of its parts
 abbrev pub AxiomsAreTheirParts : Type 0
 AxiomsAreTheirParts = (i : Interpretation) (a : Axiom) → is_role_axiom a ≡ false → is_assertion a ≡ false → meets i a ≡ meets_parts i (axiom_parts a)
+
+-- and it meets an assertion exactly where all facts of it are true of its individuals
+abbrev pub AssertionsAreTheirFacts : Type 0
+AssertionsAreTheirFacts = (i : Interpretation) (a : Axiom) → is_assertion a ≡ true → meets i a ≡ list_all (is_true i i.individual) (facts_of a)
 
 -- what a number of a table stands for is its own normal form
 abbrev pub NumbersAreNormal : Type 0

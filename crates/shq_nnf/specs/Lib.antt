@@ -3,6 +3,8 @@ pub mod Numbers
 pub mod Counts
 pub mod Opened
 pub mod Bounds
+pub mod Facts
+pub mod FactsExamples
 pub mod Meeting
 pub mod Laws
 pub mod Parts

@@ -1,9 +1,12 @@
--- What it is that a finite interpretation meets a part of an axiom.
-use Rattle.std.specs.Prelude.{Bool, true, false, List}
+-- What it is that a finite interpretation meets a part of an axiom, and that a fact is true in it.
+use Rattle.std.specs.Prelude.{ℕ, Bool, true, false, not, eqb, List}
 use Rattle.std.specs.List.{list_all}
 use Rattle.shq_meaning.specs.Axiom.{Axiom}
 use Rattle.shq_meaning.specs.Axiom.TheVariants.{SubClassOf, EquivalentClasses, DisjointClasses, DisjointUnion, SubRole, EquivalentRoles, Domain, Range, Functional, Transitive, Member, Pair, SameAll, Different}
+use Rattle.shq_meaning.specs.Concept.{Concept}
 use Rattle.calculus_specs.specs.Rows.{Part, inclusion, range}
+use Rattle.calculus_specs.specs.declared.facts.Fact.{Fact}
+use Rattle.calculus_specs.specs.declared.facts.Fact.TheVariants.{Has, Edge, Apart, Same}
 use Rattle.shq_meaning.specs.Below.{all_below}
 use Rattle.shq_meaning.specs.Truth.{Interpretation, implies, holds}
 
@@ -15,6 +18,13 @@ meets_part i (range r d) = all_below i.size (λ x. all_below i.size (λ y. impli
 
 abbrev pub meets_parts : Interpretation → List Part → Bool
 meets_parts i ps = list_all (meets_part i) ps
+
+-- whether the fact is true where each node stands for the element at its place
+abbrev pub is_true : Interpretation → (ℕ → ℕ) → Fact Concept → Bool
+is_true i place (Has x c) = holds i c (place x)
+is_true i place (Edge r x y) = i.in_role r (place x) (place y)
+is_true i place (Apart x y) = not (eqb (place x) (place y))
+is_true i place (Same x y) = eqb (place x) (place y)
 
 -- whether the axiom says something of roles alone
 abbrev pub is_role_axiom : Axiom → Bool

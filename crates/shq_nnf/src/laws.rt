@@ -1,5 +1,5 @@
 // What the definitions entail about one another.
-ghost use Rattle.shq_nnf.specs.Laws.{NormalFormsKeepTruth, AxiomsAreTheirParts, NumbersAreNormal};
+ghost use Rattle.shq_nnf.specs.Laws.{NormalFormsKeepTruth, AxiomsAreTheirParts, AssertionsAreTheirFacts, NumbersAreNormal};
 
 /// A normal form has the truth of its class expression, and the normal form of the complement the opposite truth.
 pub fn normal_forms_keep_truth()
@@ -10,6 +10,12 @@ pub fn normal_forms_keep_truth()
 /// alone or an assertion.
 pub fn axioms_are_their_parts()
     ensures { AxiomsAreTheirParts }
+{}
+
+/// A finite interpretation meets an assertion exactly where all of its facts are true of the individuals (OWL 2 Direct
+/// Semantics, section 2.3.6).
+pub fn assertions_are_their_facts()
+    ensures { AssertionsAreTheirFacts }
 {}
 
 /// The class expression that a number of a table stands for is its own normal form.

@@ -11,7 +11,8 @@
 //! restriction.
 //!
 //! A [`Part`] of an axiom is an inclusion of an intersection in a concept, or a range. An axiom on classes, or on the
-//! domain or range of a role, means all of its parts together, and a role axiom has none.
+//! domain or range of a role, means all of its parts together, and a role axiom has none. An assertion means all of its
+//! facts together.
 #![tactic(auto)]
 
 mod complements;
@@ -24,7 +25,9 @@ mod parts;
 mod shapes;
 
 pub use concepts::Concepts;
-pub use laws::{axioms_are_their_parts, normal_forms_keep_truth, numbers_are_normal};
+pub use laws::{
+    assertions_are_their_facts, axioms_are_their_parts, normal_forms_keep_truth, numbers_are_normal,
+};
 pub use parts::{Part, part_count};
 pub use shapes::{OwnedShape, Shape};
 pub use shq_meaning::NoMemory;
