@@ -5,12 +5,13 @@ use Rattle.std.proofs.lemmas.Bool.{and_parts, and_from, and_left, and_right, or_
 use Rattle.std.proofs.lemmas.List.Folds.{list_any-append}
 use Rattle.shq_nnf.specs.Concept.{Concept}
 use Rattle.shq_nnf.specs.Truth.{Interpretation, holds}
+use Rattle.shq_nnf.specs.Meeting.{is_true}
 use Rattle.calculus_specs.specs.declared.facts.Fact.{Fact}
-use Rattle.calculus_specs.specs.declared.facts.Fact.TheVariants.{Has, Edge, Apart, Same}
+use Rattle.calculus_specs.specs.declared.facts.Fact.TheVariants.{Has, Edge, Apart}
 use Rattle.calculus_specs.specs.State.{new_nodes, apart_from, pairwise_apart, fresh_facts}
 use Rattle.calculus_specs.specs.Rules.{Known, knows, with_nodes}
 use Rattle.refutation_truth.proofs.Below.{Picks}
-use Rattle.refutation_truth.proofs.Models.{all_with, all_of_both, is_true, is_on, Model, all_agree}
+use Rattle.refutation_truth.proofs.Models.{all_with, all_of_both, is_on, still_pass, Model, all_agree}
 
 -- ---- a test of the facts of new nodes
 
@@ -41,7 +42,7 @@ module _ (p : Fact Concept → Bool) where
 
 -- ---- nodes that are known, old and new
 
-in_range : (j n first : ℕ) → first ≤ j → j < first + n → list_any (λ z. eqb z j) (range_with_len first n) ≡ true
+pub in_range : (j n first : ℕ) → first ≤ j → j < first + n → list_any (λ z. eqb z j) (range_with_len first n) ≡ true
 in_range j zero first le lt = absurd (omega arith)
 in_range j (suc n) first le lt = elim (cases_eq first j) [
   | inl e ↦ or_left (eqb first j) (list_any (λ z. eqb z j) (range_with_len (first + 1) n)) (eq-eqb first j e)
@@ -58,20 +59,9 @@ module _ (nodes : List ℕ) (first n : ℕ) where
   new_is_in : (x : ℕ) → first ≤ x → x < first + n → list_any (λ z. eqb z x) more ≡ true
   new_is_in x le lt = list_any-append (λ z. eqb z x) nodes (range_with_len first n) ∙ or_right (list_any (λ z. eqb z x) nodes) (list_any (λ z. eqb z x) (range_with_len first n)) (in_range x n first le lt)
 
-  both_in : (x y : ℕ) → (list_any (λ z. eqb z x) nodes && list_any (λ z. eqb z y) nodes) ≡ true → (list_any (λ z. eqb z x) more && list_any (λ z. eqb z y) more) ≡ true
-  both_in x y h =
-      let b = and_parts (list_any (λ z. eqb z x) nodes) (list_any (λ z. eqb z y) nodes) h in
-      and_from (list_any (λ z. eqb z x) more) (list_any (λ z. eqb z y) more) (old_is_in x b.0) (old_is_in y b.1)
-
-  still_on : (f : Fact Concept) → is_on nodes f ≡ true → is_on nodes f ≡ true → is_on more f ≡ true
-  still_on (Has x c) h g = old_is_in x h
-  still_on (Edge r x y) h g = both_in x y h
-  still_on (Apart x y) h g = both_in x y h
-  still_on (Same x y) h g = both_in x y h
-
   all_on : (x s : ℕ) (e : Concept) (fs : List (Fact Concept)) → list_any (λ z. eqb z x) nodes ≡ true → list_all (is_on nodes) fs ≡ true → list_all (is_on more) (fs ++ fresh_facts x s e first n) ≡ true
   all_on x s e fs is on =
-      all_of_both (is_on more) fs (fresh_facts x s e first n) (all_with (is_on nodes) (is_on nodes) (is_on more) still_on fs on on)
+      all_of_both (is_on more) fs (fresh_facts x s e first n) (all_with (is_on nodes) (is_on nodes) (is_on more) (λ f here again. still_pass (λ y. list_any (λ z. eqb z y) nodes) (λ y. list_any (λ z. eqb z y) more) old_is_in f here) fs on on)
       (fresh_pass (is_on more) x s e first n
       (λ j le lt. and_from (list_any (λ z. eqb z x) more) (list_any (λ z. eqb z j) more) (old_is_in x is) (new_is_in j le lt))
       new_is_in
@@ -107,7 +97,7 @@ module _ (first n : ℕ) (pick place : ℕ → ℕ) where
     ]
   ]
 
-module _ (i : Interpretation) (k : Known) (m : Model i k) (x s : ℕ) (e : Concept) (first n : ℕ) (known : knows k x ≡ true)
+module _ (i : Interpretation) (named : ℕ) (k : Known) (m : Model i named k) (x s : ℕ) (e : Concept) (first n : ℕ) (known : knows k x ≡ true)
     (fresh : (z : ℕ) → knows k z ≡ true → first ≤ z → z < first + n → ⊥) (q : Picks i.size (λ v. i.in_role s (m.place x) v && holds i e v) n) where
   abbrev there : ℕ → ℕ
   there = moved first n q.pick m.place
@@ -132,10 +122,12 @@ module _ (i : Interpretation) (k : Known) (m : Model i k) (x s : ℕ) (e : Conce
       ap not (ne_eqb (there j) (there l) apart)
 
   -- so many elements that a role leads to stand for new nodes
-  pub with_new : Model i (with_nodes k x s e first n)
+  pub with_new : Model i named (with_nodes k x s e first n)
   with_new = record {
     place = there;
     within = moved_within first n q.pick m.place i.size q.below m.within;
     are_true = all_of_both (is_true i there) k.facts (fresh_facts x s e first n) (all_agree i k.nodes m.place there kept k.facts m.are_true m.are_on) (fresh_pass (is_true i there) x s e first n is_edge is_filler is_other);
     are_on = all_on k.nodes first n x s e k.facts known m.are_on;
+    stands = λ a lt. kept a (m.known x known a lt) ∙ m.stands a lt;
+    known = λ z some a lt. old_is_in k.nodes first n a (m.known x known a lt);
   }

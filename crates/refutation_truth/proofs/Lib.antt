@@ -5,4 +5,6 @@ pub mod Fresh
 pub mod Rows
 pub mod Lines
 pub mod Named
+pub mod Asserted
 pub mod Entailed
+pub mod Old

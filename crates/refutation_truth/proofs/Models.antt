@@ -9,13 +9,15 @@ use Rattle.calculus_specs.specs.Same.{is_same}
 use Rattle.calculus_specs.proofs.Same.{same_to_eq}
 use Rattle.shq_nnf.specs.Below.{count_below}
 use Rattle.shq_nnf.specs.Truth.{Interpretation, holds}
+use Rattle.shq_nnf.specs.Meeting.{is_true}
 use Rattle.calculus_specs.specs.declared.facts.Fact.{Fact}
 use Rattle.calculus_specs.specs.declared.facts.Fact.TheVariants.{Has, Edge, Apart, Same}
 use Rattle.calculus_specs.specs.Joins.{rep, joins, IsJoined}
 use Rattle.calculus_specs.specs.Joins.IsJoined.{itself, by_fact}
 use Rattle.calculus_specs.specs.State.{gives_concept, is_given, has_tree, gives_edge, has_edge, gives_apart, are_apart, all_apart}
 use Rattle.calculus_specs.proofs.Joined.{joined-rep}
-use Rattle.calculus_specs.specs.Rules.{Known, with_facts}
+use Rattle.calculus_specs.specs.Rules.{Known, knows, with_facts}
+use Rattle.refutation_truth.specs.Theory.{nodes_pass}
 use Rattle.refutation_truth.proofs.Below.{but, count_but}
 
 -- ---- members of lists
@@ -44,12 +46,6 @@ all_of_both p xs ys h g = list_all-append p xs ys ∙ and_from (list_all p xs) (
 
 -- ---- facts that are true where each node stands for the element at its place
 
-abbrev pub is_true : Interpretation → (ℕ → ℕ) → Fact Concept → Bool
-is_true i place (Has x c) = holds i c (place x)
-is_true i place (Edge r x y) = i.in_role r (place x) (place y)
-is_true i place (Apart x y) = not (eqb (place x) (place y))
-is_true i place (Same x y) = eqb (place x) (place y)
-
 top_holds : (i : Interpretation) (c : Concept) (v : ℕ) → is_top c ≡ true → holds i c v ≡ true
 top_holds i top v h = refl
 top_holds i _ v h = cc
@@ -74,7 +70,7 @@ module _ (i : Interpretation) (place : ℕ → ℕ) (fs : List (Fact Concept)) (
   rep_place x = joined_place x (rep fs x) (joined-rep fs x)
 
   -- nodes with one representative stand for one element
-  same_place : (x y : ℕ) → eqb (rep fs x) (rep fs y) ≡ true → place x ≡ place y
+  pub same_place : (x y : ℕ) → eqb (rep fs x) (rep fs y) ≡ true → place x ≡ place y
   same_place x y h = rep_place x ∙ ap place (eqb-true (rep fs x) (rep fs y) h) ∙ sym (rep_place y)
 
   given_place : (x : ℕ) (c : Concept) (f : Fact Concept) → gives_concept (λ d. is_same d c) (rep fs) (rep fs x) f ≡ true → is_true i place f ≡ true → holds i c (place x) ≡ true
@@ -148,41 +144,50 @@ module _ (i : Interpretation) (place : ℕ → ℕ) (fs : List (Fact Concept)) (
 
 -- whether the fact's nodes are among these
 abbrev pub is_on : List ℕ → Fact Concept → Bool
-is_on nodes (Has x c) = list_any (λ y. eqb y x) nodes
-is_on nodes (Edge r x y) = list_any (λ z. eqb z x) nodes && list_any (λ z. eqb z y) nodes
-is_on nodes (Apart x y) = list_any (λ z. eqb z x) nodes && list_any (λ z. eqb z y) nodes
-is_on nodes (Same x y) = list_any (λ z. eqb z x) nodes && list_any (λ z. eqb z y) nodes
+is_on nodes f = nodes_pass (λ x. list_any (λ y. eqb y x) nodes) f
 
--- each node stands for an element so that all facts are true, and facts name known nodes alone
-pub record Model (i : Interpretation) (k : Known) : Type 0 where
+-- where all nodes that pass one test pass another, so do those of a fact
+pub still_pass : (p q : ℕ → Bool) → ((x : ℕ) → p x ≡ true → q x ≡ true) → (f : Fact Concept) → nodes_pass p f ≡ true → nodes_pass q f ≡ true
+still_pass p q each (Has x c) h = each x h
+still_pass p q each (Edge r x y) h = let b = and_parts (p x) (p y) h in and_from (q x) (q y) (each x b.0) (each y b.1)
+still_pass p q each (Apart x y) h = let b = and_parts (p x) (p y) h in and_from (q x) (q y) (each x b.0) (each y b.1)
+still_pass p q each (Same x y) h = let b = and_parts (p x) (p y) h in and_from (q x) (q y) (each x b.0) (each y b.1)
+
+-- Each node stands for an element so that all facts are true, and facts name known nodes alone. The node of each of so
+-- many individuals stands for it, and where any node is known, these are.
+pub record Model (i : Interpretation) (named : ℕ) (k : Known) : Type 0 where
   pub place : ℕ → ℕ
   pub within : (x : ℕ) → place x < i.size
   pub are_true : list_all (is_true i place) k.facts ≡ true
   pub are_on : list_all (is_on k.nodes) k.facts ≡ true
+  pub stands : (a : ℕ) → a < named → place a ≡ i.individual a
+  pub known : (x : ℕ) → knows k x ≡ true → (a : ℕ) → a < named → knows k a ≡ true
 
 -- a model in which more facts are true
-pub more_facts : (i : Interpretation) (k : Known) (m : Model i k) (fs : List (Fact Concept)) → list_all (is_true i m.place) fs ≡ true → list_all (is_on k.nodes) fs ≡ true → Model i (with_facts k fs)
-more_facts i k m fs h g = record {
+pub more_facts : (i : Interpretation) (named : ℕ) (k : Known) (m : Model i named k) (fs : List (Fact Concept)) → list_all (is_true i m.place) fs ≡ true → list_all (is_on k.nodes) fs ≡ true → Model i named (with_facts k fs)
+more_facts i named k m fs h g = record {
   place = m.place;
   within = m.within;
   are_true = all_of_both (is_true i m.place) k.facts fs m.are_true h;
   are_on = all_of_both (is_on k.nodes) k.facts fs m.are_on g;
+  stands = m.stands;
+  known = m.known;
 }
 
 -- facts are as true under places that agree on their nodes
-agree : (i : Interpretation) (nodes : List ℕ) (old new : ℕ → ℕ) → ((x : ℕ) → list_any (λ y. eqb y x) nodes ≡ true → new x ≡ old x)
-    → (f : Fact Concept) → is_true i old f ≡ true → is_on nodes f ≡ true → is_true i new f ≡ true
-agree i nodes old new same (Has x c) h on = ap (holds i c) (same x on) ∙ h
-agree i nodes old new same (Edge r x y) h on =
-    let b = and_parts (list_any (λ z. eqb z x) nodes) (list_any (λ z. eqb z y) nodes) on in
+pub agree : (i : Interpretation) (p : ℕ → Bool) (old new : ℕ → ℕ) → ((x : ℕ) → p x ≡ true → new x ≡ old x)
+    → (f : Fact Concept) → is_true i old f ≡ true → nodes_pass p f ≡ true → is_true i new f ≡ true
+agree i p old new same (Has x c) h on = ap (holds i c) (same x on) ∙ h
+agree i p old new same (Edge r x y) h on =
+    let b = and_parts (p x) (p y) on in
     let d = same x b.0 in let e = same y b.1 in (λ j. i.in_role r (d j) (e j)) ∙ h
-agree i nodes old new same (Apart x y) h on =
-    let b = and_parts (list_any (λ z. eqb z x) nodes) (list_any (λ z. eqb z y) nodes) on in
+agree i p old new same (Apart x y) h on =
+    let b = and_parts (p x) (p y) on in
     let d = same x b.0 in let e = same y b.1 in (λ j. not (eqb (d j) (e j))) ∙ h
-agree i nodes old new same (Same x y) h on =
-    let b = and_parts (list_any (λ z. eqb z x) nodes) (list_any (λ z. eqb z y) nodes) on in
+agree i p old new same (Same x y) h on =
+    let b = and_parts (p x) (p y) on in
     let d = same x b.0 in let e = same y b.1 in (λ j. eqb (d j) (e j)) ∙ h
 
 pub all_agree : (i : Interpretation) (nodes : List ℕ) (old new : ℕ → ℕ) → ((x : ℕ) → list_any (λ y. eqb y x) nodes ≡ true → new x ≡ old x)
     → (fs : List (Fact Concept)) → list_all (is_true i old) fs ≡ true → list_all (is_on nodes) fs ≡ true → list_all (is_true i new) fs ≡ true
-all_agree i nodes old new same fs h on = all_with (is_true i old) (is_on nodes) (is_true i new) (agree i nodes old new same) fs h on
+all_agree i nodes old new same fs h on = all_with (is_true i old) (is_on nodes) (is_true i new) (agree i (λ x. list_any (λ y. eqb y x) nodes) old new same) fs h on

@@ -107,7 +107,7 @@ module _ (i : Interpretation) where
 
   module _ (axioms : List Numbered) where
     -- what the interpretation meets of the first of some numbers, and of the others
-    met_parts : (k : ℕ) (ks : List ℕ) → meets_all i (named_axioms axioms (k ∷ ks)) ≡ true
+    pub met_parts : (k : ℕ) (ks : List ℕ) → meets_all i (named_axioms axioms (k ∷ ks)) ≡ true
         → (list_all (meets i) (axioms_in (slice_get axioms (k - 1))) ≡ true) × (meets_all i (named_axioms axioms ks) ≡ true)
     met_parts k ks m =
         and_parts (list_all (meets i) (axioms_in (slice_get axioms (k - 1)))) (meets_all i (named_axioms axioms ks))

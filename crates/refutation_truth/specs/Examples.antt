@@ -10,7 +10,7 @@ use Rattle.calculus_specs.specs.Rows.{Theory, part_at, inclusion, range}
 use Rattle.role_box.specs.Paths.{is_below}
 use Rattle.calculus_specs.specs.Line.{Line, node, no_trees, tree}
 use Rattle.calculus_specs.specs.Line.Line.{start_line, row_line, clash_line}
-use Rattle.calculus_specs.specs.Rules.{nothing_known}
+use Rattle.calculus_specs.specs.Rules.{on_any, nothing_known}
 use Rattle.calculus_specs.specs.Valid.{concept_at, open_after_all, IsRefutation}
 use Rattle.refutation_truth.specs.Theory.{named_axioms, theory_of}
 
@@ -88,9 +88,9 @@ by_first = start_line ∷ row_line 0 1 1 (1 ∷ []) ∷ clash_line 0 1 ∷ []
 abbrev shapes : List Shape
 shapes = name_shape 11 ∷ []
 
-pub refutes_by_first : IsRefutation (theory_of five (1 ∷ [])) a b shapes by_first
+pub refutes_by_first : IsRefutation (on_any (theory_of five (1 ∷ [])) a b) shapes by_first
 refutes_by_first = record { tree = node start_line (tree (node (row_line 0 1 1 (1 ∷ [])) (tree (node (clash_line 0 1) no_trees) no_trees)) no_trees); in_preorder = refl; is_shut = ((tt, tt), tt) }
 
 -- and none where the first axiom is not named
-pub unnamed_refutes_nothing : open_after_all (theory_of five (2 ∷ 3 ∷ [])) a b (concept_at shapes) (nothing_known ∷ []) by_first ≡ None
+pub unnamed_refutes_nothing : open_after_all (on_any (theory_of five (2 ∷ 3 ∷ [])) a b) (concept_at shapes) (nothing_known ∷ []) by_first ≡ None
 unnamed_refutes_nothing = refl

@@ -1,9 +1,17 @@
 -- What the axioms of some numbers give to refutations. Numbers count from 1, and none is 0.
-use Rattle.std.specs.Prelude.{ℕ, ◌+◌, ◌-◌, ◌&&◌, nat_le, List, [], ◌∷◌, ◌++◌, map, length, Option, Some, None, slice_get, if◌then◌else◌}
+use Rattle.std.specs.Prelude.{ℕ, ◌+◌, ◌-◌, ◌&&◌, nat_lt, nat_le, Bool, List, [], ◌∷◌, ◌++◌, map, length, Option, Some, None, slice_get, if◌then◌else◌}
+use Rattle.shq_nnf.specs.Concept.{Concept}
 use Rattle.shq_nnf.specs.Axiom.{Axiom}
 use Rattle.shq_nnf.specs.Numbered.{Numbered}
+use Rattle.role_box.specs.On.{On}
+use Rattle.role_box.specs.On.TheVariants.{Any, Individual}
+use Rattle.role_box.specs.Query.{Query}
 use Rattle.calculus_specs.specs.Rows.{Part, NumberedPart, Theory, is_among}
+use Rattle.calculus_specs.specs.declared.facts.Fact.{Fact}
+use Rattle.calculus_specs.specs.declared.facts.Fact.TheVariants.{Has, Edge, Apart, Same}
+use Rattle.calculus_specs.specs.Rules.{Question}
 use Rattle.shq_nnf.specs.Parts.{axiom_parts, part_in}
+use Rattle.shq_nnf.specs.Facts.{fact_at}
 use Rattle.role_box.specs.RoleAxioms.{role_axioms}
 use Rattle.role_box.specs.Steps.{is_transitive}
 use Rattle.role_box.specs.Paths.{is_below}
@@ -52,3 +60,44 @@ theory_of axioms ks = record {
 -- the part of an axiom that has a number, where the axiom is among those of the numbers and has such a part
 abbrev pub part_of_axiom : List Numbered → List ℕ → ℕ → ℕ → Option Part
 part_of_axiom axioms ks a p = if is_among ks a && nat_le 1 p && nat_le p (length (parts_at axioms a)) then Some (part_in (parts_at axioms a) (p - 1)) else None
+
+-- ---- the facts of the axioms of these numbers, and what a query asks
+
+-- whether each of the fact's nodes passes a test
+abbrev pub nodes_pass : (ℕ → Bool) → Fact Concept → Bool
+nodes_pass p (Has x c) = p x
+nodes_pass p (Edge r x y) = p x && p y
+nodes_pass p (Apart x y) = p x && p y
+nodes_pass p (Same x y) = p x && p y
+
+-- the fact, where its nodes are those of the first k individuals
+abbrev pub listed_fact : ℕ → Option (Fact Concept) → Option (Fact Concept)
+listed_fact k None = None
+listed_fact k (Some f) = if nodes_pass (λ x. nat_lt x k) f then Some f else None
+
+-- the fact of an axiom that has a place, from 1
+abbrev pub fact_in : Option Numbered → ℕ → Option (Fact Concept)
+fact_in None place = None
+fact_in (Some n) place = fact_at n.axiom place
+
+-- The fact of the axiom of a number that has a place, where the axiom is among those of the numbers and names the first
+-- k individuals alone. Any other node may be that of a new element, of which the axiom says nothing.
+abbrev pub fact_of_axiom : ℕ → List Numbered → List ℕ → ℕ → ℕ → Option (Fact Concept)
+fact_of_axiom k axioms ks a place = if is_among ks a then listed_fact k (fact_in (slice_get axioms (a - 1)) place) else None
+
+-- The node in question, where k individuals are listed: that of the individual that is asked of, or where each element
+-- is, the node after those of all individuals. An individual that is not listed has none: no first node is k + 1.
+abbrev pub node_in_question : ℕ → On → ℕ
+node_in_question k Any = k
+node_in_question k (Individual a) = if nat_lt a k then a else k + 1
+
+-- what refutes a query over the axioms of these numbers, where k individuals are listed
+abbrev pub question_of : ℕ → List Numbered → List ℕ → Query → Question
+question_of k axioms ks q = record {
+  theory = theory_of axioms ks;
+  sub = q.sub;
+  sup = q.sup;
+  first = k + 1;
+  at = node_in_question k q.on;
+  fact_of = fact_of_axiom k axioms ks;
+}
