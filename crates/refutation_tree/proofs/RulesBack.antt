@@ -9,7 +9,7 @@ use Rattle.certificate_lines.specs.Body.{is_end_line}
 use Rattle.certificate_lines.specs.Written.{is_line}
 use Rattle.shq_terms.specs.Listed.{Listed}
 use Rattle.calculus_specs.specs.Line.{Line}
-use Rattle.calculus_specs.specs.Line.Line.{start_line, and_line, or_line, all_line, carry_line, row_line, range_line, some_line, least_line, choose_line, pair_line, bottom_line, clash_line, most_line}
+use Rattle.calculus_specs.specs.Line.Line.{start_line, and_line, or_line, all_line, carry_line, row_line, range_line, some_line, least_line, choose_line, pair_line, bottom_line, clash_line, most_line, fact_line, differ_line}
 use Rattle.certificate_lines.specs.Names.{is_word_byte, AreNames}
 use Rattle.certificate_lines.proofs.Plain.{plain_words, plain_line}
 use Rattle.refutation_tree.specs.RuleLine.{names_concepts}
@@ -40,6 +40,8 @@ kind_of (pair_line y z) = L.Pair
 kind_of (bottom_line x) = L.Bottom
 kind_of (clash_line x c) = L.Clash
 kind_of (most_line x c ys) = L.Most
+kind_of (fact_line a p) = L.Fact
+kind_of (differ_line y z) = L.Differ
 
 -- what its keyword says
 record IsKeywordOf (line : Line) : Type 0 where
@@ -64,6 +66,8 @@ keyword_is (pair_line y z) = record { kind = refl; plain = refl; no_concept = re
 keyword_is (bottom_line x) = record { kind = refl; plain = refl; no_concept = refl; no_end = λ more. refl }
 keyword_is (clash_line x c) = record { kind = refl; plain = refl; no_concept = refl; no_end = λ more. refl }
 keyword_is (most_line x c ys) = record { kind = refl; plain = refl; no_concept = refl; no_end = λ more. refl }
+keyword_is (fact_line a p) = record { kind = refl; plain = refl; no_concept = refl; no_end = λ more. refl }
+keyword_is (differ_line y z) = record { kind = refl; plain = refl; no_concept = refl; no_end = λ more. refl }
 
 most_back : (x c : ℕ) (ys : List ℕ) → has_nodes (most_line x c ys) ≡ true → numbered_line L.Most (x ∷ c ∷ ys) ≡ Some (most_line x c ys)
 most_back x c [] h = cc
@@ -95,6 +99,8 @@ module _ (o : Listed) (classes : AreNames o.classes) (roles : AreNames o.roles) 
   fields_back (bottom_line x) listed nodes small = ap (option_and_then (numbered_line L.Bottom)) (numbers_back (x ∷ []) small)
   fields_back (clash_line x c) listed nodes small = ap (option_and_then (numbered_line L.Clash)) (numbers_back (x ∷ c ∷ []) small)
   fields_back (most_line x c ys) listed nodes small = ap (option_and_then (numbered_line L.Most)) (numbers_back (x ∷ c ∷ ys) small) ∙ most_back x c ys nodes
+  fields_back (fact_line a p) listed nodes small = ap (option_and_then (numbered_line L.Fact)) (numbers_back (a ∷ p ∷ []) small)
+  fields_back (differ_line y z) listed nodes small = ap (option_and_then (numbered_line L.Differ)) (numbers_back (y ∷ z ∷ []) small)
 
   carry_plain : (x y r c : ℕ) → nat_lt r (length o.roles) ≡ true → are_small (x ∷ y ∷ c ∷ []) ≡ true → list_all (list_all is_word_byte) (decimal x ∷ decimal y ∷ listed_word o.roles r ∷ decimal c ∷ []) ≡ true
   carry_plain x y r c listed small =
@@ -118,6 +124,8 @@ module _ (o : Listed) (classes : AreNames o.classes) (roles : AreNames o.roles) 
   fields_plain (bottom_line x) listed small = numbers_plain (x ∷ []) small
   fields_plain (clash_line x c) listed small = numbers_plain (x ∷ c ∷ []) small
   fields_plain (most_line x c ys) listed small = numbers_plain (x ∷ c ∷ ys) small
+  fields_plain (fact_line a p) listed small = numbers_plain (a ∷ p ∷ []) small
+  fields_plain (differ_line y z) listed small = numbers_plain (y ∷ z ∷ []) small
 
   module _ (line : Line) (listed : line_is_listed o line ≡ true) (nodes : has_nodes line ≡ true) (small : is_small line ≡ true) where
     all_plain : list_all (list_all is_word_byte) (line_keyword line ∷ line_fields o line) ≡ true

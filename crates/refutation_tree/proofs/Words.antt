@@ -28,7 +28,7 @@ module _ (w : List ℕ) (no_text : ¬ IsUtf8 w) where
 
   pub no_line_kind : line_kind w ≡ None
   unfolding line_kind
-  no_line_kind = rw (other (codes "start") refl, other (codes "and") refl, other (codes "or") refl, other (codes "all") refl, other (codes "carry") refl, other (codes "row") refl, other (codes "range") refl, other (codes "some") refl, other (codes "least") refl, other (codes "choose") refl, other (codes "pair") refl, other (codes "bottom") refl, other (codes "clash") refl, other (codes "most") refl) refl
+  no_line_kind = rw (other (codes "start") refl, other (codes "and") refl, other (codes "or") refl, other (codes "all") refl, other (codes "carry") refl, other (codes "row") refl, other (codes "range") refl, other (codes "some") refl, other (codes "least") refl, other (codes "choose") refl, other (codes "pair") refl, other (codes "bottom") refl, other (codes "clash") refl, other (codes "most") refl, other (codes "fact") refl, other (codes "differ") refl) refl
 
 pub short_carry : (o : Listed) (ws : List (List ℕ)) → length ws < 2 → carry_in o ws ≡ None
 short_carry o [] short = refl

@@ -19,7 +19,7 @@ use Rattle.calculus_specs.specs.Rows.{is_ascending}
 use Rattle.calculus_specs.specs.Shape.{Shape}
 use Rattle.calculus_specs.specs.Shape.Shape.{top, bottom, name, not_name, intersection, union, some_of, all_of, at_least, at_most}
 use Rattle.calculus_specs.specs.Line.{Line}
-use Rattle.calculus_specs.specs.Line.Line.{start_line, and_line, or_line, all_line, carry_line, row_line, range_line, some_line, least_line, choose_line, pair_line, bottom_line, clash_line, most_line}
+use Rattle.calculus_specs.specs.Line.Line.{start_line, and_line, or_line, all_line, carry_line, row_line, range_line, some_line, least_line, choose_line, pair_line, bottom_line, clash_line, most_line, fact_line, differ_line}
 use Rattle.refutation_tree.specs.Shapes.{admits}
 use Rattle.refutation_tree.specs.RuleLine.{names_concepts}
 use Rattle.refutation_tree.specs.RefutationLists.{RefutationLists}
@@ -184,6 +184,8 @@ module _ (o : Listed) where
     short_good L.Bottom h = let x = map_some bottom_line (one_of ns) line h in subst IsGood x.2 (record { listed = refl; nodes = refl; small = ap are_small (sym (one_is ns x.0 x.1)) ∙ all_small })
     short_good L.Clash h = by_two (λ t. clash_line t.0 t.1) (λ t s. record { listed = refl; nodes = refl; small = s }) h
     short_good L.Most h = cc
+    short_good L.Fact h = by_two (λ t. fact_line t.0 t.1) (λ t s. record { listed = refl; nodes = refl; small = s }) h
+    short_good L.Differ h = by_two (λ t. differ_line t.0 t.1) (λ t s. record { listed = refl; nodes = refl; small = s }) h
 
   row_good : (ns : List ℕ) (line : Line) → are_small ns ≡ true → row_in ns ≡ Some line → IsGood line
   row_good [] line s h = cc
@@ -212,6 +214,8 @@ module _ (o : Listed) where
   numbered_good L.Pair ns line s h = short_good ns line s L.Pair h
   numbered_good L.Bottom ns line s h = short_good ns line s L.Bottom h
   numbered_good L.Clash ns line s h = short_good ns line s L.Clash h
+  numbered_good L.Fact ns line s h = short_good ns line s L.Fact h
+  numbered_good L.Differ ns line s h = short_good ns line s L.Differ h
 
   carry_good : (ws : List (List ℕ)) (line : Line) → carry_in o ws ≡ Some line → IsGood line
   carry_good [] line h = cc
@@ -246,6 +250,8 @@ module _ (o : Listed) where
   rule_good L.Bottom ws line h = by_numbers L.Bottom ws line h
   rule_good L.Clash ws line h = by_numbers L.Clash ws line h
   rule_good L.Most ws line h = by_numbers L.Most ws line h
+  rule_good L.Fact ws line h = by_numbers L.Fact ws line h
+  rule_good L.Differ ws line h = by_numbers L.Differ ws line h
 
   line_good : (ws : List (List ℕ)) (line : Line) → rule_line o ws ≡ Some line → IsGood line
   line_good [] line h = cc

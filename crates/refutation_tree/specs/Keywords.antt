@@ -36,4 +36,6 @@ line_kind w =
     else if bytes_eq w (codes "bottom") then Some L.Bottom
     else if bytes_eq w (codes "clash") then Some L.Clash
     else if bytes_eq w (codes "most") then Some L.Most
+    else if bytes_eq w (codes "fact") then Some L.Fact
+    else if bytes_eq w (codes "differ") then Some L.Differ
     else None

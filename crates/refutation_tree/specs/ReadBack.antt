@@ -1,20 +1,35 @@
 -- The text of a refutation is read back.
-use Rattle.std.specs.Prelude.{◌≡◌, ℕ, ◌^◌, ◌<◌, Bool, true, false, nat_lt, IsTrue, List, [], length, Some}
+use Rattle.std.specs.Prelude.{◌≡◌, ℕ, ◌^◌, ◌<◌, Bool, true, false, nat_lt, IsTrue, List, [], ◌∷◌, length, Some}
 use Rattle.std.specs.List.{list_all}
 use Rattle.axiom_sets.specs.Sets.{IsWithin}
 use Rattle.certificate_lines.specs.Lines.{lines}
 use Rattle.certificate_lines.specs.Names.{AreNames}
 use Rattle.shq_terms.specs.Listed.{Listed}
 use Rattle.calculus_specs.specs.Line.{Line}
-use Rattle.calculus_specs.specs.Line.Line.{most_line}
+use Rattle.calculus_specs.specs.Line.Line.{start_line, and_line, or_line, all_line, carry_line, row_line, range_line, some_line, least_line, choose_line, pair_line, bottom_line, clash_line, most_line, fact_line, differ_line}
 use Rattle.refutation_tree.specs.RefutationLists.{RefutationLists, IsKept}
 use Rattle.refutation_tree.specs.RefutationText.{refutation_of}
 use Rattle.refutation_tree.specs.Written.{line_numbers, names_are_listed, refutation_text}
 
 -- a line `most` names a node
 abbrev pub has_nodes : Line → Bool
+has_nodes start_line = true
+has_nodes (and_line x c) = true
+has_nodes (or_line x c) = true
+has_nodes (all_line x y c) = true
+has_nodes (carry_line x y r c) = true
+has_nodes (row_line x a p is) = true
+has_nodes (range_line x y a) = true
+has_nodes (some_line x y c) = true
+has_nodes (least_line x y c) = true
+has_nodes (choose_line y c) = true
+has_nodes (pair_line y z) = true
+has_nodes (bottom_line x) = true
+has_nodes (clash_line x c) = true
 has_nodes (most_line x c []) = false
-has_nodes _ = true
+has_nodes (most_line x c (y ∷ ys)) = true
+has_nodes (fact_line a p) = true
+has_nodes (differ_line y z) = true
 
 -- the numbers of a line fit 32 bits
 abbrev pub is_small : Line → Bool

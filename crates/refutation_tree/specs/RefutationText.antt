@@ -13,7 +13,7 @@ use Rattle.calculus_specs.specs.Rows.{is_ascending}
 use Rattle.calculus_specs.specs.Shape.{Shape}
 use Rattle.calculus_specs.specs.Shape.Shape.{top, bottom, name, not_name, intersection, union, some_of, all_of, at_least, at_most}
 use Rattle.calculus_specs.specs.Line.{Line}
-use Rattle.calculus_specs.specs.Line.Line.{start_line, and_line, or_line, all_line, carry_line, row_line, range_line, some_line, least_line, choose_line, pair_line, bottom_line, clash_line, most_line}
+use Rattle.calculus_specs.specs.Line.Line.{start_line, and_line, or_line, all_line, carry_line, row_line, range_line, some_line, least_line, choose_line, pair_line, bottom_line, clash_line, most_line, fact_line, differ_line}
 use Rattle.refutation_tree.specs.Shapes.{admits}
 use Rattle.refutation_tree.specs.RuleLine.{names_concepts}
 use Rattle.refutation_tree.specs.RefutationLists.{RefutationLists}
@@ -141,6 +141,8 @@ short_line L.Pair ns = option_map (λ t. pair_line t.0 t.1) (two_of ns)
 short_line L.Bottom ns = option_map bottom_line (one_of ns)
 short_line L.Clash ns = option_map (λ t. clash_line t.0 t.1) (two_of ns)
 short_line L.Most ns = None
+short_line L.Fact ns = option_map (λ t. fact_line t.0 t.1) (two_of ns)
+short_line L.Differ ns = option_map (λ t. differ_line t.0 t.1) (two_of ns)
 
 -- `X A P I ..`
 abbrev pub row_in : List ℕ → Option Line

@@ -3,7 +3,7 @@ use Rattle.std.specs.Prelude.{◌≡◌, ℕ, Bool, List, [], ◌∷◌, Option,
 use Rattle.std.specs.List.{list_all}
 use Rattle.calculus_specs.specs.Shape.{Shape}
 use Rattle.calculus_specs.specs.Line.{Line}
-use Rattle.calculus_specs.specs.Line.Line.{start_line, and_line, or_line, all_line, carry_line, row_line, range_line, some_line, least_line, choose_line, pair_line, bottom_line, clash_line, most_line}
+use Rattle.calculus_specs.specs.Line.Line.{start_line, and_line, or_line, all_line, carry_line, row_line, range_line, some_line, least_line, choose_line, pair_line, bottom_line, clash_line, most_line, fact_line, differ_line}
 use Rattle.refutation_tree.specs.Shapes.{is_concept}
 use Rattle.refutation_tree.specs.declared.line.Line.{Line as Kept}
 use Rattle.refutation_tree.specs.declared.line.Line.TheVariants as L
@@ -23,6 +23,8 @@ line_of (L.Pair y z) = pair_line y z
 line_of (L.Bottom x) = bottom_line x
 line_of (L.Clash x c) = clash_line x c
 line_of (L.Most x c ys) = most_line x c ys
+line_of (L.Fact a p) = fact_line a p
+line_of (L.Differ y z) = differ_line y z
 
 -- the number of a concept that a line names
 abbrev pub concept_numbers : Line → List ℕ
@@ -40,6 +42,8 @@ concept_numbers (pair_line y z) = []
 concept_numbers (bottom_line x) = []
 concept_numbers (clash_line x c) = c ∷ []
 concept_numbers (most_line x c ys) = c ∷ []
+concept_numbers (fact_line a p) = []
+concept_numbers (differ_line y z) = []
 
 -- the number of the concept that a line names, where it names one
 abbrev pub NamesConcept : Line → Option ℕ → Type 0

@@ -8,7 +8,7 @@ use Rattle.shq_terms.specs.Listed.{Listed}
 use Rattle.calculus_specs.specs.Shape.{Shape}
 use Rattle.calculus_specs.specs.Shape.Shape.{top, bottom, name, not_name, intersection, union, some_of, all_of, at_least, at_most}
 use Rattle.calculus_specs.specs.Line.{Line}
-use Rattle.calculus_specs.specs.Line.Line.{start_line, and_line, or_line, all_line, carry_line, row_line, range_line, some_line, least_line, choose_line, pair_line, bottom_line, clash_line, most_line}
+use Rattle.calculus_specs.specs.Line.Line.{start_line, and_line, or_line, all_line, carry_line, row_line, range_line, some_line, least_line, choose_line, pair_line, bottom_line, clash_line, most_line, fact_line, differ_line}
 use Rattle.refutation_tree.specs.RefutationLists.{RefutationLists}
 
 -- the name of a number between brackets
@@ -92,6 +92,8 @@ line_keyword (pair_line y z) = codes "pair"
 line_keyword (bottom_line x) = codes "bottom"
 line_keyword (clash_line x c) = codes "clash"
 line_keyword (most_line x c ys) = codes "most"
+line_keyword (fact_line a p) = codes "fact"
+line_keyword (differ_line y z) = codes "differ"
 
 -- the numbers after the keyword
 abbrev pub line_numbers : Line → List ℕ
@@ -109,6 +111,8 @@ line_numbers (pair_line y z) = y ∷ z ∷ []
 line_numbers (bottom_line x) = x ∷ []
 line_numbers (clash_line x c) = x ∷ c ∷ []
 line_numbers (most_line x c ys) = x ∷ c ∷ ys
+line_numbers (fact_line a p) = a ∷ p ∷ []
+line_numbers (differ_line y z) = y ∷ z ∷ []
 
 -- the words after the keyword: numbers alone, but for the role of `carry X Y ROLE C`
 abbrev pub line_fields : Listed → Line → List (List ℕ)
@@ -145,8 +149,22 @@ shape_is_listed o (at_most n r c) = nat_lt r (length o.roles)
 shape_is_listed o _ = true
 
 abbrev pub line_is_listed : Listed → Line → Bool
+line_is_listed o start_line = true
+line_is_listed o (and_line x c) = true
+line_is_listed o (or_line x c) = true
+line_is_listed o (all_line x y c) = true
 line_is_listed o (carry_line x y r c) = nat_lt r (length o.roles)
-line_is_listed o _ = true
+line_is_listed o (row_line x a p is) = true
+line_is_listed o (range_line x y a) = true
+line_is_listed o (some_line x y c) = true
+line_is_listed o (least_line x y c) = true
+line_is_listed o (choose_line y c) = true
+line_is_listed o (pair_line y z) = true
+line_is_listed o (bottom_line x) = true
+line_is_listed o (clash_line x c) = true
+line_is_listed o (most_line x c ys) = true
+line_is_listed o (fact_line a p) = true
+line_is_listed o (differ_line y z) = true
 
 -- the classes and roles that the refutation names are listed
 abbrev pub names_are_listed : Listed → RefutationLists → Bool

@@ -36,6 +36,8 @@ pub(crate) enum LineKind {
     Bottom,
     Clash,
     Most,
+    Fact,
+    Differ,
 }
 
 /// The kind of shape that a word names.
@@ -96,6 +98,8 @@ fn line_kind_of(text: &str) -> Option<LineKind>
         "bottom" => Some(LineKind::Bottom),
         "clash" => Some(LineKind::Clash),
         "most" => Some(LineKind::Most),
+        "fact" => Some(LineKind::Fact),
+        "differ" => Some(LineKind::Differ),
         _ => None,
     }
 }

@@ -8,7 +8,7 @@ use shq_terms::NumberList;
 /// In the fields `X`, `Y` and `Z` are nodes, and `C` is the number of a concept among the refutation's shapes.
 #[derive(Drop)]
 pub enum Line {
-    /// Node 0 is in the query's subclass and in the complement of its superclass.
+    /// The first nodes, of which the one in question is in the query's subclass and in the complement of its superclass.
     Start,
     /// `X C`: the parts of an intersection.
     And(u32, u32),
@@ -36,6 +36,10 @@ pub enum Line {
     Clash(u32, u32),
     /// `X C Y ..`: more successors than an "at most" restriction allows.
     Most(u32, u32, NumberList),
+    /// `A P`: the fact numbered `P` of the assertion numbered `A`.
+    Fact(u32, u32),
+    /// `Y Z`: two nodes that are different and the same.
+    Differ(u32, u32),
 }
 
 impl Line {
@@ -49,8 +53,8 @@ impl Line {
             Line::SomeOf(_, _, concept) | Line::Least(_, _, concept) => Some(*concept),
             Line::Choose(_, concept) | Line::Clash(_, concept) => Some(*concept),
             Line::Most(_, concept, _) => Some(*concept),
-            Line::Row(..) | Line::Range(..) => None,
-            Line::Start | Line::Pair(..) | Line::Bottom(..) => None,
+            Line::Row(..) | Line::Range(..) | Line::Fact(..) => None,
+            Line::Start | Line::Pair(..) | Line::Bottom(..) | Line::Differ(..) => None,
         }
     }
 }

@@ -139,6 +139,8 @@ fn short_line(kind: LineKind, numbers: &[u32]) -> Option<Line>
         LineKind::Pair => two_of(numbers).map(|t| Line::Pair(t.0, t.1)),
         LineKind::Bottom => one_of(numbers).map(|x| Line::Bottom(x)),
         LineKind::Clash => two_of(numbers).map(|t| Line::Clash(t.0, t.1)),
+        LineKind::Fact => two_of(numbers).map(|t| Line::Fact(t.0, t.1)),
+        LineKind::Differ => two_of(numbers).map(|t| Line::Differ(t.0, t.1)),
         LineKind::Carry | LineKind::Row | LineKind::Most => None,
     }
 }

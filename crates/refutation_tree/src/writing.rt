@@ -258,6 +258,8 @@ fn push_rule(
             push_fields(alloc, text, b"most", &[*x, *c])?;
             push_numbers(alloc, text, nodes.items())
         }
+        Line::Fact(axiom, place) => push_fields(alloc, text, b"fact", &[*axiom, *place]),
+        Line::Differ(y, z) => push_fields(alloc, text, b"differ", &[*y, *z]),
     }
 }
 

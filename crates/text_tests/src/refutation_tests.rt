@@ -19,7 +19,7 @@ const SUCCESSORS: &[u8] =
 
 // One line of each other kind.
 const OTHERS: &[u8] =
-    b"refutation\naxioms\nconcept 1 not <A>\nconcept 2 name <A>\nconcept 3 and 2 1\nconcept 4 or 1 3\nconcept 5 all <R> 4\nconcept 6 least 101 <R> 3\nconcept 7 bottom\nand 0 3\nor 4294967295 4\nall 0 1 5\ncarry 0 1 <R> 5\nrow 2 1 1\nrange 0 1 4\nleast 0 1 6\nchoose 0 1\nbottom 0\nend\n";
+    b"refutation\naxioms\nconcept 1 not <A>\nconcept 2 name <A>\nconcept 3 and 2 1\nconcept 4 or 1 3\nconcept 5 all <R> 4\nconcept 6 least 101 <R> 3\nconcept 7 bottom\nand 0 3\nor 4294967295 4\nall 0 1 5\ncarry 0 1 <R> 5\nrow 2 1 1\nrange 0 1 4\nleast 0 1 6\nchoose 0 1\nbottom 0\nfact 3 4294967295\ndiffer 0 0\nend\n";
 
 /// The line of the axioms, and the one before it.
 const HEAD: &[u8] = b"refutation\naxioms 2\n";
@@ -61,6 +61,16 @@ const TEXTS: &[(&[u8], &[u8], u32)] = &[
     (HEAD, b"pair 0  1", 4),
     (HEAD, b"pair 0 1 2", 4),
     (HEAD, b"bottom 4294967296", 4),
+    (HEAD, b"fact 1", 4),
+    (HEAD, b"fact 1 1 1", 4),
+    (HEAD, b"fact 1 A", 4),
+    (HEAD, b"fact 4294967296 1", 4),
+    (HEAD, b"facts 1 1", 4),
+    (HEAD, b"differ 0", 4),
+    (HEAD, b"differ 0 1 2", 4),
+    (HEAD, b"differ 0 01", 4),
+    (HEAD, b"differ  0 1", 4),
+    (HEAD, b"start\nfact 1 1\ndiffer 0 -1", 6),
     (HEAD, b"row 0 1", 4),
     (HEAD, b"range 0 1", 4),
     (HEAD, b"carry 0 1 R 1", 4),
