@@ -1,13 +1,15 @@
 -- The rows that are cached with a table of concepts.
-use Rattle.std.specs.Prelude.{◌≡◌, ℕ, ◌&&◌, nat_eq, List, [], length, Option, Some, None, if◌then◌else◌}
+use Rattle.std.specs.Prelude.{◌≡◌, ℕ, ◌-◌, ◌&&◌, nat_eq, true, false, IsTrue, List, [], length, Option, Some, None, slice_get, if◌then◌else◌}
 use Rattle.std.specs.Cmp.Lexicographic.{pointwise}
 use Rattle.std.specs.Map.{lookup}
+use denote.Ref.{Bor}
 use Rattle.indexmap.specs.IndexMap.{IndexMap, Updates}
 use Rattle.shq_terms.specs.declared.axioms.Numbered.{Numbered}
 use Rattle.calculus_specs.specs.Shape.{Shape}
-use Rattle.calculus_specs.specs.Rows.{Part, part_at}
+use Rattle.calculus_specs.specs.Rows.{Part, part_at, is_among}
 use Rattle.axiom_sets.specs.Sets.{Limited, IsWithin, member_list}
 use Rattle.refutation_truth.specs.Theory.{theory_of}
+use Rattle.shq_nnf.specs.Parts.{axiom_has_counts_within}
 use Rattle.row_cache.specs.Rows.{AreInLimit, row_for, IsRow, range_for, IsRange}
 use Rattle.row_cache.specs.declared.cached_row.CachedRow.{CachedRow}
 use Rattle.row_cache.specs.declared.cached_row.CachedRange.{CachedRange}
@@ -29,6 +31,11 @@ empty_cache axioms named table = record { axioms = axioms; named = named; table 
 -- the part of a named axiom
 abbrev pub named_part : CacheState → ℕ → ℕ → Option Part
 named_part c a p = part_at (theory_of c.axioms c.named) a p
+
+-- the axiom of a number, whose cardinalities are within the limit; none where it is not named
+abbrev pub IsNamedAxiom : List Numbered → List ℕ → ℕ → Option (Bor Numbered) → Type 0
+IsNamedAxiom axioms ks a None = is_among ks a ≡ false
+IsNamedAxiom axioms ks a (Some n) = (is_among ks a ≡ true) × (slice_get axioms (a - 1) ≡ Some n.now) × IsTrue (axiom_has_counts_within 100 n.now.axiom)
 
 -- the axioms and those that are named stay
 pub record HasSameAxioms (earlier later : CacheState) : Type 0 where

@@ -131,7 +131,7 @@ fn named_part(
     Ok(Some(part))
 }
 
-fn is_named(named: &AxiomSet, axiom: u32) -> bool
+pub(crate) fn is_named(named: &AxiomSet, axiom: u32) -> bool
     ensures named { result ≡ is_among (member_list named.now) «axiom» }
     ensures member { IsTrue result → set.contains named.now.members «axiom» ≡ true }
 {

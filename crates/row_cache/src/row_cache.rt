@@ -1,21 +1,22 @@
 // A table of concepts with the rows that were made of its numbers.
 ghost use Rattle.std.specs.Prelude.{◌≡◌, ◌<◌, IsTrue, IfOk, OnOk, Some, length};
-ghost use Rattle.calculus_specs.specs.Normal.{negated_form};
+ghost use Rattle.calculus_specs.specs.Normal.{normal_form, negated_form};
 ghost use Rattle.calculus_specs.specs.Shape.{IsTable, has_parts_below, is_normal};
 ghost use Rattle.calculus_specs.specs.Tree.{tree_of};
+ghost use Rattle.shq_nnf.specs.Counts.{has_counts_within};
 ghost use Rattle.shq_nnf.specs.Shapes.{form_of, concept_of};
 ghost use Rattle.shq_nnf.specs.Numbers.{Extends, IsNumber};
 ghost use Rattle.axiom_sets.specs.Sets.{IsWithin, member_list};
 ghost use Rattle.row_cache.specs.Rows.{AreInLimit};
-ghost use Rattle.row_cache.specs.Cache.{empty_cache, IsRowOf, IsRangeOf, HasSameAxioms, KeepsEntries, cached_row, cached_range, IsCached, IsRangeCached, IsMadeOnce, IsRangeMadeOnce};
+ghost use Rattle.row_cache.specs.Cache.{empty_cache, IsNamedAxiom, IsRowOf, IsRangeOf, HasSameAxioms, KeepsEntries, cached_row, cached_range, IsCached, IsRangeCached, IsMadeOnce, IsRangeMadeOnce};
 
 use crate::NoMemory;
 use crate::cache_entry::{CacheEntry, find_range, find_row, store_range, store_row};
-use crate::cached_row::{CachedRange, CachedRow, inclusion_row, range_row};
+use crate::cached_row::{CachedRange, CachedRow, inclusion_row, is_named, range_row};
 use axiom_sets::AxiomSet;
 use indexmap::IndexMap;
 use shq_nnf::{Concepts, Shape};
-use shq_terms::Ontology;
+use shq_terms::{Concept, Numbered, Ontology};
 use std::alloc::Global;
 use std::marker::Model;
 
@@ -75,6 +76,32 @@ impl<'a> RowCache<'a> {
         ensures { result.now ≡ self.now.table }
     {
         &self.concepts
+    }
+
+    /// The axiom of a number, from 1, whose cardinalities are at most 100. `None` where it is not named.
+    pub fn named_axiom(&self, number: u32) -> Option<&'a Numbered>
+        ensures { IsNamedAxiom self.now.axioms self.now.named number result }
+    {
+        if is_named(self.named, number) {
+            Some(self.ontology.axiom(number))
+        } else {
+            None
+        }
+    }
+
+    /// The number of the normal form of a class expression whose cardinalities are at most 100.
+    ///
+    /// # Errors
+    ///
+    /// Out of memory.
+    pub fn intern(&mut self, concept: &Concept) -> Result<u32, NoMemory>
+        requires { IsTrue (has_counts_within 100 concept.now) }
+        ensures number { IfOk result (λ n. IsNumber self.new.table n (normal_form concept.now)) }
+        ensures kept { Extends self.old.table self.new.table }
+        ensures axioms { HasSameAxioms self.old self.new }
+        ensures rows { KeepsEntries self.old self.new }
+    {
+        self.concepts.intern(concept)
     }
 
     /// The number of a shape that is normal and has its parts in the table. It stands for the shape's tree.
