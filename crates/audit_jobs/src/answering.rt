@@ -1,6 +1,6 @@
 // From the question and the bytes of a document to the audit.
 ghost use Rattle.std.specs.Prelude.{◌≡◌, ◌≤◌, true, false, [], IfOk, IfErr, OnOk, OnErr, IsTrue, length};
-ghost use Rattle.ontology_limits.specs.Limits.{IsInLimit};
+ghost use Rattle.ontology_limits.specs.Limits.{IsInLimit, IsWithoutIndividuals};
 ghost use Rattle.job_inputs.specs.Answer.{text_bytes, is_fault};
 ghost use Rattle.job_inputs.specs.Questions.{follows};
 ghost use Rattle.job_inputs.specs.Refusals.{IsUnanswered};
@@ -67,6 +67,7 @@ fn audited(
     log: &mut RunLog,
 ) -> Result<(Status, Text), NoMemory>
     requires in_limit { IsInLimit input.ontology input.query }
+    requires without_individuals { IsWithoutIndividuals input.ontology input.query }
     requires unlogged { log.old ≡ [] }
     ensures answer { IfOk result (λ a. IsEvidenceAnswer input.ontology input.query budget log.new a.0 (text_bytes a.1)) }
     ensures begun { OnErr result (HasAsked input.ontology input.query budget log.new) }
@@ -85,6 +86,7 @@ fn audit(
     log: &mut RunLog,
 ) -> Result<(Status, Text), NoMemory>
     requires in_limit { IsInLimit ontology.now query.now }
+    requires without_individuals { IsWithoutIndividuals ontology.now query.now }
     requires unlogged { log.old ≡ [] }
     ensures answer { IfOk result (λ a. IsEvidenceAnswer ontology.now query.now budget log.new a.0 (text_bytes a.1)) }
     ensures begun { OnErr result (HasAsked ontology.now query.now budget log.new) }

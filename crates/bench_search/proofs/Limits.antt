@@ -16,7 +16,7 @@ use Rattle.role_box.specs.declared.role_axiom.RoleAxiom.{RoleAxiom}
 use Rattle.shq_nnf.specs.Counts.{has_counts_within, have_counts_within}
 use Rattle.shq_nnf.specs.Meeting.{is_assertion}
 use Rattle.shq_nnf.specs.Parts.{axiom_has_counts_within}
-use Rattle.ontology_limits.specs.Limits.{has_enough_parts, have_enough_parts, has_enough_items, part_count, IsInLimit}
+use Rattle.ontology_limits.specs.Limits.{has_enough_parts, have_enough_parts, has_enough_items, part_count, IsInLimit, IsWithoutIndividuals}
 use Rattle.bench_search.specs.Small.{fits, all_fit, axiom_fits, IsSmall, AreSmall, asked}
 
 -- ---- what fits is within the limits
@@ -154,12 +154,18 @@ in_limit o small simple listed axioms classes roles none one =
         few_axioms = axioms;
         few_classes = classes;
         few_roles = roles;
+        few_individuals = omega (arith, none);
         few_parts = omega (arith, axioms, few o.axioms each);
-        without_individuals = record { none_listed = none_listed o.individuals none; no_assertions = each_plain o.axioms each };
       };
       listed = rw class_listed refl;
       items = refl;
       counts = refl;
       simple = refl;
-      on_any = refl;
+      on_listed = refl;
     }
+
+pub without_individuals : (o : Listed) → AreSmall o.axioms → length o.individuals ≡ 0 → IsWithoutIndividuals o asked
+without_individuals o small none = record {
+  ontology = record { none_listed = none_listed o.individuals none; no_assertions = each_plain o.axioms (recursion_from_All (λ (n : Numbered). IsSmall n.axiom) o.axioms small) };
+  on_any = refl;
+}

@@ -1,7 +1,7 @@
 // One search over objects of different kinds that answer about the same sets.
 ghost use Rattle.std.specs.Prelude.{◌≡◌, [], IfOk};
 ghost use Rattle.std.specs.List.{All};
-ghost use Rattle.ontology_limits.specs.Limits.{IsInLimit};
+ghost use Rattle.ontology_limits.specs.Limits.{IsInLimit, IsWithoutIndividuals};
 
 use crate::reading::{read, set_of};
 use axiom_sets::AxiomSet;
@@ -88,7 +88,8 @@ fn sets_of(alloc: Global, members: &[[u32; 3]]) -> Result<Vec<AxiomSet>, NoMemor
 
 // Over an asker among all axioms.
 fn by_all(alloc: Global, ontology: &Ontology, query: &Query) -> Result<Lists, NoMemory>
-    requires { IsInLimit ontology.now query.now }
+    requires in_limit { IsInLimit ontology.now query.now }
+    requires without_individuals { IsWithoutIndividuals ontology.now query.now }
 {
     let oracle = Oracle::new(alloc, ontology, 1000, RunLog::new(alloc));
     lists_of(alloc, Asker::new(alloc, oracle, query))
@@ -96,7 +97,8 @@ fn by_all(alloc: Global, ontology: &Ontology, query: &Query) -> Result<Lists, No
 
 // Over an asker among the axioms of the local module.
 fn by_module(alloc: Global, ontology: &Ontology, query: &Query) -> Result<Lists, NoMemory>
-    requires { IsInLimit ontology.now query.now }
+    requires in_limit { IsInLimit ontology.now query.now }
+    requires without_individuals { IsWithoutIndividuals ontology.now query.now }
 {
     let module = module(alloc, ontology, query)?;
     let oracle = Oracle::new(alloc, ontology, 1000, RunLog::new(alloc));
@@ -115,7 +117,8 @@ fn check_lists(
     query: &Query,
     wanted: &Lists,
 ) -> Result<(), NoMemory>
-    requires { IsInLimit ontology.now query.now }
+    requires in_limit { IsInLimit ontology.now query.now }
+    requires without_individuals { IsWithoutIndividuals ontology.now query.now }
 {
     assert_same(rt, &by_all(alloc, ontology, query)?, wanted);
     assert_same(rt, &by_module(alloc, ontology, query)?, wanted);
@@ -134,7 +137,8 @@ fn check_on(
     query: &Query,
     wanted: &Lists,
 ) -> Result<(), Refusal>
-    requires { IsInLimit ontology.now query.now }
+    requires in_limit { IsInLimit ontology.now query.now }
+    requires without_individuals { IsWithoutIndividuals ontology.now query.now }
 {
     check_lists(rt, alloc, ontology, query, wanted)?;
     Ok(())

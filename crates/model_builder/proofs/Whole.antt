@@ -17,7 +17,7 @@ use Rattle.calculus_specs.specs.Shape.{Shape}
 use Rattle.role_box.specs.declared.role_axiom.RoleAxiom.{RoleAxiom}
 use Rattle.role_box.specs.RoleAxioms.{role_axioms}
 use Rattle.role_box.specs.Paths.{is_below}
-use Rattle.ontology_limits.specs.Limits.{IsInLimit}
+use Rattle.ontology_limits.specs.Limits.{IsInLimit, IsWithoutIndividuals}
 use Rattle.finite_model.specs.ModelLists.{ModelLists, IsDomain, meaning, is_member, is_link, individuals_below, element_at}
 use Rattle.finite_model.specs.Written.{uses_listed_names}
 use Rattle.calculus_specs.specs.declared.facts.Fact.{Fact}
@@ -101,13 +101,13 @@ module _ (r : RuleLists) (q : Query) (es : List Entry) (i : Interpretation) (lim
       coe' : {A B : Type 0} → A ≡ B → A → B
       coe' e a = subst (λ (X : Type 0). X) e a
 
-  pub is_counter_model : IsBuilt (context_in r) (facts_in es) i → IsCounterModel r.ontology (numbers_in r) q i
-  is_counter_model built = saturated_is_counter_model r.ontology (numbers_in r) q r.table (context_in r).rows saturated.steps (items_of es) i (record {
+  pub is_counter_model : IsWithoutIndividuals r.ontology q → IsBuilt (context_in r) (facts_in es) i → IsCounterModel r.ontology (numbers_in r) q i
+  is_counter_model without built = saturated_is_counter_model r.ontology (numbers_in r) q r.table (context_in r).rows saturated.steps (items_of es) i (record {
     in_limit = limit;
     reached = saturated.reached;
     is_saturated = saturated.is_saturated;
     is_built = subst (λ (fs : List (Fact ℕ)). IsBuilt (context_in r) fs i) (sym (facts_same es)) built;
-  })
+  }) without
 
 -- ---- names that are listed
 

@@ -1,6 +1,6 @@
 // The model of a saturated tree.
 ghost use Rattle.std.specs.Prelude.{IsTrue, IfOk, length};
-ghost use Rattle.ontology_limits.specs.Limits.{IsInLimit};
+ghost use Rattle.ontology_limits.specs.Limits.{IsInLimit, IsWithoutIndividuals};
 ghost use Rattle.finite_model.specs.ModelLists.{meaning};
 ghost use Rattle.finite_model.specs.Written.{uses_listed_names};
 ghost use Rattle.completion_tree.specs.Trail.{facts_in, items_of};
@@ -43,6 +43,7 @@ pub fn build<A: Allocator + Copy>(
 ) -> Result<Interp, NoMemory>
     requires current { IsCurrent (facts_in tree.now) prints.now }
     requires within { IsInLimit rules.now.ontology query.now }
+    requires without_individuals { IsWithoutIndividuals rules.now.ontology query.now }
     requires saturated { IsSaturatedTrail rules.now query.now (items_of tree.now) }
     ensures built { IfOk result (λ k. IsBuilt (context_in rules.now) (facts_in tree.now) (meaning k)) }
     ensures counter_model { IfOk result (λ k. IsCounterModel rules.now.ontology (numbers_in rules.now) query.now (meaning k)) }

@@ -1,6 +1,6 @@
 -- The limits of an ontology and of a query on it, together: what is read is within them, and each later call asks for
 -- them.
-use Rattle.std.specs.Prelude.{◌≡◌, ℕ, ◌+◌, ◌≤◌, Bool, true, not, ◌&&◌, List, [], ◌∷◌, length, nat_le}
+use Rattle.std.specs.Prelude.{◌≡◌, ℕ, ◌+◌, ◌≤◌, Bool, true, not, ◌&&◌, List, [], ◌∷◌, length, nat_le, nat_lt}
 use Rattle.std.specs.List.{list_all}
 use Rattle.role_box.specs.Concept.{Concept, top, bottom, name, complement, intersection, union, some_of, all_of, at_least, at_most, exactly, Parts, no_parts, part, parts_of, part_list}
 use Rattle.role_box.specs.Listed.{Listed}
@@ -9,7 +9,8 @@ use Rattle.role_box.specs.Axiom.{Axiom}
 use Rattle.role_box.specs.Axiom.TheVariants.{SubClassOf, EquivalentClasses, DisjointClasses, DisjointUnion, SubRole, EquivalentRoles, Domain, Range, Functional, Transitive, Member, Pair, SameAll, Different}
 use Rattle.role_box.specs.Numbered.{Numbered}
 use Rattle.role_box.specs.Query.{Query}
-use Rattle.role_box.specs.On.TheVariants.{Any}
+use Rattle.role_box.specs.On.{On}
+use Rattle.role_box.specs.On.TheVariants.{Any, Individual}
 use Rattle.role_box.specs.Counted.{counted_by_query}
 use Rattle.role_box.specs.Simple.{are_simple, counts_simple, all_role_axioms}
 use Rattle.shq_nnf.specs.Counts.{has_counts_within}
@@ -55,13 +56,6 @@ has_enough_items (Pair r a b) = true
 has_enough_items (SameAll as_) = nat_le 2 (length as_)
 has_enough_items (Different as_) = nat_le 2 (length as_)
 
--- ---- what is not searched yet
-
--- no individual is listed, and no axiom is an assertion
-pub record IsWithoutIndividuals (o : Listed) : Type 0 where
-  pub none_listed : o.individuals ≡ []
-  pub no_assertions : list_all (λ (a : Numbered). not (is_assertion a.axiom)) o.axioms ≡ true
-
 -- ---- the limits
 
 -- how many parts axioms have together
@@ -70,8 +64,7 @@ part_count [] = 0
 part_count (a ∷ as_) = length (axiom_parts a.axiom) + part_count as_
 
 -- The names of an ontology's axioms are listed, their groups have as many items as they need, no cardinality is above
--- 100, each role that is counted is simple, and there are not too many axioms, names and parts. There are no
--- individuals yet.
+-- 100, each role that is counted is simple, and there are not too many axioms, names and parts.
 pub record IsOntologyInLimit (o : Listed) : Type 0 where
   pub listed : all_use_listed (length o.classes) (length o.roles) (length o.individuals) o.axioms ≡ true
   pub items : list_all (λ (a : Numbered). has_enough_items a.axiom) o.axioms ≡ true
@@ -80,14 +73,32 @@ pub record IsOntologyInLimit (o : Listed) : Type 0 where
   pub few_axioms : length o.axioms ≤ 20000
   pub few_classes : length o.classes ≤ 20000
   pub few_roles : length o.roles ≤ 1000
+  pub few_individuals : length o.individuals ≤ 20000
   pub few_parts : part_count o.axioms ≤ 500000
-  pub without_individuals : IsWithoutIndividuals o
 
--- The same of an ontology and a query on it, which speaks of each element, where the ontology lists the names of both.
+-- the individual that a query is on, if it is on one, is among so many
+abbrev pub is_on_listed : ℕ → On → Bool
+is_on_listed individuals Any = true
+is_on_listed individuals (Individual a) = nat_lt a individuals
+
+-- The same of an ontology and a query on it, where the ontology lists the names of both.
 pub record IsInLimit (o : Listed) (q : Query) : Type 0 where
   pub ontology : IsOntologyInLimit o
   pub listed : (uses_listed (length o.classes) (length o.roles) q.sub && uses_listed (length o.classes) (length o.roles) q.sup) ≡ true
   pub items : (has_enough_parts q.sub && has_enough_parts q.sup) ≡ true
   pub counts : (has_counts_within 100 q.sub && has_counts_within 100 q.sup) ≡ true
   pub simple : are_simple (all_role_axioms o.axioms) (counted_by_query q) ≡ true
+  pub on_listed : is_on_listed (length o.individuals) q.on ≡ true
+
+-- ---- what is searched
+
+-- no individual is listed, and no axiom is an assertion
+pub record IsOntologyWithoutIndividuals (o : Listed) : Type 0 where
+  pub none_listed : o.individuals ≡ []
+  pub no_assertions : list_all (λ (a : Numbered). not (is_assertion a.axiom)) o.axioms ≡ true
+
+-- The same of an ontology and a query on it, which speaks of each element. It is no limit: searches, which know nothing
+-- of individuals yet, ask for it beside the limits.
+pub record IsWithoutIndividuals (o : Listed) (q : Query) : Type 0 where
+  pub ontology : IsOntologyWithoutIndividuals o
   pub on_any : q.on ≡ Any

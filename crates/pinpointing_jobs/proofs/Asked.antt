@@ -19,7 +19,7 @@ use Rattle.job_inputs.specs.declared.status.Status.{Status}
 use Rattle.job_inputs.specs.declared.status.Status.TheVariants.{Done, Rejected, BadWords, BadText, Outside, Limit, ReadFault, WriteFault, Undecided, NoMemory}
 use Rattle.job_inputs.specs.Questions.{Text, follows, document, query, IsDocumentAlone, IsQuestion, IsReadQuestion, IsUnreadDocument, IsUnreadQuestion}
 use Rattle.job_inputs.proofs.OneReading.{questions_not_refused}
-use Rattle.job_inputs.proofs.ReadInLimit.{question_in_limit}
+use Rattle.job_inputs.proofs.ReadInLimit.{question_in_limit, question_without_individuals}
 use Rattle.pinpointing_jobs.specs.declared.asking.Input.{Input}
 use Rattle.pinpointing_jobs.specs.Asked.{IsInput, IsNoInput}
 use Rattle.pinpointing_jobs.specs.declared.wanted.Wanted.{Wanted}
@@ -33,6 +33,7 @@ pub is_input : (inclusion bytes : List ℕ) (o : Listed) (kept : DocumentContext
 is_input inclusion bytes o kept input d x = record {
   is_question = record { document = o; kept = kept; counts = x.counts; is_document = d; is_asked = x.is_asked; both_are = x.both_are };
   in_limit = question_in_limit bytes o kept (follows inclusion) input.ontology input.query d x;
+  without_individuals = question_without_individuals bytes o kept (follows inclusion) input.ontology input.query d x;
 }
 
 pub no_document : (inclusion bytes : List ℕ) (u : Unread) → IsUnreadDocument bytes u → IsNoInput inclusion bytes u

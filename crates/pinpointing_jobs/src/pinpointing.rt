@@ -1,6 +1,6 @@
 // From the question and the bytes of a document to the list of its sets.
 ghost use Rattle.std.specs.Prelude.{◌≡◌, ◌≤◌, false, [], IfOk, IfErr, OnErr, length};
-ghost use Rattle.ontology_limits.specs.Limits.{IsInLimit};
+ghost use Rattle.ontology_limits.specs.Limits.{IsInLimit, IsWithoutIndividuals};
 ghost use Rattle.job_inputs.specs.Answer.{text_bytes, is_fault};
 ghost use Rattle.job_inputs.specs.Questions.{follows};
 ghost use Rattle.job_inputs.specs.Refusals.{IsUnanswered};
@@ -69,6 +69,7 @@ fn listed(
     log: &mut RunLog,
 ) -> Result<(Status, Text), NoMemory>
     requires in_limit { IsInLimit input.ontology input.query }
+    requires without_individuals { IsWithoutIndividuals input.ontology input.query }
     requires unlogged { log.old ≡ [] }
     ensures listed { IfOk result (λ a. IsListAnswer wanted input.ontology input.query budget log.new a.0 (text_bytes a.1)) }
     ensures begun { OnErr result (HasSearched input.ontology input.query budget log.new) }
@@ -88,6 +89,7 @@ fn list(
     log: &mut RunLog,
 ) -> Result<(Status, Text), NoMemory>
     requires in_limit { IsInLimit ontology.now query.now }
+    requires without_individuals { IsWithoutIndividuals ontology.now query.now }
     requires unlogged { log.old ≡ [] }
     ensures listed { IfOk result (λ a. IsListAnswer wanted ontology.now query.now budget log.new a.0 (text_bytes a.1)) }
     ensures begun { OnErr result (HasSearched ontology.now query.now budget log.new) }

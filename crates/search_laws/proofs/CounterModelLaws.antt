@@ -11,6 +11,7 @@ use Rattle.shq_terms.specs.declared.axioms.On.{On}
 use Rattle.shq_meaning.specs.Truth.{Interpretation, holds, is_asked_at}
 use Rattle.shq_nnf.proofs.Truth.{normal_truth, negated_truth}
 use Rattle.role_box.specs.RoleAxioms.{role_axioms}
+use Rattle.ontology_limits.specs.Limits.{IsWithoutIndividuals}
 use Rattle.role_box.specs.Paths.{role_limit}
 use Rattle.role_box.proofs.Limits.{transitive_within}
 use Rattle.search_laws.specs.Built.{IsBuilt}
@@ -115,16 +116,16 @@ module _ (o : Listed) (ks : List ℕ) (q : Query) (table : List Shape) (rows : L
   at_first : (c : ℕ) → c < length table → has fs 0 c ≡ true → 0 < i.size → holds i (tree_of table c) 0 ≡ true
   at_first c is_listed h some = label_is_true 0 c some is_listed (ap (λ (x : ℕ). has fs x c) (first_original fs) ∙ h)
 
-  counter_model : IsCounterModel o ks q i
-  counter_model =
+  counter_model : IsWithoutIndividuals o q → IsCounterModel o ks q i
+  counter_model without =
       let some : 0 < i.size = omega (arith, (first_node fs).0, s.is_built.size_is) in
       let stays = start_stays context first second k trail s.reached.follows in
       record {
         names_are_listed = names_are_listed o ks q table rows k trail s.in_limit s.reached i s.is_built;
         has_element = some;
         places = λ a. subst (λ (v : ℕ). v < i.size) (sym (s.is_built.individuals_are a)) some;
-        meets_axioms = axioms_met i o.axioms ks s.in_limit.ontology.without_individuals.no_assertions meets_roles part_is_met;
-        refutes = ap (λ (on : On). is_asked_at i on 0 && (holds i q.sub 0 && not (holds i q.sup 0))) s.in_limit.on_any ∙ and_from (holds i q.sub 0) (not (holds i q.sup 0))
+        meets_axioms = axioms_met i o.axioms ks without.ontology.no_assertions meets_roles part_is_met;
+        refutes = ap (λ (on : On). is_asked_at i on 0 && (holds i q.sub 0 && not (holds i q.sup 0))) without.on_any ∙ and_from (holds i q.sub 0) (not (holds i q.sup 0))
             (sym (normal_truth i q.sub 0) ∙ ap (λ (t : Concept). holds i t 0) (sym s.reached.sub_reads) ∙ at_first first s.reached.sub_listed stays.0 some)
             (sym (negated_truth i q.sup 0) ∙ ap (λ (t : Concept). holds i t 0) (sym s.reached.not_sup_reads) ∙ at_first second s.reached.not_sup_listed stays.1 some);
       }
@@ -149,13 +150,13 @@ saturated_is_counter_model = counter_model
 
 -- the computed interpretation is one
 pub saturated_does_not_entail : SaturatedDoesNotEntail
-saturated_does_not_entail o ks q table rows k trail limit reached saturated entails =
+saturated_does_not_entail o ks q table rows k trail limit without reached saturated entails =
     let context : SearchContext = context_of o ks table rows in
     let roles = role_axioms o.axioms ks in
     let i : Interpretation = built context (facts_of trail) (role_limit roles) in
     let is_built : IsBuilt context (facts_of trail) i =
     computed_interpretations_are_built context reached.sub_number reached.not_sup_number k trail reached.follows (role_limit roles) (transitive_within roles) in
-    let c = counter_model o ks q table rows k trail i (record { in_limit = limit; reached = reached; is_saturated = saturated; is_built = is_built }) in
+    let c = counter_model o ks q table rows k trail i (record { in_limit = limit; reached = reached; is_saturated = saturated; is_built = is_built }) without in
     let no_counter = entails i c.has_element c.places c.meets_axioms 0 (omega (arith, c.has_element)) in
     let counter = c.refutes in
     cc

@@ -8,7 +8,7 @@ use Rattle.calculus_specs.specs.Shape.{Shape, shape_of}
 use Rattle.calculus_specs.specs.Shape.Shape.{at_most}
 use Rattle.calculus_specs.specs.Tree.{tree_of}
 use Rattle.calculus_specs.specs.Rows.{Row}
-use Rattle.ontology_limits.specs.Limits.{IsInLimit}
+use Rattle.ontology_limits.specs.Limits.{IsInLimit, IsWithoutIndividuals}
 use Rattle.calculus_specs.specs.declared.facts.Fact.{Fact}
 use Rattle.calculus_specs.specs.Joins.{rep}
 use Rattle.calculus_specs.specs.State.{node_count, has}
@@ -122,13 +122,13 @@ pub record IsCounterModel (o : Listed) (ks : List ℕ) (q : Query) (i : Interpre
   pub meets_axioms : meets_all i (named_axioms o.axioms ks) ≡ true
   pub refutes : refutes_at i q 0 ≡ true
 
--- the interpretation of a saturated trail that a search reaches is a counter-model
+-- where there are no individuals, the interpretation of a saturated trail that a search reaches is a counter-model
 abbrev pub SaturatedIsCounterModel : Type 0
 SaturatedIsCounterModel = (o : Listed) (ks : List ℕ) (q : Query) (table : List Shape) (rows : List Row) (k : ℕ) (trail : List Item) (i : Interpretation)
-    → IsSaturatedSearch o ks q table rows k trail i → IsCounterModel o ks q i
+    → IsSaturatedSearch o ks q table rows k trail i → IsWithoutIndividuals o q → IsCounterModel o ks q i
 
 -- so where a search saturates, the axioms of these numbers do not entail the query
 abbrev pub SaturatedDoesNotEntail : Type 0
 SaturatedDoesNotEntail = (o : Listed) (ks : List ℕ) (q : Query) (table : List Shape) (rows : List Row) (k : ℕ) (trail : List Item)
-    → IsInLimit o q → IsReached (theory_of o.axioms ks) q.sub q.sup table rows k trail
+    → IsInLimit o q → IsWithoutIndividuals o q → IsReached (theory_of o.axioms ks) q.sub q.sup table rows k trail
     → IsSaturated (context_of o ks table rows) trail → ¬ Entails (named_axioms o.axioms ks) q

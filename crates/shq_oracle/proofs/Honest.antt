@@ -6,7 +6,7 @@ use Rattle.shq_terms.specs.Concept.{name}
 use Rattle.shq_terms.specs.NoMemory.{NoMemory}
 use Rattle.axiom_sets.specs.Sets.{Limited, member_list}
 use Rattle.shq_terms.specs.declared.axioms.Query.{Query}
-use Rattle.ontology_limits.specs.Limits.{IsInLimit}
+use Rattle.ontology_limits.specs.Limits.{IsInLimit, IsWithoutIndividuals}
 use Rattle.tableau.proofs.Entailed.{entailed}
 use Rattle.refutation_tree.specs.RefutationLists.{RefutationLists}
 use Rattle.tableau.proofs.CounterModelLaws.{saturated_does_not_entail}
@@ -35,9 +35,9 @@ taken_one (y ∷ ys) (suc n) x e = let k : suc n + 1 ≡ suc (n + 1) = omega ari
 
 module _ (s : SearchState) (reached : IsReachedBy s) where
   -- a saturated search found that the query does not follow
-  pub honest_no : IsInLimit s.rules.ontology s.query → IsAtModel s → IsHonestNo s.rules.ontology s.rules.set s.query s.steps
-  honest_no limit m = record {
-    follows_not = saturated_does_not_entail s.rules.ontology (member_list s.rules.set) s.query s.rules.table (context_of s).rows s.steps (trail_of s) limit reached m.is_saturated;
+  pub honest_no : IsInLimit s.rules.ontology s.query → IsWithoutIndividuals s.rules.ontology s.query → IsAtModel s → IsHonestNo s.rules.ontology s.rules.set s.query s.steps
+  honest_no limit without m = record {
+    follows_not = saturated_does_not_entail s.rules.ontology (member_list s.rules.set) s.query s.rules.table (context_of s).rows s.steps (trail_of s) limit without reached m.is_saturated;
     cost = record { table = s.rules.table; rows = (context_of s).rows; trail = trail_of s; reached = reached; ends = inl m.is_saturated };
   }
 
@@ -80,10 +80,10 @@ module _ (s : SearchState) (reached : IsReachedBy s) where
         fueled = omega (arith, f, le);
       }
 
-  pub ends_no : IsInLimit s.rules.ontology s.query → IsAtModel s → (k : ℕ) → k ≡ s.steps → (fuel : ℕ) → s.steps ≤ fuel → EndsSo fuel No k E.No
-  ends_no limit m k f fuel le = record {
+  pub ends_no : IsInLimit s.rules.ontology s.query → IsWithoutIndividuals s.rules.ontology s.query → IsAtModel s → (k : ℕ) → k ≡ s.steps → (fuel : ℕ) → s.steps ≤ fuel → EndsSo fuel No k E.No
+  ends_no limit without m k f fuel le = record {
     matches = tt;
-    honest = subst (λ (n : ℕ). IsHonestNo s.rules.ontology s.rules.set s.query n) (sym f) (honest_no limit m);
+    honest = subst (λ (n : ℕ). IsHonestNo s.rules.ontology s.rules.set s.query n) (sym f) (honest_no limit without m);
     fueled = omega (arith, f, le);
   }
 

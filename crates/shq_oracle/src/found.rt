@@ -1,6 +1,6 @@
 // What one search finds.
 ghost use Rattle.std.specs.Prelude.{◌≡◌, ◌≤◌, ℕ, false, IfOk};
-ghost use Rattle.ontology_limits.specs.Limits.{IsInLimit};
+ghost use Rattle.ontology_limits.specs.Limits.{IsInLimit, IsWithoutIndividuals};
 ghost use Rattle.completion_tree.specs.Trail.{items_of};
 ghost use Rattle.tableau.specs.RuleLists.{AreNumbersOf};
 ghost use Rattle.tableau.specs.SearchState.{trail_of};
@@ -38,6 +38,7 @@ pub(crate) fn search(
     requires numbers { AreNumbersOf rules.now query.now numbers.0 numbers.1 }
     requires set { IsAxiomSet rules.now.ontology rules.now.set }
     requires in_limit { IsInLimit rules.now.ontology query.now }
+    requires without_individuals { IsWithoutIndividuals rules.now.ontology query.now }
     ensures { IfOk result (IsFound rules.now.ontology rules.now.set query.now fuel) }
 {
     let arena = Bump::new(alloc);
@@ -56,6 +57,7 @@ fn search_in<A: Allocator + Copy>(
     requires numbers { AreNumbersOf rules.now query.now numbers.0 numbers.1 }
     requires set { IsAxiomSet rules.now.ontology rules.now.set }
     requires in_limit { IsInLimit rules.now.ontology query.now }
+    requires without_individuals { IsWithoutIndividuals rules.now.ontology query.now }
     ensures { IfOk result (IsFound rules.now.ontology rules.now.set query.now fuel) }
 {
     let mut search = Search::new_in(arena, alloc, rules, query, numbers.0, numbers.1)?;
@@ -75,6 +77,7 @@ fn found_by<A: Allocator + Copy>(
     requires asked { search.now.query ≡ query.now }
     requires set { IsAxiomSet search.now.rules.ontology search.now.rules.set }
     requires in_limit { IsInLimit search.now.rules.ontology search.now.query }
+    requires without_individuals { IsWithoutIndividuals search.now.rules.ontology search.now.query }
     requires within { search.now.steps ≤ fuel }
     requires ended { HasEnded fuel search.now end }
     ensures { IfOk result (IsFoundBy search.now fuel) }
@@ -97,6 +100,7 @@ fn with_model<A: Allocator + Copy>(
     requires whole { search.now.failed ≡ false }
     requires asked { search.now.query ≡ query.now }
     requires in_limit { IsInLimit search.now.rules.ontology search.now.query }
+    requires without_individuals { IsWithoutIndividuals search.now.rules.ontology search.now.query }
     requires ended { IsAtModel search.now }
     ensures { IfOk result (λ f. (fuel : ℕ) → search.now.steps ≤ fuel → IsFoundBy search.now fuel f) }
 {

@@ -17,7 +17,7 @@ use Rattle.calculus_specs.specs.declared.facts.Fact.{Fact}
 use Rattle.calculus_specs.specs.declared.facts.Fact.TheVariants.{Has, Edge, Apart, Same}
 use Rattle.role_box.specs.Counted.{counted_roles}
 use Rattle.role_box.specs.Simple.{all_role_axioms, is_simple, are_simple}
-use Rattle.ontology_limits.specs.Limits.{IsInLimit, has_enough_parts}
+use Rattle.ontology_limits.specs.Limits.{IsInLimit, IsWithoutIndividuals, has_enough_parts}
 use Rattle.tableau_specs.specs.declared.Item.{Item}
 use Rattle.tableau_specs.specs.Items.{facts_of}
 use Rattle.tableau_specs.specs.Reached.{start}
@@ -41,7 +41,7 @@ query_in_limit o q a h lt = record {
       ap (are_simple (all_role_axioms o.axioms)) (append-nil (counted_roles q.sub))
       ∙ (and_parts (are_simple (all_role_axioms o.axioms) (counted_roles q.sub)) (are_simple (all_role_axioms o.axioms) (counted_roles q.sup))
       (sym (list_all-append (is_simple (all_role_axioms o.axioms)) (counted_roles q.sub) (counted_roles q.sup)) ∙ h.simple)).0;
-  on_any = refl;
+  on_listed = refl;
 }
 
 -- ---- what was not seen was left out
@@ -117,7 +117,7 @@ left_out s run a lt out =
       complement_is_never_put = λ c ever sh. (let k = ever_more (puts c) (gives_complement table a) (gives_anywhere table a c sh) all ever in cc);
     }
 
-module _ (s : SearchState) (a : ℕ) (limit : IsInLimit s.rules.ontology s.query) (numbers : AreNumbersOf s.rules s.query s.sub s.not_sup) (reached : IsReachedBy s) (run : HasRun s) (at : IsAtModel s)
+module _ (s : SearchState) (a : ℕ) (limit : IsInLimit s.rules.ontology s.query) (without : IsWithoutIndividuals s.rules.ontology s.query) (numbers : AreNumbersOf s.rules s.query s.sub s.not_sup) (reached : IsReachedBy s) (run : HasRun s) (at : IsAtModel s)
     (lt : a < length s.rules.ontology.classes) (out : LeavesClassOut s a) where
   ends : EndsSaturated (context_of s).theory s.query.sub (name a) s.steps
   ends =
@@ -127,15 +127,16 @@ module _ (s : SearchState) (a : ℕ) (limit : IsInLimit s.rules.ontology s.query
   shown_apart : IsShownApart s a
   shown_apart = record {
     follows_not =
-        saturated_does_not_entail s.rules.ontology (member_list s.rules.set) (query_for s a) ends.table ends.rows s.steps ends.trail (query_in_limit s.rules.ontology s.query a limit lt) ends.reached ends.is_saturated;
+        saturated_does_not_entail s.rules.ontology (member_list s.rules.set) (query_for s a) ends.table ends.rows s.steps ends.trail (query_in_limit s.rules.ontology s.query a limit lt)
+        (record { ontology = without.ontology; on_any = refl }) ends.reached ends.is_saturated;
     cost = record { table = ends.table; rows = ends.rows; trail = ends.trail; reached = ends.reached; ends = inl ends.is_saturated };
   }
 
 -- ---- all classes at once
 
-pub left_out_classes : (s : SearchState) → IsInLimit s.rules.ontology s.query → AreNumbersOf s.rules s.query s.sub s.not_sup → IsReachedBy s → (run : HasRun s) → IsAtModel s → s.not_sup ≡ 0 → (classes : Limited)
+pub left_out_classes : (s : SearchState) → IsInLimit s.rules.ontology s.query → IsWithoutIndividuals s.rules.ontology s.query → AreNumbersOf s.rules s.query s.sub s.not_sup → IsReachedBy s → (run : HasRun s) → IsAtModel s → s.not_sup ≡ 0 → (classes : Limited)
     → classes.limit ≡ s.seen.at_root.limit → ((a : ℕ) → a < s.seen.at_root.limit → holds classes a ≡ not (has_seen s.seen a)) → AreLeftOut s classes
-left_out_classes s limit numbers reached run at any classes limit_is are =
+left_out_classes s limit without numbers reached run at any classes limit_is are =
     let count = length s.rules.ontology.classes in
     let whole : s.seen.at_root.limit ≡ count = run.are_over.root_limit ∙ ap (room_for count) any in
     let out : (a : ℕ) → a < count → holds classes a ≡ true → LeavesClassOut s a =
@@ -143,5 +144,5 @@ left_out_classes s limit numbers reached run at any classes limit_is are =
     record {
       limit_is = limit_is ∙ whole;
       exact = λ a lt. (out a lt, λ o. are a (omega (arith, lt, whole)) ∙ ap not o.is_unseen);
-      apart = λ a lt h. shown_apart s a limit numbers reached run at lt (out a lt h);
+      apart = λ a lt h. shown_apart s a limit without numbers reached run at lt (out a lt h);
     }

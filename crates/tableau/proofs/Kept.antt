@@ -1,7 +1,7 @@
 -- What a search keeps.
 use Rattle.std.proofs.Common.{◌≡◌, ℕ, suc, ◌+◌, Bool, true, false, not, List, [], ◌∷◌, length, refl, sym, ap, subst, ◌∙◌, arith}
 use Rattle.shq_terms.specs.declared.axioms.Query.{Query}
-use Rattle.ontology_limits.specs.Limits.{IsInLimit}
+use Rattle.ontology_limits.specs.Limits.{IsInLimit, IsWithoutIndividuals}
 use Rattle.refutation_tree.specs.RefutationLists.{RefutationLists}
 use Rattle.tableau_specs.specs.Reached.{start, IsReached, Follows}
 use Rattle.tableau_specs.specs.Steps.{IsLegal}
@@ -49,10 +49,11 @@ module _ (rules : RuleLists) (query : Query) (sub not_sup : ℕ) (p : ProgressLi
       subst (λ (q : Query). IsReached w.theory q.sub q.sup w.table w.rows steps (items_of p.entries)) query_is
       (subst (λ (k : ℕ). IsReached w.theory p.query.sub p.query.sup w.table w.rows k (items_of p.entries)) steps_is (standing_is_reached w p h))
 
-  pub searching_is_kept : IsInLimit rules.ontology query → rules.set.limit ≡ length rules.ontology.axioms → AreNumbersOf rules query sub not_sup → p.sub ≡ sub → p.not_sup ≡ not_sup
+  pub searching_is_kept : IsInLimit rules.ontology query → IsWithoutIndividuals rules.ontology query → rules.set.limit ≡ length rules.ontology.axioms → AreNumbersOf rules query sub not_sup → p.sub ≡ sub → p.not_sup ≡ not_sup
       → IsSearching (context_in rules) p → (ended failed : Bool) → HasRun (state rules query sub not_sup p seen steps ended failed) → IsKept (state rules query sub not_sup p seen steps ended failed) p
-  searching_is_kept limit set numbers s n h ended failed run = record {
+  searching_is_kept limit without set numbers s n h ended failed run = record {
     in_limit = limit;
+    without_individuals = without;
     set = set;
     numbers = numbers;
     reached = λ whole. reached_by h.standing ended failed;
@@ -61,13 +62,13 @@ module _ (rules : RuleLists) (query : Query) (sub not_sup : ℕ) (p : ProgressLi
     searching = λ whole goes. h;
   }
 
-pub begun_is_kept : (rules : RuleLists) (query : Query) (sub not_sup : ℕ) (p : ProgressLists) (seen : SeenSets) → IsInLimit rules.ontology query → rules.set.limit ≡ length rules.ontology.axioms
+pub begun_is_kept : (rules : RuleLists) (query : Query) (sub not_sup : ℕ) (p : ProgressLists) (seen : SeenSets) → IsInLimit rules.ontology query → IsWithoutIndividuals rules.ontology query → rules.set.limit ≡ length rules.ontology.axioms
     → AreNumbersOf rules query sub not_sup → HasBegun (context_in rules) p → p.query ≡ query → p.sub ≡ sub → p.not_sup ≡ not_sup → AreOver (room_for (length rules.ontology.classes) not_sup) seen
     → AreSeenIn rules.table (items_of p.entries ∷ []) seen
     → IsKept (state rules query sub not_sup p seen 0 false false) p
-begun_is_kept rules query sub not_sup p seen limit set numbers h q s n over seen_is =
+begun_is_kept rules query sub not_sup p seen limit without set numbers h q s n over seen_is =
     let first : items_of p.entries ≡ start sub not_sup = h.trail_is ∙ (λ i. start (s i) (n i)) in
-    searching_is_kept rules query sub not_sup p seen 0 q h.no_steps limit set numbers s n h.is_searching false false (record { earlier = []; is_run = first; counted = refl; are_over = over; are_seen = seen_is })
+    searching_is_kept rules query sub not_sup p seen 0 q h.no_steps limit without set numbers s n h.is_searching false false (record { earlier = []; is_run = first; counted = refl; are_over = over; are_seen = seen_is })
 
 -- ---- closing
 
@@ -149,6 +150,7 @@ module _ (rules : RuleLists) (query : Query) (sub not_sup : ℕ) (p p' : Progres
         let w = context_in rules in
         record {
           in_limit = kept.in_limit;
+          without_individuals = kept.without_individuals;
           set = kept.set;
           numbers = kept.numbers;
           reached = λ still.
@@ -167,7 +169,7 @@ module _ (rules : RuleLists) (query : Query) (sub not_sup : ℕ) (p p' : Progres
     rested_kept : IsSameButBlocks p p' → IsSearching (context_in rules) p' → seen' ≡ seen → steps' ≡ steps → (goes : Bool) → IsKept (now goes) p'
     rested_kept same h seen_is steps_is goes =
         let is = progress_is in
-        searching_is_kept rules query sub not_sup p' seen' steps' (ap (λ (q : ProgressLists). q.query) same ∙ is.query) (ap (λ (q : ProgressLists). q.steps) same ∙ is.steps ∙ sym steps_is) kept.in_limit kept.set
+        searching_is_kept rules query sub not_sup p' seen' steps' (ap (λ (q : ProgressLists). q.query) same ∙ is.query) (ap (λ (q : ProgressLists). q.steps) same ∙ is.steps ∙ sym steps_is) kept.in_limit kept.without_individuals kept.set
         kept.numbers (ap (λ (q : ProgressLists). q.sub) same ∙ is.sub) (ap (λ (q : ProgressLists). q.not_sup) same ∙ is.not_sup) h (not goes) false
         (same_run (ap (λ (q : ProgressLists). q.entries) same) seen_is steps_is goes)
 
@@ -176,7 +178,7 @@ module _ (rules : RuleLists) (query : Query) (sub not_sup : ℕ) (p p' : Progres
     moved_kept moved h noted counts goes =
         let is = progress_is in
         let run = kept.has_run whole in
-        searching_is_kept rules query sub not_sup p' seen' steps' (moved.same.query ∙ is.query) (sym counts) kept.in_limit kept.set kept.numbers (moved.same.sub ∙ is.sub) (moved.same.not_sup ∙ is.not_sup) h
+        searching_is_kept rules query sub not_sup p' seen' steps' (moved.same.query ∙ is.query) (sym counts) kept.in_limit kept.without_individuals kept.set kept.numbers (moved.same.sub ∙ is.sub) (moved.same.not_sup ∙ is.not_sup) h
         (not goes) false
         (record {
           earlier = items_of p.entries ∷ run.earlier;

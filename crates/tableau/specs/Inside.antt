@@ -1,6 +1,6 @@
 -- What a search keeps, and what one call on its progress comes to.
 use Rattle.std.specs.Prelude.{◌≡◌, ℕ, ◌+◌, ◌-◌, min, drop, Bool, true, false, List, [], ◌∷◌, length, Some, All}
-use Rattle.ontology_limits.specs.Limits.{IsInLimit}
+use Rattle.ontology_limits.specs.Limits.{IsInLimit, IsWithoutIndividuals}
 use Rattle.refutation_tree.specs.RefutationLists.{RefutationLists}
 use Rattle.tableau_specs.specs.declared.Item.{Item}
 use Rattle.tableau_specs.specs.Steps.{IsLegal, IsSaturated, HasClash}
@@ -30,11 +30,12 @@ pub record IsProgressOf (s : SearchState) (p : ProgressLists) : Type 0 where
   pub not_sup : p.not_sup ≡ s.not_sup
   pub steps : p.steps ≡ s.steps
 
--- the ontology and the query are within the limits, the set is one of the ontology's axioms, the numbers are the
--- query's, and unless memory was refused the trail is reached by a run whose classes were noted, and it can go on until
--- the search has ended
+-- the ontology and the query are within the limits and without individuals, the set is one of the ontology's axioms,
+-- the numbers are the query's, and unless memory was refused the trail is reached by a run whose classes were noted, and
+-- it can go on until the search has ended
 pub record IsKept (s : SearchState) (p : ProgressLists) : Type 0 where
   pub in_limit : IsInLimit s.rules.ontology s.query
+  pub without_individuals : IsWithoutIndividuals s.rules.ontology s.query
   pub set : s.rules.set.limit ≡ length s.rules.ontology.axioms
   pub numbers : AreNumbersOf s.rules s.query s.sub s.not_sup
   pub reached : s.failed ≡ false → IsReachedBy s

@@ -1,6 +1,6 @@
 // The search.
 ghost use Rattle.std.specs.Prelude.{◌≡◌, ◌+◌, ◌<◌, ◌≤◌, ◌^◌, ◌↔◌, [], ◌∷◌, true, false, IfOk, OnOk, OnErr, length};
-ghost use Rattle.ontology_limits.specs.Limits.{IsInLimit};
+ghost use Rattle.ontology_limits.specs.Limits.{IsInLimit, IsWithoutIndividuals};
 ghost use Rattle.search_rules.specs.RuleLists.{AreNumbersOf};
 ghost use Rattle.completion_tree.specs.Trail.{facts_in, items_of};
 ghost use Rattle.search_state.specs.Followed.{IsCurrent};
@@ -120,6 +120,7 @@ impl<'b, A: Allocator + Copy> Search<'b, A> {
         requires numbers { AreNumbersOf rules.now query.now sub not_sup }
         requires set { rules.now.set.limit ≡ length rules.now.ontology.axioms }
         requires in_limit { IsInLimit rules.now.ontology query.now }
+        requires without_individuals { IsWithoutIndividuals rules.now.ontology query.now }
         ensures { IfOk result (HasBegun rules.entry.now query.entry.now sub not_sup) }
     {
         rules.is_ready();

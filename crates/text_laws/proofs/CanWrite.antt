@@ -1,5 +1,5 @@
 -- What a document says can be written.
-use Rattle.std.proofs.Common.{◌≡◌, ℕ, zero, suc, ◌≤◌, Bool, true, false, not, cond, List, [], ◌∷◌, drop, Ok, refl, ap, sym, ◌∙◌, subst, arith, codes}
+use Rattle.std.proofs.Common.{◌≡◌, ℕ, zero, suc, ◌≤◌, Bool, true, false, not, cond, List, [], ◌∷◌, length, drop, Ok, refl, ap, sym, ◌∙◌, subst, arith, codes}
 use Rattle.std.specs.Prelude.{nat_eq, is_some}
 use Rattle.std.specs.List.{list_all, prefix_len}
 use Rattle.shq_terms.specs.Listed.{Listed}
@@ -188,9 +188,10 @@ module _ (text : List ℕ) (o : Listed) (kept : DocumentContext) (end : ℕ) (d 
           few_axioms = omega (arith, within.few_axioms, said.rises.axioms);
           few_classes = within.few_classes;
           few_roles = within.few_roles;
+          few_individuals = omega (arith, ap length within.no_individuals);
           few_parts = omega (arith, within.few_parts, said.rises.parts, part_total axioms);
-          without_individuals = record { none_listed = within.no_individuals; no_assertions = none_asserted axioms limits.readable };
         };
+        without_individuals = record { none_listed = within.no_individuals; no_assertions = none_asserted axioms limits.readable };
         class_iris = within.class_iris;
         role_iris = within.role_iris;
         distinct_classes = within.distinct_classes;
@@ -218,7 +219,7 @@ module _ (text : List ℕ) (o : Listed) (kept : DocumentContext) (end : ℕ) (d 
     few_axioms = can_be_written.within.few_axioms;
     few_parts = omega arith;
     few_nodes = subst (λ (k : DocumentContext). k.nodes ≤ 262144) (sym d.takes) within.few_nodes;
-    no_individuals = can_be_written.within.without_individuals.none_listed;
+    no_individuals = can_be_written.without_individuals.none_listed;
   }
 
   pub read_again : IsDocumentOf (ontology_text o) o

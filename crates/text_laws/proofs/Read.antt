@@ -205,7 +205,7 @@ module _ (o : Listed) (can : CanBeWritten o) where
       ∙ ap (λ is. walked start (axioms_tests predeclared is)) (no_name_first o 2)
       ∙ classes_walk o.classes 2 (declarations (codes "ObjectProperty") o.roles ++ axiom_phrases o o.axioms) can.distinct_classes can.class_iris can.within.few_classes
       ∙ roles_walk o.classes o.roles (2 + length o.classes) (axiom_phrases o o.axioms) can.distinct_roles can.role_iris can.within.few_roles
-      ∙ ap (λ (l : List (List ℕ)). walked (record { axioms = 0; parts = 0; nodes = 0; classes = o.classes; roles = o.roles; individuals = l }) (axioms_tests predeclared (lines_items first_axiom (axiom_phrases o o.axioms)))) (sym can.within.without_individuals.none_listed)
+      ∙ ap (λ (l : List (List ℕ)). walked (record { axioms = 0; parts = 0; nodes = 0; classes = o.classes; roles = o.roles; individuals = l }) (axioms_tests predeclared (lines_items first_axiom (axiom_phrases o o.axioms)))) (sym can.without_individuals.none_listed)
       ∙ axioms_walk o (known o can) o.axioms 0 0 0 first_axiom can.within.listed (whole_of o can) (omega (arith, can.within.few_axioms)) (omega (arith, can.within.few_parts, part_total o.axioms)) (omega (arith, can.few_expressions, expression_total o.axioms))
 
   same_axioms : axioms_of (document_axioms predeclared behind (document_items (document_phrases o))) ≡ axioms_of o.axioms
@@ -245,4 +245,4 @@ module _ (o : Listed) (can : CanBeWritten o) where
       }
 
 pub written_is_read : (o : Listed) → CanBeWritten o → IsDocumentOf (ontology_text o) o
-written_is_read o can = subst (λ t. IsDocumentOf t o) (sym (text_is o can.within.without_individuals.none_listed)) (says o can)
+written_is_read o can = subst (λ t. IsDocumentOf t o) (sym (text_is o can.without_individuals.none_listed)) (says o can)

@@ -167,12 +167,12 @@ class_texts_read o c ps nodes can limit knows short deep few =
     (class_is_read o ps can knows nodes c listed.0 (whole o ps can knows c items.0 counts.0) few simple_are (concept_alone o c) (subst (λ (t : List ℕ). length t ≤ 2 ^ 24) (sym written) short) deep)
 
 pub query_texts_read : QueryTextsAreRead
-query_texts_read o q ps nodes can limit knows short deep few =
+query_texts_read o q ps nodes can limit without knows short deep few =
     let listed = and_parts (uses_listed (length o.classes) (length o.roles) q.sub) (uses_listed (length o.classes) (length o.roles) q.sup) limit.listed in
     let items = and_parts (has_enough_parts q.sub) (has_enough_parts q.sup) limit.items in
     let counts = and_parts (has_counts_within 100 q.sub) (has_counts_within 100 q.sup) limit.counts in
     let written = axiom_written o (SubClassOf q.sub q.sup) in
-    let on_any : ◌≡◌ {A = Query} (record { sub = q.sub; sup = q.sup; on = Any }) q = ap (λ (on : On). record { sub = q.sub; sup = q.sup; on = on }) (sym limit.on_any) in
+    let on_any : ◌≡◌ {A = Query} (record { sub = q.sub; sup = q.sup; on = Any }) q = ap (λ (on : On). record { sub = q.sub; sup = q.sup; on = on }) (sym without.on_any) in
     subst (λ (x : Query). IsQuery ps o.axioms (query_start o nodes) (axiom_text o (SubClassOf q.sub q.sup)) (query_start o (nodes + (expressions q.sub + expressions q.sup))) x) on_any
     (subst (λ (t : List ℕ). IsQuery ps o.axioms (query_start o nodes) t (query_start o (nodes + (expressions q.sub + expressions q.sup))) (record { sub = q.sub; sup = q.sup; on = Any })) written
     (query_is_read o ps can knows nodes q.sub q.sup listed.0 listed.1 (whole o ps can knows q.sub items.0 counts.0) (whole o ps can knows q.sup items.1 counts.1) few limit.simple

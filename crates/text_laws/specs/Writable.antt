@@ -8,7 +8,7 @@ use Rattle.shq_terms.specs.Distinct.{AreDistinct}
 use Rattle.shq_terms.specs.declared.axioms.Axiom.{Axiom}
 use Rattle.shq_terms.specs.declared.axioms.Axiom.TheVariants.{SubClassOf, EquivalentClasses, DisjointClasses, DisjointUnion, SubRole, EquivalentRoles, Domain, Range, Functional, Transitive, Member, Pair, SameAll, Different}
 use Rattle.shq_terms.specs.declared.axioms.Numbered.{Numbered}
-use Rattle.ontology_limits.specs.Limits.{IsOntologyInLimit}
+use Rattle.ontology_limits.specs.Limits.{IsOntologyInLimit, IsOntologyWithoutIndividuals}
 use Rattle.ofn_tree.specs.Lexemes.{is_iri_byte}
 use Rattle.ofn_expressions.specs.Constructs.{excluded_role_name}
 use Rattle.ofn_expressions.specs.Classes.{is_thing, is_nothing}
@@ -132,10 +132,11 @@ abbrev pub expression_count : List Numbered → ℕ
 expression_count [] = 0
 expression_count (a ∷ more) = axiom_expressions a.axiom + expression_count more
 
--- The ontology can be written so that it is read again. It is within the limits, and its names are IRIs that may stand
--- in a document, each once. The bracket after `Ontology` is open round each axiom.
+-- The ontology can be written so that it is read again. It is within the limits and has no individuals, and its names
+-- are IRIs that may stand in a document, each once. The bracket after `Ontology` is open round each axiom.
 pub record CanBeWritten (o : Listed) : Type 0 where
   pub within : IsOntologyInLimit o
+  pub without_individuals : IsOntologyWithoutIndividuals o
   pub class_iris : list_all is_class_iri o.classes ≡ true
   pub role_iris : list_all is_role_iri o.roles ≡ true
   pub distinct_classes : AreDistinct o.classes

@@ -7,7 +7,7 @@ use Rattle.shq_terms.specs.declared.axioms.Axiom.TheVariants.{SubClassOf}
 use Rattle.shq_terms.specs.declared.axioms.Numbered.{Numbered}
 use Rattle.shq_terms.specs.declared.axioms.On.TheVariants.{Any}
 use Rattle.shq_terms.specs.declared.axioms.Query.{Query}
-use Rattle.ontology_limits.specs.Limits.{IsInLimit}
+use Rattle.ontology_limits.specs.Limits.{IsInLimit, IsWithoutIndividuals}
 use Rattle.ofn_expressions.specs.Names.{Prefix, prefix_iri}
 use Rattle.ofn_reader.specs.DocumentContext.{DocumentContext}
 use Rattle.ofn_reader.specs.Documents.{IsDocument}
@@ -81,5 +81,5 @@ query_text o q = axiom_text o (SubClassOf q.sub q.sup)
 -- the same of a query
 abbrev pub QueryTextsAreRead : Type 0
 QueryTextsAreRead =
-    (o : Listed) (q : Query) (ps : List Prefix) (nodes : ℕ) → CanBeWritten o → IsInLimit o q → KnowsOwl ps → length (query_text o q) ≤ 2 ^ 24 → max (brackets q.sub) (brackets q.sup) + 1 ≤ 64
+    (o : Listed) (q : Query) (ps : List Prefix) (nodes : ℕ) → CanBeWritten o → IsInLimit o q → IsWithoutIndividuals o q → KnowsOwl ps → length (query_text o q) ≤ 2 ^ 24 → max (brackets q.sub) (brackets q.sup) + 1 ≤ 64
     → nodes + (expressions q.sub + expressions q.sup) ≤ 262144 → IsQuery ps o.axioms (query_start o nodes) (query_text o q) (query_start o (nodes + (expressions q.sub + expressions q.sup))) q

@@ -13,7 +13,7 @@ returns-clause-built g c =
 
 pub returns-clause-counter_model : goal.returns-clause-counter_model
 returns-clause-counter_model g c =
-    is_counter_model c.args.rules.now c.args.query.now c.args.tree.now (meaning c.in_ok-model.model) c.requires.within c.requires.saturated (returns-clause-built g c)
+    is_counter_model c.args.rules.now c.args.query.now c.args.tree.now (meaning c.in_ok-model.model) c.requires.within c.requires.saturated c.requires.without_individuals (returns-clause-built g c)
 
 pub returns-clause-listed : goal.returns-clause-listed
 returns-clause-listed g c = names_listed c.args.rules.now.ontology c.in_ok-model.model (returns-clause-counter_model g c).names_are_listed c.size-size.ensures.inside (returns-clause-built g c).individuals_are

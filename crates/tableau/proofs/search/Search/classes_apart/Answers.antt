@@ -13,4 +13,4 @@ returns g c =
     let whole = c.requires.whole in
     let limit = subst (λ (t : SearchState). classes.limit ≡ t.seen.at_root.limit) c.self.view_is c.in_ok-classes.ensures.limit in
     let exact = subst (λ (t : SearchState). (a : ℕ) → a < t.seen.at_root.limit → holds classes a ≡ not (has_seen t.seen a)) c.self.view_is c.in_ok-classes.ensures.exact in
-    left_out_classes s kept.in_limit kept.numbers (kept.reached whole) (kept.has_run whole) c.requires.ended (subst (λ (t : SearchState). t.not_sup ≡ 0) c.self.view_is c.if-self-ne0.false) classes limit exact
+    left_out_classes s kept.in_limit kept.without_individuals kept.numbers (kept.reached whole) (kept.has_run whole) c.requires.ended (subst (λ (t : SearchState). t.not_sup ≡ 0) c.self.view_is c.if-self-ne0.false) classes limit exact
