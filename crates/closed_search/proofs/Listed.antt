@@ -13,7 +13,7 @@ use Rattle.calculus_specs.specs.Shape.Shape.{top as top_shape, bottom as bottom_
 use Rattle.calculus_specs.specs.Tree.{tree_over, trees_of}
 use Rattle.calculus_specs.proofs.Unique.{tree_of_shape}
 use Rattle.calculus_specs.specs.Line.{Line}
-use Rattle.calculus_specs.specs.Line.Line.{start_line, and_line, or_line, all_line, carry_line, row_line, range_line, some_line, least_line, choose_line, pair_line, bottom_line, clash_line, most_line}
+use Rattle.calculus_specs.specs.Line.Line.{start_line, and_line, or_line, all_line, carry_line, row_line, range_line, some_line, least_line, choose_line, pair_line, bottom_line, clash_line, most_line, fact_line, differ_line}
 use Rattle.refutation_tree.specs.Shapes.{shape_at, part_numbers, AreShapes}
 use Rattle.refutation_tree.specs.RuleLine.{concept_numbers}
 use Rattle.refutation_tree.specs.Written.{shape_is_listed, line_is_listed}
@@ -87,6 +87,8 @@ module _ (o : Listed) where
   same_role f (bottom_line x) = refl
   same_role f (clash_line x c) = refl
   same_role f (most_line x c ys) = refl
+  same_role f (fact_line a p) = refl
+  same_role f (differ_line y z) = refl
 
   pub lines_listed : (table : List Shape) (f : ℕ → ℕ) (ls : List Line) → list_all (uses_names o table) ls ≡ true → list_all (line_is_listed o) (map (renumbered f) ls) ≡ true
   lines_listed table f [] h = refl

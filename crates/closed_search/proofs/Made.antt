@@ -7,7 +7,7 @@ use Rattle.std.proofs.lemmas.List.Folds.{list_all-append}
 use Rattle.std.proofs.lemmas.List.Elements.{All-nil, All-cons}
 use Rattle.calculus_specs.specs.Shape.{Shape}
 use Rattle.calculus_specs.specs.Line.{Line}
-use Rattle.calculus_specs.specs.Line.Line.{start_line, and_line, or_line, all_line, carry_line, row_line, range_line, some_line, least_line, choose_line, pair_line, bottom_line, clash_line, most_line}
+use Rattle.calculus_specs.specs.Line.Line.{start_line, and_line, or_line, all_line, carry_line, row_line, range_line, some_line, least_line, choose_line, pair_line, bottom_line, clash_line, most_line, fact_line, differ_line}
 use Rattle.calculus_specs.specs.Valid.{concept_at}
 use Rattle.axiom_sets.specs.Sets.{Limited}
 use Rattle.refutation_tree.specs.Shapes.{is_concept, AreShapes}
@@ -42,6 +42,8 @@ same_numbers f g (pair_line y z) h = refl
 same_numbers f g (bottom_line x) h = refl
 same_numbers f g (clash_line x c) h = let e : f c ≡ g c = cc in ap (clash_line x) e
 same_numbers f g (most_line x c ys) h = let e : f c ≡ g c = cc in ap (λ (k : ℕ). most_line x k ys) e
+same_numbers f g (fact_line a p) h = refl
+same_numbers f g (differ_line y z) h = refl
 
 pub numbers_after : (f : ℕ → ℕ) (line : Line) → concept_numbers (renumbered f line) ≡ map f (concept_numbers line)
 numbers_after f start_line = refl
@@ -58,6 +60,8 @@ numbers_after f (pair_line y z) = refl
 numbers_after f (bottom_line x) = refl
 numbers_after f (clash_line x c) = refl
 numbers_after f (most_line x c ys) = refl
+numbers_after f (fact_line a p) = refl
+numbers_after f (differ_line y z) = refl
 
 -- ---- one line
 
@@ -86,6 +90,8 @@ module _ (table : List Shape) (old : Naming) (line : Line) where
       plain (bottom_line x) h = refl
       plain (clash_line x c) h = refl
       plain (most_line x c ys) h = refl
+      plain (fact_line a p) h = refl
+      plain (differ_line y z) h = refl
 
   pub over_table : (c : ℕ) → concept_numbers line ≡ c ∷ [] → is_over (length table) line ≡ true → c < length table
   over_table c e h = ltb-true c (length table) (and_parts (ltb c (length table)) true (sym (ap (list_all (λ d. ltb d (length table))) e) ∙ h)).0

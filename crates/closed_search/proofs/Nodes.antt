@@ -6,7 +6,7 @@ use Rattle.std.proofs.lemmas.Bool.{ne_eqb, and_from, and_parts}
 use Rattle.shq_terms.specs.Concept.{Concept, top, bottom, name, complement, intersection, union, some_of, all_of, at_least, at_most, exactly}
 use Rattle.calculus_specs.specs.Rows.{Theory}
 use Rattle.calculus_specs.specs.Line.{Line}
-use Rattle.calculus_specs.specs.Line.Line.{start_line, and_line, or_line, all_line, carry_line, row_line, range_line, some_line, least_line, choose_line, pair_line, bottom_line, clash_line, most_line}
+use Rattle.calculus_specs.specs.Line.Line.{start_line, and_line, or_line, all_line, carry_line, row_line, range_line, some_line, least_line, choose_line, pair_line, bottom_line, clash_line, most_line, fact_line, differ_line}
 use Rattle.refutation_tree.specs.ReadBack.{has_nodes}
 use Rattle.search_trace.specs.Premises.{most_rule, rule_of}
 use Rattle.search_trace.specs.Leaves.{leaves}
@@ -47,6 +47,8 @@ module _ (theory : Theory) (concept : ℕ → Option Concept) where
   line_has_nodes (clash_line x c) h = refl
   line_has_nodes (most_line x c []) h = absurd (h (most_none x (concept c)))
   line_has_nodes (most_line x c (y ∷ ys)) h = refl
+  line_has_nodes (fact_line a p) h = refl
+  line_has_nodes (differ_line y z) h = refl
 
   abbrev step : Noted → NotedLine → Option (List Noted)
   step = noted_children theory concept
@@ -84,6 +86,8 @@ same_nodes f (bottom_line x) = refl
 same_nodes f (clash_line x c) = refl
 same_nodes f (most_line x c []) = refl
 same_nodes f (most_line x c (y ∷ ys)) = refl
+same_nodes f (fact_line a p) = refl
+same_nodes f (differ_line y z) = refl
 
 pub have_nodes : (f : ℕ → ℕ) (ls : List Line) → list_all has_nodes ls ≡ true → list_all has_nodes (map (renumbered f) ls) ≡ true
 have_nodes f [] h = refl

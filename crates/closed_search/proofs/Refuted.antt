@@ -11,8 +11,8 @@ use Rattle.shq_terms.specs.declared.axioms.Numbered.{Numbered}
 use Rattle.shq_terms.specs.Listed.{Listed}
 use Rattle.calculus_specs.specs.Shape.{Shape, IsTable}
 use Rattle.calculus_specs.specs.Line.{Line}
-use Rattle.calculus_specs.specs.Line.Line.{start_line, and_line, or_line, all_line, carry_line, row_line, range_line, some_line, least_line, choose_line, pair_line, bottom_line, clash_line, most_line}
-use Rattle.calculus_specs.specs.Rules.{nothing_known}
+use Rattle.calculus_specs.specs.Line.Line.{start_line, and_line, or_line, all_line, carry_line, row_line, range_line, some_line, least_line, choose_line, pair_line, bottom_line, clash_line, most_line, fact_line, differ_line}
+use Rattle.calculus_specs.specs.Rules.{on_any, nothing_known}
 use Rattle.calculus_specs.specs.Valid.{concept_at, IsRefutation}
 use Rattle.calculus_specs.proofs.Stack.{refutation_runs, run_refutes}
 use Rattle.refutation_truth.specs.Theory.{theory_of}
@@ -50,6 +50,8 @@ same_axiom f k (pair_line y z) = refl
 same_axiom f k (bottom_line x) = refl
 same_axiom f k (clash_line x c) = refl
 same_axiom f k (most_line x c ys) = refl
+same_axiom f k (fact_line a p) = refl
+same_axiom f k (differ_line y z) = refl
 
 same_axioms : (f : ℕ → ℕ) (k : ℕ) (ls : List Line) → list_any (uses_axiom k) (map (renumbered f) ls) ≡ list_any (uses_axiom k) ls
 same_axioms f k [] = refl
@@ -72,15 +74,15 @@ named_are_part axioms set lines named h k member =
 pub closed_refutes : (axioms : List Numbered) (set : Limited) (table : List Shape) (named : Limited) (ls : List NotedLine) (r : RefutationLists) → set.limit ≡ length axioms
     → IsNumbered table named (start_line ∷ map (λ l. l.line) ls) r → NamesAxioms axioms set r.lines r.axioms → (sub sup : Concept)
     → leaves (noted_children (theory_of axioms (member_list set)) (concept_in table)) (noted_start sub sup ∷ []) ls ≡ Some []
-    → IsRefutation (theory_of axioms (member_list r.axioms)) sub sup r.shapes r.lines
+    → IsRefutation (on_any (theory_of axioms (member_list r.axioms)) sub sup) r.shapes r.lines
 closed_refutes axioms set table named ls r limit is names sub sup closes =
     let one = theory_of axioms (member_list set) in
     let other = theory_of axioms (member_list r.axioms) in
     let reads = All-tail (Reads (concept_in table) (concept_at r.shapes) is.number') start_line (map (λ l. l.line) ls) is.reads in
-    let whole : IsRefutation one sub sup r.shapes r.lines = subst (IsRefutation one sub sup r.shapes) (sym is.lines_are) (refutes one sub sup (concept_in table) r.shapes is.number' ls reads closes) in
-    run_refutes other sub sup r.shapes r.lines
+    let whole : IsRefutation (on_any one sub sup) r.shapes r.lines = subst (IsRefutation (on_any one sub sup) r.shapes) (sym is.lines_are) (refutes one sub sup (concept_in table) r.shapes is.number' ls reads closes) in
+    run_refutes (on_any other sub sup) r.shapes r.lines
     (sym (same_run one other sub sup (concept_at r.shapes) (have_same_roles axioms set r.lines r.axioms limit names) r.lines (have_same_parts axioms set r.lines r.axioms limit names) (nothing_known ∷ []))
-    ∙ refutation_runs one sub sup r.shapes r.lines whole)
+    ∙ refutation_runs (on_any one sub sup) r.shapes r.lines whole)
 
 -- ---- names
 

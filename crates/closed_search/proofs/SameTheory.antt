@@ -21,7 +21,7 @@ use Rattle.role_box.specs.Paths.{is_below}
 use Rattle.refutation_truth.specs.Theory.{theory_of, parts_at}
 use Rattle.refutation_truth.proofs.Numbered.{numbered}
 use Rattle.calculus_specs.specs.Line.{Line}
-use Rattle.calculus_specs.specs.Line.Line.{start_line, and_line, or_line, all_line, carry_line, row_line, range_line, some_line, least_line, choose_line, pair_line, bottom_line, clash_line, most_line}
+use Rattle.calculus_specs.specs.Line.Line.{start_line, and_line, or_line, all_line, carry_line, row_line, range_line, some_line, least_line, choose_line, pair_line, bottom_line, clash_line, most_line, fact_line, differ_line}
 use Rattle.search_trace.specs.Named.{HaveSameRoles, HaveSamePart}
 use Rattle.closed_search.specs.Named.{says_of_roles, is_role_number, uses_axiom, NamesAxioms}
 
@@ -132,6 +132,8 @@ module _ (axioms : List Numbered) (set : Limited) (lines : List Line) (named : L
   in_line (bottom_line x) same = tt
   in_line (clash_line x c) same = tt
   in_line (most_line x c ys) same = tt
+  in_line (fact_line a p) same = tt
+  in_line (differ_line y z) same = tt
 
   in_lines : (ls : List Line) → ((a p : ℕ) → list_any (uses_axiom a) ls ≡ true → part_at one a p ≡ part_at other a p) → All (HaveSamePart one other) ls
   in_lines [] same = All-nil (HaveSamePart one other)

@@ -7,13 +7,26 @@ use Rattle.axiom_sets.specs.Sets.{Limited}
 use Rattle.shq_terms.specs.declared.axioms.Numbered.{Numbered}
 use Rattle.shq_nnf.specs.Meeting.{is_role_axiom}
 use Rattle.calculus_specs.specs.Line.{Line}
-use Rattle.calculus_specs.specs.Line.Line.{row_line, range_line}
+use Rattle.calculus_specs.specs.Line.Line.{start_line, and_line, or_line, all_line, carry_line, row_line, range_line, some_line, least_line, choose_line, pair_line, bottom_line, clash_line, most_line, fact_line, differ_line}
 
 -- the axiom that stands in a line
 abbrev pub axiom_of : Line → Option ℕ
 axiom_of (row_line x a p is) = Some a
 axiom_of (range_line x y a) = Some a
-axiom_of _ = None
+axiom_of (fact_line a p) = Some a
+axiom_of start_line = None
+axiom_of (and_line x c) = None
+axiom_of (or_line x c) = None
+axiom_of (all_line x y c) = None
+axiom_of (carry_line x y t c) = None
+axiom_of (some_line x y c) = None
+axiom_of (least_line x y c) = None
+axiom_of (choose_line y c) = None
+axiom_of (pair_line y z) = None
+axiom_of (bottom_line x) = None
+axiom_of (clash_line x c) = None
+axiom_of (most_line x c ys) = None
+axiom_of (differ_line y z) = None
 
 abbrev pub is_axiom : ℕ → Option ℕ → Bool
 is_axiom k None = false

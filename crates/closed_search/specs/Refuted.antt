@@ -8,6 +8,7 @@ use Rattle.shq_terms.specs.Uses.{uses_listed}
 use Rattle.calculus_specs.specs.Shape.{Shape}
 use Rattle.calculus_specs.specs.Tree.{tree_of}
 use Rattle.calculus_specs.specs.Line.{Line}
+use Rattle.calculus_specs.specs.Rules.{on_any}
 use Rattle.calculus_specs.specs.Valid.{IsRefutation}
 use Rattle.refutation_truth.specs.Theory.{theory_of}
 use Rattle.refutation_tree.specs.RefutationLists.{RefutationLists}
@@ -31,7 +32,7 @@ uses_names o table line = list_all (concept_is_listed o table) (concept_numbers 
 abbrev pub CloseAll : Listed → Limited → List Shape → Concept → Concept → List NotedLine → Type 0
 CloseAll o set table sub sup lines = leaves (step_of (theory_of o.axioms (member_list set)) table) (noted_start sub sup ∷ []) lines ≡ Some []
 
--- the refutation is valid over the axioms that it names, and can be written
+-- the refutation is valid over the axioms that it names, and has no facts of individuals; it can be written
 pub record IsWrittenRefutation (o : Listed) (sub sup : Concept) (r : RefutationLists) : Type 0 where
-  pub refutes : IsRefutation (theory_of o.axioms (member_list r.axioms)) sub sup r.shapes r.lines
+  pub refutes : IsRefutation (on_any (theory_of o.axioms (member_list r.axioms)) sub sup) r.shapes r.lines
   pub writable : IsWritable o r

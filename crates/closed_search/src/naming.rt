@@ -113,7 +113,11 @@ fn axiom_in(line: &Line) -> Option<u32>
     match line {
         Line::Row(_, axiom, _, _) => Some(*axiom),
         Line::Range(_, _, axiom) => Some(*axiom),
-        _ => None,
+        Line::Fact(axiom, _) => Some(*axiom),
+        Line::Start | Line::Pair(..) | Line::Bottom(..) | Line::Differ(..) => None,
+        Line::And(..) | Line::Or(..) | Line::Choose(..) | Line::Clash(..) => None,
+        Line::All(..) | Line::Carry(..) | Line::SomeOf(..) | Line::Least(..) => None,
+        Line::Most(..) => None,
     }
 }
 

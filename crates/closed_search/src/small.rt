@@ -38,6 +38,8 @@ fn show_small_line(line: &Line)
         Line::Bottom(node) => show_two(*node, *node),
         Line::Clash(node, concept) => show_two(*node, *concept),
         Line::Most(node, concept, ends) => show_more(*node, *node, *concept, ends.items()),
+        Line::Fact(axiom, place) => show_two(*axiom, *place),
+        Line::Differ(one, other) => show_two(*one, *other),
     }
 }
 

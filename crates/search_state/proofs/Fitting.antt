@@ -8,7 +8,7 @@ use Rattle.shq_terms.specs.Concept.{Concept}
 use Rattle.calculus_specs.specs.Rows.{Part, Theory, part_at}
 use Rattle.calculus_specs.specs.Tree.{tree_of}
 use Rattle.calculus_specs.specs.Line.{Line}
-use Rattle.calculus_specs.specs.Line.Line.{start_line, and_line, or_line, all_line, carry_line, row_line, range_line, some_line, least_line, choose_line, pair_line, bottom_line, clash_line, most_line}
+use Rattle.calculus_specs.specs.Line.Line.{start_line, and_line, or_line, all_line, carry_line, row_line, range_line, some_line, least_line, choose_line, pair_line, bottom_line, clash_line, most_line, fact_line, differ_line}
 use Rattle.refutation_tree.specs.RuleLine.{concept_numbers}
 use Rattle.tableau_specs.specs.KeptKinds.{IsKept}
 use Rattle.tableau_specs.specs.Steps.{SearchContext}
@@ -35,7 +35,20 @@ is_found (Some q) h = refl
 abbrev part_there : Theory → Line → Bool
 part_there theory (row_line x a p positions) = is_there (part_at theory a p)
 part_there theory (range_line x y a) = is_there (part_at theory a 1)
-part_there theory _ = true
+part_there theory start_line = true
+part_there theory (and_line x c) = true
+part_there theory (or_line x c) = true
+part_there theory (all_line x y c) = true
+part_there theory (carry_line x y t c) = true
+part_there theory (some_line x y c) = true
+part_there theory (least_line x y c) = true
+part_there theory (choose_line y c) = true
+part_there theory (pair_line y z) = true
+part_there theory (bottom_line x) = true
+part_there theory (clash_line x c) = true
+part_there theory (most_line x c ys) = true
+part_there theory (fact_line a p) = true
+part_there theory (differ_line y z) = true
 
 has_part : (theory : Theory) (line : Line) → part_there theory line ≡ true → HasPart theory line
 has_part theory (row_line x a p positions) h = there (part_at theory a p) h
@@ -52,6 +65,8 @@ has_part theory (pair_line y z) h = tt
 has_part theory (bottom_line x) h = tt
 has_part theory (clash_line x c) h = tt
 has_part theory (most_line x c ys) h = tt
+has_part theory (fact_line a p) h = tt
+has_part theory (differ_line y z) h = tt
 
 shows_part : (theory : Theory) (line : Line) → HasPart theory line → part_there theory line ≡ true
 shows_part theory (row_line x a p positions) h = is_found (part_at theory a p) h
@@ -68,6 +83,8 @@ shows_part theory (pair_line y z) h = refl
 shows_part theory (bottom_line x) h = refl
 shows_part theory (clash_line x c) h = refl
 shows_part theory (most_line x c ys) h = refl
+shows_part theory (fact_line a p) h = refl
+shows_part theory (differ_line y z) h = refl
 
 -- ---- fit lines by tests
 

@@ -14,7 +14,7 @@ use Rattle.calculus_specs.specs.Joins.IsJoined.{itself, by_fact}
 use Rattle.calculus_specs.specs.State.{gives_concept, is_given, has_tree, gives_edge, has_edge, gives_apart, are_apart}
 use Rattle.calculus_specs.proofs.Joined.{rep-joined, joined-rep, joined_on, joined_back}
 use Rattle.calculus_specs.specs.Rules.{Known}
-use Rattle.search_trace.specs.Premises.{Premise, is_node, has_concept, has_edge_below, is_apart, holds}
+use Rattle.search_trace.specs.Premises.{Premise, is_node, has_concept, has_edge_below, is_apart, is_one, holds}
 use Rattle.lane_sieve.specs.Sets.{NumberSet}
 use Rattle.search_trace.specs.Noted.{Marked, is_within, within}
 use Rattle.search_trace.specs.Among.{IsAmong, IsPart}
@@ -126,6 +126,7 @@ module _ (theory : Theory) (less more : Known) (part : IsPart less more) where
   premise_stays (has_concept x c) h = tree_stays less.facts more.facts part.facts x c h
   premise_stays (has_edge_below s x y) h = edge_stays less.facts more.facts part.facts (λ r. theory.below r s) x y h
   premise_stays (is_apart x y) h = apart_stays less.facts more.facts part.facts x y h
+  premise_stays (is_one x y) h = one_rep less.facts more.facts part.facts x y h
 
   pub premises_stay : (ps : List Premise) → list_all (holds theory less) ps ≡ true → list_all (holds theory more) ps ≡ true
   premises_stay [] h = refl

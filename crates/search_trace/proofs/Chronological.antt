@@ -15,7 +15,7 @@ use Rattle.tableau_specs.specs.declared.Item.{Item}
 use Rattle.tableau_specs.specs.declared.Item.TheVariants.{Fact as Says, Mark}
 use Rattle.tableau_specs.specs.Items.{facts_of, says}
 use Rattle.calculus_specs.specs.Line.{Line}
-use Rattle.calculus_specs.specs.Rules.{Known, when, children_of}
+use Rattle.calculus_specs.specs.Rules.{on_any, Known, when, children_of}
 use Rattle.tableau_specs.specs.Lines.{known_by, concept_in}
 use Rattle.search_trace.specs.Premises.{Rule, rule_of, holds, is_new, with_added, is_start, children_by}
 use Rattle.search_trace.specs.Noted.{Marked, marked, is_within, items}
@@ -80,6 +80,6 @@ by_all_of theory table u ms line all full (Some r) e kids h =
 
 pub holds_by_all : (theory : Theory) (sub sup : Concept) (table : List Shape) (u : NumberSet) (ms : List MarkedFact) (line : Line) → AllWithin u ms
     → ((x : ℕ) → x < node_count (items ms) → list_any (λ y. eqb y x) (items (nodes_of ms)) ≡ true) → is_start line ≡ false
-    → (kids : List Known) → children_of theory sub sup (concept_in table) (known_by table (items ms)) line ≡ Some kids → HoldsByAll theory table u ms line
+    → (kids : List Known) → children_of (on_any theory sub sup) (concept_in table) (known_by table (items ms)) line ≡ Some kids → HoldsByAll theory table u ms line
 holds_by_all theory sub sup table u ms line all full no_start kids h =
     by_all_of theory table u ms line all full (rule_of theory (concept_in table) line) refl kids (sym (rules_say theory sub sup (concept_in table) (known_by table (items ms)) line no_start) ∙ h)

@@ -11,8 +11,8 @@ use Rattle.calculus_specs.specs.Shape.{Shape}
 use Rattle.calculus_specs.specs.Rows.{Theory}
 use Rattle.calculus_specs.specs.State.{fresh_facts}
 use Rattle.calculus_specs.specs.Line.{Line}
-use Rattle.calculus_specs.specs.Line.Line.{start_line, and_line, or_line, all_line, carry_line, row_line, range_line, some_line, least_line, choose_line, pair_line, bottom_line, clash_line, most_line}
-use Rattle.calculus_specs.specs.Rules.{Known, when, nothing_known, all_children, and_children, or_children, carry_children, some_children, least_children, clash_children, most_children, at_concept, choose_children, children_of}
+use Rattle.calculus_specs.specs.Line.Line.{start_line, and_line, or_line, all_line, carry_line, row_line, range_line, some_line, least_line, choose_line, pair_line, bottom_line, clash_line, most_line, fact_line, differ_line}
+use Rattle.calculus_specs.specs.Rules.{on_any, Known, when, nothing_known, all_children, and_children, or_children, carry_children, some_children, least_children, clash_children, most_children, at_concept, choose_children, children_of}
 use Rattle.calculus_specs.specs.Valid.{concept_at, open_after_all, IsRefutation}
 use Rattle.calculus_specs.proofs.Stack.{run_refutes}
 use Rattle.search_trace.specs.Premises.{Added, more_facts, more_nodes, with_added, Rule, rule_of, holds, is_new, children_by, is_start}
@@ -73,28 +73,28 @@ module _ (theory : Theory) (sub sup : Concept) (concept : ℕ → Option Concept
   is_no_start k l _ kids h = refl
 
   -- the children of a noted line are those of the line
-  pub step_known : (k : Noted) (l : NotedLine) (kids : List Noted) → noted_children theory concept k l ≡ Some kids → children_of theory sub sup concept (known k) l.line ≡ Some (map known kids)
+  pub step_known : (k : Noted) (l : NotedLine) (kids : List Noted) → noted_children theory concept k l ≡ Some kids → children_of (on_any theory sub sup) concept (known k) l.line ≡ Some (map known kids)
   step_known k l kids h = rules_say theory sub sup concept (known k) l.line (is_no_start k l l.line kids h) ∙ by_known k l (rule_of theory concept l.line) kids h
 
   abbrev pub lines_in : List NotedLine → List Line
   lines_in ls = map (λ l. l.line) ls
 
   run_on : (ls : List NotedLine) (outs ks : List Noted) (k : Noted) (l : NotedLine) (r : Option (List Noted)) → noted_children theory concept k l ≡ r
-      → ((now : List Noted) → leaves (noted_children theory concept) now ls ≡ Some outs → open_after_all theory sub sup concept (map known now) (lines_in ls) ≡ Some (map known outs))
+      → ((now : List Noted) → leaves (noted_children theory concept) now ls ≡ Some outs → open_after_all (on_any theory sub sup) concept (map known now) (lines_in ls) ≡ Some (map known outs))
       → option_and_then (λ (left : List Noted). leaves (noted_children theory concept) left ls) (option_map (λ (new : List Noted). new ++ ks) r) ≡ Some outs
-      → open_after_all theory sub sup concept (known k ∷ map known ks) (l.line ∷ lines_in ls) ≡ Some (map known outs)
+      → open_after_all (on_any theory sub sup) concept (known k ∷ map known ks) (l.line ∷ lines_in ls) ≡ Some (map known outs)
   run_on ls outs ks k l None e on h = cc
   run_on ls outs ks k l (Some kids) e on h =
-      ap (λ (o : Option (List Known)). option_and_then (λ (left : List Known). open_after_all theory sub sup concept left (lines_in ls)) (option_map (λ (new : List Known). new ++ map known ks) o)) (step_known k l kids e)
-      ∙ ap (λ (xs : List Known). open_after_all theory sub sup concept xs (lines_in ls)) (sym (map-append known kids ks))
+      ap (λ (o : Option (List Known)). option_and_then (λ (left : List Known). open_after_all (on_any theory sub sup) concept left (lines_in ls)) (option_map (λ (new : List Known). new ++ map known ks) o)) (step_known k l kids e)
+      ∙ ap (λ (xs : List Known). open_after_all (on_any theory sub sup) concept xs (lines_in ls)) (sym (map-append known kids ks))
       ∙ on (kids ++ ks) h
 
-  pub run_known : (ls : List NotedLine) (ks outs : List Noted) → leaves (noted_children theory concept) ks ls ≡ Some outs → open_after_all theory sub sup concept (map known ks) (lines_in ls) ≡ Some (map known outs)
+  pub run_known : (ls : List NotedLine) (ks outs : List Noted) → leaves (noted_children theory concept) ks ls ≡ Some outs → open_after_all (on_any theory sub sup) concept (map known ks) (lines_in ls) ≡ Some (map known outs)
   run_known [] ks outs h = ap (λ (xs : List Noted). Some (map known xs)) (some_eq ks outs h)
   run_known (l ∷ ls) [] outs h = cc
   run_known (l ∷ ls) (k ∷ ks) outs h = run_on ls outs ks k l (noted_children theory concept k l) refl (λ now. run_known ls now outs) h
 
-  pub start_runs : (ls : List NotedLine) → leaves (noted_children theory concept) (noted_start sub sup ∷ []) ls ≡ Some [] → open_after_all theory sub sup concept (nothing_known ∷ []) (start_line ∷ lines_in ls) ≡ Some []
+  pub start_runs : (ls : List NotedLine) → leaves (noted_children theory concept) (noted_start sub sup ∷ []) ls ≡ Some [] → open_after_all (on_any theory sub sup) concept (nothing_known ∷ []) (start_line ∷ lines_in ls) ≡ Some []
   start_runs ls h = run_known ls (noted_start sub sup ∷ []) [] h
 
 -- ---- other numbers of concepts
@@ -103,7 +103,7 @@ module _ (theory : Theory) (sub sup : Concept) (old new : ℕ → Option Concept
   one_number : (c : ℕ) → All (λ d. new (f d) ≡ old d) (c ∷ []) → new (f c) ≡ old c
   one_number c h = All-head (λ d. new (f d) ≡ old d) c [] h
 
-  pub children_renumbered : (k : Known) (line : Line) → Reads old new f line → children_of theory sub sup new k (renumbered f line) ≡ children_of theory sub sup old k line
+  pub children_renumbered : (k : Known) (line : Line) → Reads old new f line → children_of (on_any theory sub sup) new k (renumbered f line) ≡ children_of (on_any theory sub sup) old k line
   children_renumbered k start_line h = refl
   children_renumbered k (and_line x c) h = ap (λ (o : Option Concept). at_concept k x o (and_children k x)) (one_number c h)
   children_renumbered k (or_line x c) h = ap (λ (o : Option Concept). at_concept k x o (or_children k x)) (one_number c h)
@@ -118,21 +118,23 @@ module _ (theory : Theory) (sub sup : Concept) (old new : ℕ → Option Concept
   children_renumbered k (bottom_line x) h = refl
   children_renumbered k (clash_line x c) h = ap (λ (o : Option Concept). at_concept k x o (clash_children k x)) (one_number c h)
   children_renumbered k (most_line x c ys) h = ap (λ (o : Option Concept). at_concept k x o (most_children theory k x ys)) (one_number c h)
+  children_renumbered k (fact_line a p) h = refl
+  children_renumbered k (differ_line y z) h = refl
 
   after_renumbered : (lines : List Line) (ks : List Known) (r s : Option (List Known)) → r ≡ s
-      → ((now : List Known) → open_after_all theory sub sup new now (map (renumbered f) lines) ≡ open_after_all theory sub sup old now lines)
-      → option_and_then (λ (left : List Known). open_after_all theory sub sup new left (map (renumbered f) lines)) (option_map (λ (kids : List Known). kids ++ ks) r)
-      ≡ option_and_then (λ (left : List Known). open_after_all theory sub sup old left lines) (option_map (λ (kids : List Known). kids ++ ks) s)
+      → ((now : List Known) → open_after_all (on_any theory sub sup) new now (map (renumbered f) lines) ≡ open_after_all (on_any theory sub sup) old now lines)
+      → option_and_then (λ (left : List Known). open_after_all (on_any theory sub sup) new left (map (renumbered f) lines)) (option_map (λ (kids : List Known). kids ++ ks) r)
+      ≡ option_and_then (λ (left : List Known). open_after_all (on_any theory sub sup) old left lines) (option_map (λ (kids : List Known). kids ++ ks) s)
   after_renumbered lines ks None None e on = refl
   after_renumbered lines ks None (Some s) e on = cc
   after_renumbered lines ks (Some r) None e on = cc
-  after_renumbered lines ks (Some r) (Some s) e on = on (r ++ ks) ∙ ap (λ (xs : List Known). open_after_all theory sub sup old (xs ++ ks) lines) (some_eq r s e)
+  after_renumbered lines ks (Some r) (Some s) e on = on (r ++ ks) ∙ ap (λ (xs : List Known). open_after_all (on_any theory sub sup) old (xs ++ ks) lines) (some_eq r s e)
 
-  pub run_renumbered : (lines : List Line) → All (Reads old new f) lines → (ks : List Known) → open_after_all theory sub sup new ks (map (renumbered f) lines) ≡ open_after_all theory sub sup old ks lines
+  pub run_renumbered : (lines : List Line) → All (Reads old new f) lines → (ks : List Known) → open_after_all (on_any theory sub sup) new ks (map (renumbered f) lines) ≡ open_after_all (on_any theory sub sup) old ks lines
   run_renumbered [] h ks = refl
   run_renumbered (line ∷ lines) h [] = refl
   run_renumbered (line ∷ lines) h (k ∷ ks) =
-      after_renumbered lines ks (children_of theory sub sup new k (renumbered f line)) (children_of theory sub sup old k line)
+      after_renumbered lines ks (children_of (on_any theory sub sup) new k (renumbered f line)) (children_of (on_any theory sub sup) old k line)
       (children_renumbered k line (All-head (Reads old new f) line lines h)) (run_renumbered lines (All-tail (Reads old new f) line lines h))
 
 -- ---- a refutation
@@ -140,7 +142,7 @@ module _ (theory : Theory) (sub sup : Concept) (old new : ℕ → Option Concept
 -- lines that close the branch of `start` are a refutation, over the shapes by whose numbers they are renumbered
 pub refutes : (theory : Theory) (sub sup : Concept) (concept : ℕ → Option Concept) (shapes : List Shape) (f : ℕ → ℕ) (ls : List NotedLine)
     → All (Reads concept (concept_at shapes) f) (map (λ l. l.line) ls) → leaves (noted_children theory concept) (noted_start sub sup ∷ []) ls ≡ Some []
-    → IsRefutation theory sub sup shapes (start_line ∷ map (renumbered f) (map (λ l. l.line) ls))
+    → IsRefutation (on_any theory sub sup) shapes (start_line ∷ map (renumbered f) (map (λ l. l.line) ls))
 refutes theory sub sup concept shapes f ls reads h =
-    run_refutes theory sub sup shapes (start_line ∷ map (renumbered f) (lines_in theory sub sup concept ls))
+    run_refutes (on_any theory sub sup) shapes (start_line ∷ map (renumbered f) (lines_in theory sub sup concept ls))
     (run_renumbered theory sub sup concept (concept_at shapes) f (lines_in theory sub sup concept ls) reads (known (noted_start sub sup) ∷ []) ∙ start_runs theory sub sup concept ls h)

@@ -9,10 +9,11 @@ use Rattle.calculus_specs.specs.Normal.{negated_form}
 use Rattle.calculus_specs.specs.Rows.{Part, Theory, part_at, conjunct_at, are_name_positions, row_concept}
 use Rattle.calculus_specs.specs.Rows.Part.{inclusion, range}
 use Rattle.calculus_specs.specs.declared.facts.Fact.TheVariants.{Has, Apart, Same}
+use Rattle.calculus_specs.specs.Joins.{rep}
 use Rattle.calculus_specs.specs.State.{has_tree, has_edge, are_apart, all_apart}
 use Rattle.calculus_specs.specs.Line.{Line}
-use Rattle.calculus_specs.specs.Line.Line.{start_line, and_line, or_line, all_line, carry_line, row_line, range_line, some_line, least_line, choose_line, pair_line, bottom_line, clash_line, most_line}
-use Rattle.calculus_specs.specs.Rules.{Known, knows, knows_some_from, with_facts, with_nodes, when, at_concept, and_children, or_children, all_children, carry_children, row_children, range_children, some_children, least_children, choose_children, clash_children, are_fillers, most_children, children_of}
+use Rattle.calculus_specs.specs.Line.Line.{start_line, and_line, or_line, all_line, carry_line, row_line, range_line, some_line, least_line, choose_line, pair_line, bottom_line, clash_line, most_line, fact_line, differ_line}
+use Rattle.calculus_specs.specs.Rules.{on_any, Known, knows, knows_some_from, with_facts, with_nodes, when, at_concept, and_children, or_children, all_children, carry_children, row_children, range_children, some_children, least_children, choose_children, clash_children, are_fillers, most_children, children_of}
 use Rattle.search_trace.specs.Premises.{Premise, is_node, has_concept, has_edge_below, is_apart, holds, more_facts, more_nodes, with_added, is_new, Rule, and_rule, or_rule, all_rule, carry_rule, row_rule, range_rule, some_rule, least_rule, choose_rule, clash_rule, filler_premises, apart_premises, most_rule, rule_of, children_by, is_start}
 
 -- ---- tests
@@ -41,6 +42,13 @@ chain_three true true true = refl
 chain_three true true false = refl
 chain_three true false c = refl
 chain_three false b c = refl
+
+chain_four : (a b c d : Bool) → (a && b && c && d) ≡ (a && (b && (c && (d && true))))
+chain_four true true true true = refl
+chain_four true true true false = refl
+chain_four true true false d = refl
+chain_four true false c d = refl
+chain_four false b c d = refl
 
 one_known : (k : Known) (y : ℕ) → knows_some_from k y 1 ≡ knows k y
 one_known k y = any_same k.nodes
@@ -204,7 +212,7 @@ module _ (theory : Theory) (k : Known) where
 
 -- but for `start`, the children of a line are those that its rule gives
 pub rules_say : (theory : Theory) (sub sup : Concept) (concept : ℕ → Option Concept) (k : Known) (line : Line) → is_start line ≡ false
-    → children_of theory sub sup concept k line ≡ children_by theory k (rule_of theory concept line)
+    → children_of (on_any theory sub sup) concept k line ≡ children_by theory k (rule_of theory concept line)
 rules_say theory sub sup concept k start_line h = cc
 rules_say theory sub sup concept k (and_line x c) h = and_says theory k x (concept c)
 rules_say theory sub sup concept k (or_line x c) h = or_says theory k x (concept c)
@@ -219,3 +227,6 @@ rules_say theory sub sup concept k (pair_line y z) h = two_say theory k (knows k
 rules_say theory sub sup concept k (bottom_line x) h = two_say theory k (knows k x) (has_tree k.facts x bottom) (Some [])
 rules_say theory sub sup concept k (clash_line x c) h = clash_says theory k x (concept c)
 rules_say theory sub sup concept k (most_line x c ys) h = most_says theory k x ys (concept c)
+rules_say theory sub sup concept k (fact_line a p) h = refl
+rules_say theory sub sup concept k (differ_line y z) h =
+    ap (λ (b : Bool). when b (Some [])) (chain_four (knows k y) (knows k z) (are_apart k.facts y z) (eqb (rep k.facts y) (rep k.facts z)))

@@ -4,7 +4,7 @@ use Rattle.calculus_specs.specs.Concept.{Concept, intersection, all_of, some_of,
 use Rattle.calculus_specs.specs.Rows.{Part, Theory, part_at, are_name_positions}
 use Rattle.calculus_specs.specs.Rows.Part.{inclusion, range}
 use Rattle.calculus_specs.specs.Line.{Line}
-use Rattle.calculus_specs.specs.Line.Line.{start_line, and_line, or_line, all_line, carry_line, row_line, range_line, some_line, least_line, choose_line, pair_line, bottom_line, clash_line, most_line}
+use Rattle.calculus_specs.specs.Line.Line.{start_line, and_line, or_line, all_line, carry_line, row_line, range_line, some_line, least_line, choose_line, pair_line, bottom_line, clash_line, most_line, fact_line, differ_line}
 use Rattle.calculus_specs.specs.Rules.{when}
 use Rattle.search_trace.specs.Premises.{Added, Rule, and_rule, all_rule, carry_rule, row_rule, range_rule, some_rule, least_rule, rule_of, is_single}
 
@@ -63,3 +63,5 @@ has_one theory concept (pair_line y z) h = cc
 has_one theory concept (bottom_line x) h = cc
 has_one theory concept (clash_line x c) h = cc
 has_one theory concept (most_line x c ys) h = cc
+has_one theory concept (fact_line a p) h = tt
+has_one theory concept (differ_line y z) h = cc

@@ -16,7 +16,7 @@ use Rattle.tableau_specs.specs.Items.{facts_of}
 use Rattle.tableau_specs.specs.Lines.{known_by, concept_in}
 use Rattle.calculus_specs.specs.Line.{Line}
 use Rattle.calculus_specs.specs.Line.Line.{start_line}
-use Rattle.calculus_specs.specs.Rules.{Known, children_of}
+use Rattle.calculus_specs.specs.Rules.{on_any, Known, children_of}
 use Rattle.calculus_specs.specs.Valid.{concept_at, open_after_all, IsRefutation}
 use Rattle.search_trace.specs.Premises.{Premise, holds, Added, Rule, rule_of, children_by, is_start, is_branching, is_single}
 use Rattle.search_trace.specs.Leaves.{leaves}
@@ -35,7 +35,7 @@ use Rattle.search_trace.specs.Places.{Place, IsTraced, IsClosing, opened_place, 
 -- but for `start`, what a line asks of a branch is a list of facts, and what it adds does not depend on the branch
 abbrev pub RulesSayChildren : Type 0
 RulesSayChildren = (theory : Theory) (sub sup : Concept) (concept : ℕ → Option Concept) (k : Known) (line : Line) → is_start line ≡ false
-    → children_of theory sub sup concept k line ≡ children_by theory k (rule_of theory concept line)
+    → children_of (on_any theory sub sup) concept k line ≡ children_by theory k (rule_of theory concept line)
 
 -- a fact that holds in a branch holds in one that knows more, also where that joins more nodes
 abbrev pub PremisesStay : Type 0
@@ -98,7 +98,7 @@ abbrev pub ClosedTracesRefute : Type 0
 ClosedTracesRefute =
     (theory : Theory) (sub sup : Concept) (concept : ℕ → Option Concept) (shapes : List Shape) (f : ℕ → ℕ) (ls : List NotedLine)
     → All (Reads concept (concept_at shapes) f) (map (λ l. l.line) ls) → leaves (noted_children theory concept) (noted_start sub sup ∷ []) ls ≡ Some []
-    → IsRefutation theory sub sup shapes (start_line ∷ map (renumbered f) (map (λ l. l.line) ls))
+    → IsRefutation (on_any theory sub sup) shapes (start_line ∷ map (renumbered f) (map (λ l. l.line) ls))
 
 -- what a line asks and adds, by the shapes of the table that its numbers are of
 abbrev pub RulesFollowShapes : Type 0
@@ -128,11 +128,11 @@ TrailsRestOnChoices = (is : List Item) → AllWithin (choices_of is) (marked_fac
 abbrev pub LinesHoldByAll : Type 0
 LinesHoldByAll = (theory : Theory) (sub sup : Concept) (table : List Shape) (u : NumberSet) (ms : List MarkedFact) (line : Line) → AllWithin u ms
     → ((x : ℕ) → x < node_count (items ms) → list_any (λ y. y == x) (items (nodes_of ms)) ≡ true) → is_start line ≡ false
-    → (kids : List Known) → children_of theory sub sup (concept_in table) (known_by table (items ms)) line ≡ Some kids → HoldsByAll theory table u ms line
+    → (kids : List Known) → children_of (on_any theory sub sup) (concept_in table) (known_by table (items ms)) line ≡ Some kids → HoldsByAll theory table u ms line
 
 -- ---- the axioms that lines name
 
 -- lines run the same way over theories with the same roles, and the same parts of the axioms that they name
 abbrev pub NamedPartsServe : Type 0
 NamedPartsServe = (one other : Theory) (sub sup : Concept) (concept : ℕ → Option Concept) → HaveSameRoles one other → (lines : List Line) → All (HaveSamePart one other) lines → (ks : List Known)
-    → open_after_all one sub sup concept ks lines ≡ open_after_all other sub sup concept ks lines
+    → open_after_all (on_any one sub sup) concept ks lines ≡ open_after_all (on_any other sub sup) concept ks lines

@@ -1,14 +1,16 @@
 -- Branches whose nodes and facts each rest on a set of marks, and rule lines that each rest on one.
-use Rattle.std.specs.Prelude.{ℕ, ◌&&◌, not, Bool, List, ◌++◌, map, filter, Option, Some, None, if◌then◌else◌}
+use Rattle.std.specs.Prelude.{ℕ, ◌&&◌, not, Bool, List, [], ◌∷◌, ◌++◌, map, filter, Option, Some, None, if◌then◌else◌}
 use Rattle.std.specs.List.{list_any, list_all, range_with_len}
 use Rattle.std.specs.FinSet as sets
 use Rattle.calculus_specs.specs.Concept.{Concept}
 use Rattle.lane_sieve.specs.Sets.{NumberSet}
+use Rattle.calculus_specs.specs.Normal.{normal_form, negated_form}
 use Rattle.calculus_specs.specs.Rows.{Theory}
 use Rattle.calculus_specs.specs.declared.facts.Fact.{Fact}
+use Rattle.calculus_specs.specs.declared.facts.Fact.TheVariants.{Has}
 use Rattle.calculus_specs.specs.State.{fresh_facts}
 use Rattle.calculus_specs.specs.Line.{Line}
-use Rattle.calculus_specs.specs.Rules.{Known, when, started}
+use Rattle.calculus_specs.specs.Rules.{Known, when}
 use Rattle.search_trace.specs.Premises.{Added, more_facts, more_nodes, Rule, rule_of, holds, is_new, is_branching, is_single}
 
 -- a thing that rests on marks
@@ -67,9 +69,12 @@ module _ (theory : Theory) (concept : ℕ → Option Concept) where
   abbrev pub noted_children : Noted → NotedLine → Option (List Noted)
   noted_children k l = noted_by k l (rule_of theory concept l.line)
 
--- the branch of `start`, which rests on no mark
+-- the branch of `start` where there are no individuals: node 0, which is in `sub` and not in `sup`; it rests on no mark
 abbrev pub noted_start : Concept → Concept → Noted
-noted_start sub sup = record { nodes = map (marked sets.empty) (started sub sup).nodes; facts = map (marked sets.empty) (started sub sup).facts }
+noted_start sub sup = record {
+  nodes = marked sets.empty 0 ∷ [];
+  facts = marked sets.empty (Has 0 (normal_form sub)) ∷ marked sets.empty (Has 0 (negated_form sup)) ∷ [];
+}
 
 -- ---- taking out what rests on a mark
 

@@ -7,9 +7,10 @@ use Rattle.calculus_specs.specs.Rows.{Part, Theory, part_at, conjunct_at, are_na
 use Rattle.calculus_specs.specs.Rows.Part.{inclusion, range}
 use Rattle.calculus_specs.specs.declared.facts.Fact.{Fact}
 use Rattle.calculus_specs.specs.declared.facts.Fact.TheVariants.{Has, Apart, Same}
+use Rattle.calculus_specs.specs.Joins.{rep}
 use Rattle.calculus_specs.specs.State.{has_tree, has_edge, are_apart}
 use Rattle.calculus_specs.specs.Line.{Line}
-use Rattle.calculus_specs.specs.Line.Line.{start_line, and_line, or_line, all_line, carry_line, row_line, range_line, some_line, least_line, choose_line, pair_line, bottom_line, clash_line, most_line}
+use Rattle.calculus_specs.specs.Line.Line.{start_line, and_line, or_line, all_line, carry_line, row_line, range_line, some_line, least_line, choose_line, pair_line, bottom_line, clash_line, most_line, fact_line, differ_line}
 use Rattle.calculus_specs.specs.Rules.{Known, knows, knows_some_from, with_facts, with_nodes, when}
 
 -- ---- premises
@@ -19,6 +20,7 @@ pub data Premise : Type 0 where
   has_concept : (x : ℕ) (c : Concept) → Premise
   has_edge_below : (s x y : ℕ) → Premise
   is_apart : (x y : ℕ) → Premise
+  is_one : (x y : ℕ) → Premise
 
 -- whether a premise holds in a branch; facts are read through joins
 abbrev pub holds : Theory → Known → Premise → Bool
@@ -26,6 +28,7 @@ holds theory k (is_node x) = knows k x
 holds theory k (has_concept x c) = has_tree k.facts x c
 holds theory k (has_edge_below s x y) = has_edge k.facts (λ r. theory.below r s) x y
 holds theory k (is_apart x y) = are_apart k.facts x y
+holds theory k (is_one x y) = rep k.facts x == rep k.facts y
 
 -- ---- what a child adds
 
@@ -114,7 +117,7 @@ most_rule x ys (Some (at_most n s e)) = when (length ys == n + 1) (Some (record 
 }))
 most_rule x ys _ = None
 
--- the rule that a line uses, but for `start`, which has its own branch
+-- The rule that a line uses, but for `start`, which has its own branch. A line `fact` has none: no axiom gives facts.
 abbrev pub rule_of : Theory → (ℕ → Option Concept) → Line → Option Rule
 rule_of theory concept start_line = None
 rule_of theory concept (and_line x c) = and_rule x (concept c)
@@ -130,6 +133,8 @@ rule_of theory concept (pair_line y z) = Some (record { premises = is_node y ∷
 rule_of theory concept (bottom_line x) = Some (record { premises = is_node x ∷ has_concept x bottom ∷ []; children = [] })
 rule_of theory concept (clash_line x c) = clash_rule x (concept c)
 rule_of theory concept (most_line x c ys) = most_rule x ys (concept c)
+rule_of theory concept (fact_line a p) = None
+rule_of theory concept (differ_line y z) = Some (record { premises = is_node y ∷ is_node z ∷ is_apart y z ∷ is_one y z ∷ []; children = [] })
 
 -- the children that a rule gives to a branch
 abbrev pub children_by : Theory → Known → Option Rule → Option (List Known)
@@ -140,19 +145,57 @@ children_by theory k (Some r) = when (list_all (holds theory k) r.premises) (whe
 
 abbrev pub is_start : Line → Bool
 is_start start_line = true
-is_start _ = false
+is_start (and_line x c) = false
+is_start (or_line x c) = false
+is_start (all_line x y c) = false
+is_start (carry_line x y t c) = false
+is_start (row_line x a p positions) = false
+is_start (range_line x y a) = false
+is_start (some_line x y c) = false
+is_start (least_line x y c) = false
+is_start (choose_line y c) = false
+is_start (pair_line y z) = false
+is_start (bottom_line x) = false
+is_start (clash_line x c) = false
+is_start (most_line x c ys) = false
+is_start (fact_line a p) = false
+is_start (differ_line y z) = false
 
 abbrev pub is_branching : Line → Bool
 is_branching (or_line x c) = true
 is_branching (choose_line y c) = true
 is_branching (pair_line y z) = true
-is_branching _ = false
+is_branching start_line = false
+is_branching (and_line x c) = false
+is_branching (all_line x y c) = false
+is_branching (carry_line x y t c) = false
+is_branching (row_line x a p positions) = false
+is_branching (range_line x y a) = false
+is_branching (some_line x y c) = false
+is_branching (least_line x y c) = false
+is_branching (bottom_line x) = false
+is_branching (clash_line x c) = false
+is_branching (most_line x c ys) = false
+is_branching (fact_line a p) = false
+is_branching (differ_line y z) = false
 
 abbrev pub is_clash : Line → Bool
 is_clash (bottom_line x) = true
 is_clash (clash_line x c) = true
 is_clash (most_line x c ys) = true
-is_clash _ = false
+is_clash (differ_line y z) = true
+is_clash start_line = false
+is_clash (and_line x c) = false
+is_clash (or_line x c) = false
+is_clash (all_line x y c) = false
+is_clash (carry_line x y t c) = false
+is_clash (row_line x a p positions) = false
+is_clash (range_line x y a) = false
+is_clash (some_line x y c) = false
+is_clash (least_line x y c) = false
+is_clash (choose_line y c) = false
+is_clash (pair_line y z) = false
+is_clash (fact_line a p) = false
 
 -- whether a line has exactly one child, where its premises hold
 abbrev pub is_single : Line → Bool

@@ -2,7 +2,7 @@
 use Rattle.std.specs.Prelude.{◌≡◌, ℕ, List, [], ◌∷◌, Option, All}
 use Rattle.calculus_specs.specs.Concept.{Concept}
 use Rattle.calculus_specs.specs.Line.{Line}
-use Rattle.calculus_specs.specs.Line.Line.{start_line, and_line, or_line, all_line, carry_line, row_line, range_line, some_line, least_line, choose_line, pair_line, bottom_line, clash_line, most_line}
+use Rattle.calculus_specs.specs.Line.Line.{start_line, and_line, or_line, all_line, carry_line, row_line, range_line, some_line, least_line, choose_line, pair_line, bottom_line, clash_line, most_line, fact_line, differ_line}
 use Rattle.refutation_tree.specs.RuleLine.{concept_numbers}
 
 abbrev pub renumbered : (ℕ → ℕ) → Line → Line
@@ -20,6 +20,8 @@ renumbered f (row_line x a p positions) = row_line x a p positions
 renumbered f (range_line x y a) = range_line x y a
 renumbered f (pair_line y z) = pair_line y z
 renumbered f (bottom_line x) = bottom_line x
+renumbered f (fact_line a p) = fact_line a p
+renumbered f (differ_line y z) = differ_line y z
 
 -- the new numbers stand for the concepts that the old ones stand for
 abbrev pub Reads : (ℕ → Option Concept) → (ℕ → Option Concept) → (ℕ → ℕ) → Line → Type 0

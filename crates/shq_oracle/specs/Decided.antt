@@ -1,10 +1,11 @@
 -- What the answer to a question is, and what the log says of it.
-use Rattle.std.specs.Prelude.{◌≡◌, ℕ, ◌≤◌, ◌<◌, Bool, true, false, IsTrue, List, [], ◌∷◌, ◌++◌, IfSome}
+use Rattle.std.specs.Prelude.{◌≡◌, ℕ, ◌≤◌, ◌<◌, Bool, true, false, IsTrue, List, [], ◌∷◌, ◌++◌, length, IfSome}
 use Rattle.lane_sieve.specs.Sets.{IsPart}
 use Rattle.axiom_sets.specs.Sets.{Limited, member_list}
 use Rattle.shq_terms.specs.Listed.{Listed}
 use Rattle.shq_terms.specs.declared.axioms.Query.{Query}
 use Rattle.calculus_specs.specs.Valid.{IsRefutation}
+use Rattle.refutation_truth.specs.Theory.{question_of}
 use Rattle.closed_search.specs.Named.{NamesAxioms}
 use Rattle.refutation_tree.specs.RefutationLists.{RefutationLists}
 use Rattle.refutation_tree.specs.ReadBack.{IsWritable}
@@ -22,7 +23,7 @@ use Rattle.run_log.specs.declared.entry.Entry.TheVariants.{Test, Node}
 use Rattle.run_log.specs.declared.entry.TestEnd.{TestEnd}
 use Rattle.run_log.specs.declared.entry.TestEnd.TheVariants as E
 use Rattle.run_log.specs.Entries.{spent_of}
-use Rattle.run_log.specs.HonestLog.{theory_in, IsHonestEnd, IsHonestEntry}
+use Rattle.run_log.specs.HonestLog.{IsHonestEnd, IsHonestEntry}
 use Rattle.shq_oracle.specs.declared.answer.Answer.{Answer}
 use Rattle.shq_oracle.specs.declared.answer.Answer.TheVariants as Answered
 use Rattle.shq_oracle.specs.declared.answer.Outcome.{Outcome}
@@ -38,7 +39,7 @@ use Rattle.shq_oracle.specs.ApartLists.{ApartLists, AreApart, IsAbout, entry_of}
 pub record IsProof (o : Listed) (s : Limited) (q : Query) (r : RefutationLists) : Type 0 where
   pub named : IsPart r.axioms.members s.members
   pub standing : NamesAxioms o.axioms s r.lines r.axioms
-  pub refutes : IsRefutation (theory_in o r.axioms) q.sub q.sup r.shapes r.lines
+  pub refutes : IsRefutation (question_of (length o.individuals) o.axioms (member_list r.axioms) q) r.shapes r.lines
   pub writable : IsWritable o r
 
 -- a counter-model of the set and the query, which can be written

@@ -120,6 +120,7 @@ fn with_refutation<A: Allocator + Copy>(
 ) -> Result<Found, NoMemory>
     requires whole { search.now.failed ≡ false }
     requires set { IsAxiomSet search.now.rules.ontology search.now.rules.set }
+    requires without_individuals { IsWithoutIndividuals search.now.rules.ontology search.now.query }
     requires ended { IsAtRefutation refutation search.now }
     ensures { IfOk result (λ f. (fuel : ℕ) → search.now.steps ≤ fuel → IsFoundBy search.now fuel f) }
 {

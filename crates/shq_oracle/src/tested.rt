@@ -135,6 +135,7 @@ fn with_yes<A: Allocator + Copy>(
 ) -> Result<Tested, NoMemory>
     requires whole { search.now.failed ≡ false }
     requires set { IsAxiomSet search.now.rules.ontology search.now.rules.set }
+    requires without_individuals { IsWithoutIndividuals search.now.rules.ontology search.now.query }
     requires ended { IsAtRefutation refutation search.now }
     ensures { IfOk result (λ t. (fuel : ℕ) → search.now.steps ≤ fuel → IsTestedBy search.now fuel t) }
 {

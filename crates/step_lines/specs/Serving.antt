@@ -10,7 +10,7 @@ use Rattle.calculus_specs.specs.Tree.{tree_of}
 use Rattle.calculus_specs.specs.declared.facts.Fact.{Fact}
 use Rattle.calculus_specs.specs.State.{is_so, fresh_facts}
 use Rattle.calculus_specs.specs.Line.{Line}
-use Rattle.calculus_specs.specs.Line.Line.{row_line, range_line}
+use Rattle.calculus_specs.specs.Line.Line.{start_line, and_line, or_line, all_line, carry_line, row_line, range_line, some_line, least_line, choose_line, pair_line, bottom_line, clash_line, most_line, fact_line, differ_line}
 use Rattle.refutation_tree.specs.RuleLine.{concept_numbers}
 use Rattle.tableau_specs.specs.KeptKinds.{IsKept}
 use Rattle.tableau_specs.specs.StepLaws.{AreOfKind}
@@ -36,7 +36,20 @@ HoldWithin u ms grounds = list_all (is_so (within u ms)) grounds ≡ true
 abbrev pub HasPart : Theory → Line → Type 0
 HasPart theory (row_line x a p positions) = (q : Part) × (part_at theory a p ≡ Some q)
 HasPart theory (range_line x y a) = (q : Part) × (part_at theory a 1 ≡ Some q)
-HasPart theory _ = Unit {0}
+HasPart theory start_line = Unit {0}
+HasPart theory (and_line x c) = Unit {0}
+HasPart theory (or_line x c) = Unit {0}
+HasPart theory (all_line x y c) = Unit {0}
+HasPart theory (carry_line x y t c) = Unit {0}
+HasPart theory (some_line x y c) = Unit {0}
+HasPart theory (least_line x y c) = Unit {0}
+HasPart theory (choose_line y c) = Unit {0}
+HasPart theory (pair_line y z) = Unit {0}
+HasPart theory (bottom_line x) = Unit {0}
+HasPart theory (clash_line x c) = Unit {0}
+HasPart theory (most_line x c ys) = Unit {0}
+HasPart theory (fact_line a p) = Unit {0}
+HasPart theory (differ_line y z) = Unit {0}
 
 -- the grounds are so, and the line's premises follow from them; its children add that, and these nodes are known by the
 -- same marks; the concepts that the line names are numbers of the table, and of each kind that the rules keep

@@ -13,7 +13,7 @@ use Rattle.calculus_specs.specs.Tree.{tree_of}
 use Rattle.role_box.specs.Counted.{counted_roles, counted_by}
 use Rattle.ontology_limits.specs.Limits.{IsOntologyInLimit}
 use Rattle.calculus_specs.specs.Line.{Line}
-use Rattle.calculus_specs.specs.Line.Line.{start_line, and_line, or_line, all_line, carry_line, row_line, range_line, some_line, least_line, choose_line, pair_line, bottom_line, clash_line, most_line}
+use Rattle.calculus_specs.specs.Line.Line.{start_line, and_line, or_line, all_line, carry_line, row_line, range_line, some_line, least_line, choose_line, pair_line, bottom_line, clash_line, most_line, fact_line, differ_line}
 use Rattle.refutation_truth.specs.Theory.{theory_of}
 use Rattle.refutation_tree.specs.RuleLine.{concept_numbers}
 use Rattle.refutation_tree.specs.Written.{line_is_listed}
@@ -132,6 +132,8 @@ module _ (o : Listed) where
     line_listed (bottom_line x) h u = refl
     line_listed (clash_line x c) h u = refl
     line_listed (most_line x c ys) h u = refl
+    line_listed (fact_line a p) h u = refl
+    line_listed (differ_line y z) h u = refl
 
     -- ---- lines that close
 

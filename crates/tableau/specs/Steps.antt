@@ -7,6 +7,7 @@ use Rattle.shq_terms.specs.declared.axioms.Query.{Query}
 use Rattle.shq_meaning.specs.Truth.{Entails}
 use Rattle.lane_sieve.specs.Sets.{IsPart}
 use Rattle.axiom_sets.specs.Sets.{Limited, member_list}
+use Rattle.calculus_specs.specs.Rules.{on_any}
 use Rattle.calculus_specs.specs.Valid.{IsRefutation}
 use Rattle.refutation_tree.specs.RefutationLists.{RefutationLists}
 use Rattle.refutation_tree.specs.ReadBack.{IsWritable}
@@ -27,13 +28,13 @@ use Rattle.tableau.specs.SearchState.{SearchState, context_of, trail_of}
 
 -- ---- refutations
 
--- it is a valid refutation of the query over axioms of the set, which can be written; of the set it names the role
--- axioms, and those others alone that stand in its lines
+-- it is a valid refutation of the query over axioms of the set, without facts of individuals, which can be written; of
+-- the set it names the role axioms, and those others alone that stand in its lines
 pub record Refutes (rules : RuleLists) (query : Query) (r : RefutationLists) : Type 0 where
   pub limit : r.axioms.limit ≡ length rules.ontology.axioms
   pub named : IsPart r.axioms.members rules.set.members
   pub standing : NamesAxioms rules.ontology.axioms rules.set r.lines r.axioms
-  pub refutes : IsRefutation (theory_of rules.ontology.axioms (member_list r.axioms)) query.sub query.sup r.shapes r.lines
+  pub refutes : IsRefutation (on_any (theory_of rules.ontology.axioms (member_list r.axioms)) query.sub query.sup) r.shapes r.lines
   pub writable : IsWritable rules.ontology r
 
 -- ---- where a search ends

@@ -1,5 +1,6 @@
--- A clash is a rule line without children whose premises hold, and such a line is a clash.
-use Rattle.std.proofs.Common.{◌≡◌, ℕ, zero, suc, ◌+◌, ◌<◌, ◌&&◌, eqb, ltb, cond, Bool, true, false, List, [], ◌∷◌, map, length, get_or, Option, Some, None, refl, ap, ◌∙◌, sym, arith, inl, inr, eq-eqb}
+-- A clash is a rule line without children whose premises hold, and such a line is a clash, or tells that two nodes are
+-- apart and one.
+use Rattle.std.proofs.Common.{◌≡◌, ◌⊎◌, ℕ, zero, suc, ◌+◌, ◌<◌, ◌&&◌, eqb, ltb, cond, Bool, true, false, List, [], ◌∷◌, map, length, get_or, Option, Some, None, refl, ap, ◌∙◌, sym, arith, inl, inr, eq-eqb}
 use Rattle.std.specs.List.{list_any, range_with_len, All}
 use Rattle.std.proofs.lemmas.Bool.{cases_Bool, or_cases, eqb-true, ltb-true, and_parts, or_right}
 use Rattle.std.proofs.lemmas.List.Elements.{All-nil, All-cons}
@@ -15,19 +16,19 @@ use Rattle.calculus_specs.proofs.Unique.{tree_of_shape}
 use Rattle.calculus_specs.specs.declared.facts.Fact.{Fact}
 use Rattle.calculus_specs.specs.declared.facts.Fact.TheVariants.{Has, Edge, Apart, Same}
 use Rattle.calculus_specs.specs.Joins.{rep}
-use Rattle.calculus_specs.specs.State.{node_count, gives_concept, has, has_tree, has_edge, all_apart}
+use Rattle.calculus_specs.specs.State.{node_count, gives_concept, has, has_tree, has_edge, are_apart, all_apart}
 use Rattle.calculus_specs.specs.Reading.{read_facts, are_listed}
-use Rattle.calculus_specs.proofs.Reading.{reps-read, has-read}
+use Rattle.calculus_specs.proofs.Reading.{keeps_state, reps-read, has-read}
 use Rattle.calculus_specs.specs.Line.{Line}
-use Rattle.calculus_specs.specs.Line.Line.{start_line, and_line, or_line, all_line, carry_line, row_line, range_line, some_line, least_line, choose_line, pair_line, bottom_line, clash_line, most_line}
-use Rattle.calculus_specs.specs.Rules.{Known, knows, with_facts, when, at_concept, start_children, and_children, or_children, all_children, carry_children, row_children, range_children, some_children, least_children, choose_children, clash_children, most_children, are_fillers}
+use Rattle.calculus_specs.specs.Line.Line.{start_line, and_line, or_line, all_line, carry_line, row_line, range_line, some_line, least_line, choose_line, pair_line, bottom_line, clash_line, most_line, fact_line, differ_line}
+use Rattle.calculus_specs.specs.Rules.{on_any, Known, knows, with_facts, when, at_concept, start_children, and_children, or_children, all_children, carry_children, row_children, range_children, some_children, least_children, choose_children, clash_children, most_children, differ_children, are_fillers}
 use Rattle.tableau_specs.specs.Clash.{IsClash}
 use Rattle.tableau_specs.specs.Clash.IsClash.{of_bottom, of_names, of_most}
 use Rattle.tableau_specs.specs.Steps.{SearchContext, below_of}
 use Rattle.tableau_specs.proofs.TreeShaped.{count_pos}
 use Rattle.tableau_specs.proofs.Listed.{listed, most_listed}
 use Rattle.tableau_specs.specs.Lines.{known_by, concept_in, children_in, line_of_clash}
-use Rattle.tableau_specs.specs.LineLaws.{IsOver}
+use Rattle.tableau_specs.specs.LineLaws.{IsOver, HasOneApart}
 use Rattle.tableau_specs.proofs.PlainClash.{FilledSuccessor, all_filled_parts, all_filled_from}
 use Rattle.tableau_specs.proofs.KnownFacts.{is_known, reads, holds, edge_reads, at_shape, fillers_read, all_apart_reads}
 use Rattle.tableau_specs.proofs.AddLines.{in_range_below}
@@ -195,7 +196,7 @@ module _ (w : SearchContext) (sub sup : Concept) (fs : List (Fact ℕ)) (over : 
 
   -- ---- the lines that have children
 
-  no_start : (n : ℕ) → 0 < n → ¬ (start_children sub sup (range_with_len 0 n) ≡ Some [])
+  no_start : (n : ℕ) → 0 < n → ¬ (start_children (on_any w.theory sub sup) (range_with_len 0 n) ≡ Some [])
   no_start zero lt h = absurd (omega arith)
   no_start (suc n) lt h = cc
 
@@ -240,7 +241,24 @@ module _ (w : SearchContext) (sub sup : Concept) (fs : List (Fact ℕ)) (over : 
   no_choose y None h = cc
   no_choose y (Some t) h = no_kids _ _ _ h
 
-  pub line_clashes : (line : Line) → children_in w sub sup fs line ≡ Some [] → Clash
+  -- the line whose premises are that two nodes are apart and one
+  one_apart : (y z : ℕ) → differ_children state y z ≡ Some [] → HasOneApart fs
+  one_apart y z h =
+      let q = when_some (knows state y && knows state z && are_apart state.facts y z && eqb (rep state.facts y) (rep state.facts z)) (Some []) [] h in
+      let a = and_parts (knows state y && knows state z && are_apart state.facts y z) (eqb (rep state.facts y) (rep state.facts z)) q.test in
+      let b = and_parts (knows state y && knows state z) (are_apart state.facts y z) a.0 in
+      let c = and_parts (knows state y) (knows state z) b.0 in
+      let keeps = keeps_state ℕ Concept (tree_of w.table) fs in
+      record {
+        y = y;
+        z = z;
+        y_is_node = node_of y c.0;
+        z_is_node = node_of z c.1;
+        apart = sym (keeps.aparts y z) ∙ b.1;
+        one = sym (keeps.reps y) ∙ eqb-true (rep state.facts y) (rep state.facts z) a.1 ∙ keeps.reps z;
+      }
+
+  pub line_clashes : (line : Line) → children_in w sub sup fs line ≡ Some [] → Clash ⊎ HasOneApart fs
   line_clashes start_line h = absurd (no_start (node_count fs) (count_pos fs) h)
   line_clashes (and_line x c) h = let r = at_number x c (and_children state x) [] h in absurd (no_and x (tree_of w.table c) r.is)
   line_clashes (or_line x c) h = let r = at_number x c (or_children state x) [] h in absurd (no_or x c (tree_of w.table c) refl r.listed r.is)
@@ -256,13 +274,15 @@ module _ (w : SearchContext) (sub sup : Concept) (fs : List (Fact ℕ)) (over : 
       let q = when_some (knows state x && has_tree state.facts x bottom) (Some []) [] h in
       let t = and_parts (knows state x) (has_tree state.facts x bottom) q.test in
       let d = has_number x bottom t.1 in
-      of_bottom x d.number (node_of x t.0) d.holds (bottom_from (trees_of w.table) (shape_of w.table d.number) (shape_reads d.number d.listed ∙ d.reads))
+      inl (of_bottom x d.number (node_of x t.0) d.holds (bottom_from (trees_of w.table) (shape_of w.table d.number) (shape_reads d.number d.listed ∙ d.reads)))
   line_clashes (clash_line x c) h =
       let r = at_number x c (clash_children state x) [] h in
-      clash_names x c (tree_of w.table c) refl r.node r.listed r.holds r.is
+      inl (clash_names x c (tree_of w.table c) refl r.node r.listed r.holds r.is)
   line_clashes (most_line x c ys) h =
       let r = at_number x c (most_children w.theory state x ys) [] h in
-      clash_most x c ys (tree_of w.table c) refl r.node r.listed r.holds r.is
+      inl (clash_most x c ys (tree_of w.table c) refl r.node r.listed r.holds r.is)
+  line_clashes (fact_line a p) h = cc
+  line_clashes (differ_line y z) h = inr (one_apart y z h)
 
   -- ---- the line of a clash
 

@@ -1,6 +1,6 @@
 -- Each clash and each step of a search is a rule line of a refutation: its premises hold, and its children know what
 -- the step adds.
-use Rattle.std.specs.Prelude.{◌≡◌, ℕ, ◌+◌, ◌^◌, ◌<◌, ◌≤◌, true, List, [], ◌∷◌, ◌++◌, length, Some, slice_get, Contains}
+use Rattle.std.specs.Prelude.{◌≡◌, ◌⊎◌, ℕ, ◌+◌, ◌^◌, ◌<◌, ◌≤◌, true, List, [], ◌∷◌, ◌++◌, length, Some, slice_get, Contains}
 use Rattle.calculus_specs.specs.Concept.{Concept}
 use Rattle.calculus_specs.specs.Shape.{Shape, IsTable}
 use Rattle.calculus_specs.specs.Tree.{tree_of, IsComplement}
@@ -8,7 +8,8 @@ use Rattle.calculus_specs.specs.Rows.{Theory, part_at, IsChoice}
 use Rattle.calculus_specs.specs.Rows.Part.{range}
 use Rattle.calculus_specs.specs.declared.facts.Fact.{Fact}
 use Rattle.calculus_specs.specs.declared.facts.Fact.TheVariants.{Has}
-use Rattle.calculus_specs.specs.State.{node_count}
+use Rattle.calculus_specs.specs.Joins.{rep}
+use Rattle.calculus_specs.specs.State.{node_count, are_apart}
 use Rattle.calculus_specs.specs.Reading.{read_fact, read_facts, are_listed}
 use Rattle.calculus_specs.specs.Line.{Line}
 use Rattle.calculus_specs.specs.Rules.{Known, with_facts}
@@ -30,10 +31,19 @@ abbrev pub ClashesAreLines : Type 0
 ClashesAreLines = (w : SearchContext) (sub sup : Concept) (fs : List (Fact ℕ)) → IsOver w fs
     → (clash : IsClash (below_of w) w.table fs) → children_in w sub sup fs (line_of_clash (below_of w) w.table fs clash) ≡ Some []
 
--- each line that has its premises and no children tells a clash
+-- two nodes are apart and one, which is no clash that a search looks for
+pub record HasOneApart (fs : List (Fact ℕ)) : Type 0 where
+  pub y : ℕ
+  pub z : ℕ
+  pub y_is_node : y < node_count fs
+  pub z_is_node : z < node_count fs
+  pub apart : are_apart fs y z ≡ true
+  pub one : rep fs y ≡ rep fs z
+
+-- each line that has its premises and no children tells a clash, or that two nodes are apart and one
 abbrev pub ChildlessLinesAreClashes : Type 0
 ChildlessLinesAreClashes =
-    (w : SearchContext) (sub sup : Concept) (fs : List (Fact ℕ)) → IsOver w fs → (line : Line) → children_in w sub sup fs line ≡ Some [] → IsClash (below_of w) w.table fs
+    (w : SearchContext) (sub sup : Concept) (fs : List (Fact ℕ)) → IsOver w fs → (line : Line) → children_in w sub sup fs line ≡ Some [] → IsClash (below_of w) w.table fs ⊎ HasOneApart fs
 
 -- ---- steps without a choice
 

@@ -14,7 +14,7 @@ use Rattle.calculus_specs.specs.State.{node_count, has_edge}
 use Rattle.calculus_specs.specs.Reading.{read_facts}
 use Rattle.calculus_specs.specs.Line.{Line}
 use Rattle.calculus_specs.specs.Line.Line.{and_line, or_line, all_line, carry_line, row_line, range_line, some_line, least_line, choose_line, pair_line, bottom_line, clash_line, most_line}
-use Rattle.calculus_specs.specs.Rules.{Known, with_facts, children_of}
+use Rattle.calculus_specs.specs.Rules.{on_any, Known, with_facts, children_of}
 use Rattle.tableau_specs.specs.declared.Branch.{Branch}
 use Rattle.tableau_specs.specs.declared.Branch.TheVariants.{Or, Choose, Pair}
 use Rattle.tableau_specs.specs.Clash.{IsClash}
@@ -35,7 +35,7 @@ concept_in table c = if nat_lt c (length table) then Some (tree_of table c) else
 
 -- the children of a line in that state, in a search whether `sub` is in `sup`
 abbrev pub children_in : SearchContext → Concept → Concept → List (Fact ℕ) → Line → Option (List Known)
-children_in w sub sup fs line = children_of w.theory sub sup (concept_in w.table) (known_by w.table fs) line
+children_in w sub sup fs line = children_of (on_any w.theory sub sup) (concept_in w.table) (known_by w.table fs) line
 
 -- ---- clashes
 

@@ -6,7 +6,7 @@ pub fn clashes_are_lines()
     ensures { ClashesAreLines }
 {}
 
-/// A rule line that has its premises and no children tells a clash.
+/// A rule line that has its premises and no children tells a clash, or that two nodes are apart and one.
 pub fn childless_lines_are_clashes()
     ensures { ChildlessLinesAreClashes }
 {}
