@@ -1,10 +1,10 @@
 -- A theory of axioms has their parts and their roles, and what is refuted over it is entailed by the axioms.
-use Rattle.std.specs.Prelude.{◌≡◌, ◌↔◌, ℕ, ◌-◌, not, IsTrue, List, slice_get}
+use Rattle.std.specs.Prelude.{◌≡◌, ◌↔◌, ◌≤◌, ℕ, ◌-◌, not, IsTrue, List, slice_get}
 use Rattle.std.specs.List.{list_all}
 use Rattle.shq_nnf.specs.Concept.{Concept}
 use Rattle.shq_nnf.specs.Numbered.{Numbered}
 use Rattle.role_box.specs.On.{On}
-use Rattle.role_box.specs.On.TheVariants.{Any}
+use Rattle.role_box.specs.On.TheVariants.{Any, Individual}
 use Rattle.role_box.specs.Query.{Query}
 use Rattle.role_box.specs.Uses.{all_use_listed}
 use Rattle.shq_nnf.specs.Truth.{Entails}
@@ -48,6 +48,11 @@ RefutationsEntailByAll = (k : ℕ) (axioms : List Numbered) (ks : List ℕ) (q :
 abbrev pub RefutationsOnAnyEntail : Type 0
 RefutationsOnAnyEntail = (axioms : List Numbered) (ks : List ℕ) (sub sup : Concept) (on : On) (shapes : List Shape) (lines : List Line)
     → IsRefutation (on_any (theory_of axioms ks) sub sup) shapes lines → Entails (named_axioms axioms ks) (record { sub = sub; sup = sup; on = on })
+
+-- no lines refute a query on an individual that is not listed
+abbrev pub UnlistedAreNotRefuted : Type 0
+UnlistedAreNotRefuted = (k : ℕ) (axioms : List Numbered) (ks : List ℕ) (q : Query) (a : ℕ) (shapes : List Shape) (lines : List Line)
+    → q.on ≡ Individual a → k ≤ a → IsRefutation (question_of k axioms ks q) shapes lines → ⊥
 
 -- the lines leave the same branches open of both questions, refute both or neither, and break the rules at the same place
 pub record AreJudgedAlike (one other : Question) (shapes : List Shape) (lines : List Line) : Type 0 where

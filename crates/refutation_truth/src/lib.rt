@@ -8,7 +8,7 @@
 #![tactic(auto)]
 
 ghost use Rattle.refutation_truth.specs.Laws.{PartsAreNumbered, TheoriesHaveRoles, NamedAxiomsGiveFacts};
-ghost use Rattle.refutation_truth.specs.Laws.{RefutationsEntail, RefutationsEntailByAll, RefutationsOnAnyEntail, OldRefutationsStand};
+ghost use Rattle.refutation_truth.specs.Laws.{RefutationsEntail, RefutationsEntailByAll, RefutationsOnAnyEntail, UnlistedAreNotRefuted, OldRefutationsStand};
 
 /// A number of an axiom and one of a part find that part of the axiom, if it is named, and nothing else.
 pub fn parts_are_numbered()
@@ -42,6 +42,11 @@ pub fn refutations_entail_by_all()
 /// class is in the other, whatever they assert of individuals.
 pub fn refutations_on_any_entail()
     ensures { RefutationsOnAnyEntail }
+{}
+
+/// A query on an individual that is not listed has no refutation.
+pub fn unlisted_are_not_refuted()
+    ensures { UnlistedAreNotRefuted }
 {}
 
 /// Over an ontology without individuals, lines are judged as they were before there were any.
