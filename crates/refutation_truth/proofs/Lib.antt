@@ -7,4 +7,5 @@ pub mod Lines
 pub mod Named
 pub mod Asserted
 pub mod Entailed
+pub mod Unlisted
 pub mod Old

@@ -83,7 +83,8 @@ fact_in (Some n) place = fact_at n.axiom place
 -- The fact of the axiom of a number that has a place, where the axiom is among those of the numbers and names the first
 -- k individuals alone. Any other node may be that of a new element, of which the axiom says nothing.
 abbrev pub fact_of_axiom : ℕ → List Numbered → List ℕ → ℕ → ℕ → Option (Fact Concept)
-fact_of_axiom k axioms ks a place = if is_among ks a then listed_fact k (fact_in (slice_get axioms (a - 1)) place) else None
+fact_of_axiom k axioms ks a place =
+    if is_among ks a then listed_fact k (fact_in (slice_get axioms (a - 1)) place) else None
 
 -- The node in question, where k individuals are listed: that of the individual that is asked of, or where each element
 -- is, the node after those of all individuals. An individual that is not listed has none: no first node is k + 1.

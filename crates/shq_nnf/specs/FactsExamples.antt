@@ -7,7 +7,8 @@ use Rattle.calculus_specs.specs.declared.facts.Fact.TheVariants.{Has, Edge, Apar
 use Rattle.shq_nnf.specs.Facts.{facts_of, fact_at}
 
 -- a member has one fact, in negation normal form
-pub member_fact : fact_at (Member (complement (some_of 0 (name 10))) 3) 1 ≡ Some (Has 3 (all_of 0 (complement (name 10))))
+pub member_fact : fact_at (Member (complement (some_of 0 (name 10))) 3) 1
+    ≡ Some (Has 3 (all_of 0 (complement (name 10))))
 member_fact = refl
 
 pub no_second_member : fact_at (Member (name 10) 3) 2 ≡ None
@@ -30,7 +31,8 @@ pub no_more_same : fact_at (SameAll (2 ∷ 0 ∷ 2 ∷ 1 ∷ [])) 4 ≡ None
 no_more_same = refl
 
 -- n that are different have one for each two, ordered by the first and then by the second
-pub different_pairs : facts_of (Different (4 ∷ 3 ∷ 9 ∷ 4 ∷ [])) ≡ Apart 4 3 ∷ Apart 4 9 ∷ Apart 4 4 ∷ Apart 3 9 ∷ Apart 3 4 ∷ Apart 9 4 ∷ []
+pub different_pairs : facts_of (Different (4 ∷ 3 ∷ 9 ∷ 4 ∷ []))
+    ≡ Apart 4 3 ∷ Apart 4 9 ∷ Apart 4 4 ∷ Apart 3 9 ∷ Apart 3 4 ∷ Apart 9 4 ∷ []
 different_pairs = refl
 
 abbrev five : Axiom

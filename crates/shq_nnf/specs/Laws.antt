@@ -23,7 +23,8 @@ AxiomsAreTheirParts = (i : Interpretation) (a : Axiom) → is_role_axiom a ≡ f
 
 -- and it meets an assertion exactly where all facts of it are true of its individuals
 abbrev pub AssertionsAreTheirFacts : Type 0
-AssertionsAreTheirFacts = (i : Interpretation) (a : Axiom) → is_assertion a ≡ true → meets i a ≡ list_all (is_true i i.individual) (facts_of a)
+AssertionsAreTheirFacts = (i : Interpretation) (a : Axiom) → is_assertion a ≡ true
+    → meets i a ≡ list_all (is_true i i.individual) (facts_of a)
 
 -- what a number of a table stands for is its own normal form
 abbrev pub NumbersAreNormal : Type 0

@@ -1,5 +1,6 @@
 // What the definitions entail about one another.
-ghost use Rattle.shq_nnf.specs.Laws.{NormalFormsKeepTruth, AxiomsAreTheirParts, AssertionsAreTheirFacts, NumbersAreNormal};
+ghost use Rattle.shq_nnf.specs.Laws.{NormalFormsKeepTruth, NumbersAreNormal};
+ghost use Rattle.shq_nnf.specs.Laws.{AxiomsAreTheirParts, AssertionsAreTheirFacts};
 
 /// A normal form has the truth of its class expression, and the normal form of the complement the opposite truth.
 pub fn normal_forms_keep_truth()
