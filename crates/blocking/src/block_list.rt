@@ -8,8 +8,8 @@ ghost use Rattle.tableau_specs.specs.Blocked.{is_parent_clear, may_block, is_cle
 ghost use Rattle.completion_tree.specs.Trail.{facts_in};
 ghost use Rattle.blocking.specs.Followed.{no_prints, printed_more, printed_first, IsPrintWithin, ShowsAll, IsSound, IsFollowed, AreBlocksBelow, AreFirstBlocks, IsCurrent, blocked_among};
 
-use crate::Block;
 use crate::print::{full_print, print_of};
+use crate::{Block, BlockEffort};
 use calculus_specs::NoMemory;
 use completion_tree::Tree;
 use lane_sieve::{Lanes, candidates};
@@ -26,6 +26,7 @@ pub struct Blocks {
     prints: Lanes,
     // Room for the places that the sieve finds.
     found: Vec<u32>,
+    effort: BlockEffort,
 }
 
 impl Model for Blocks {
@@ -48,6 +49,7 @@ impl Blocks {
             blocks: Vec::new(alloc),
             prints: Lanes::new(alloc),
             found: Vec::new(alloc),
+            effort: BlockEffort::new(),
         }
     }
 
@@ -75,10 +77,16 @@ impl Blocks {
         self.prints.len()
     }
 
-    /// Keeps the blocks of the first nodes alone, which are so in the tree.
+    /// What was done to find blocks. No contract speaks of these counts.
+    pub fn effort(&self) -> BlockEffort {
+        self.effort
+    }
+
+    /// Keeps the blocks of the first `len` nodes, which are so in the tree, and no others.
     pub fn keep<A: Allocator + Copy>(&mut self, tree: &Tree<A>, len: u32)
         requires { AreBlocksBelow (facts_in tree.now) len self.old }
-        ensures { AreFirstBlocks (facts_in tree.now) self.new }
+        ensures kept { self.new ≡ printed_first len self.old }
+        ensures first { AreFirstBlocks (facts_in tree.now) self.new }
     {
         let _ = tree;
         self.cut(len);
@@ -149,12 +157,14 @@ impl Blocks {
         ensures block { result ≡ block_of (facts_in tree.now) node }
         ensures unchanged { self.new ≡ self.old }
     {
+        self.effort = self.effort.with_block();
         if node == 0 {
             return Block::Clear;
         }
         if !has_clear_parent(tree, self.blocks.as_slice(), node) {
             return Block::Under;
         }
+        self.effort = self.effort.with_sieve();
         let count = sift(&print, &self.prints, &mut self.found);
         first_blocking(tree, self.blocks.as_slice(), &self.found[..count], node)
     }

@@ -13,10 +13,12 @@
 
 mod block_list;
 mod changed;
+mod effort;
 mod laws;
 mod print;
 
 pub use block_list::{Blocks, is_clear, state};
 pub use changed::{current_before, least_changed, still_current};
+pub use effort::BlockEffort;
 pub use laws::blocks_stay;
 pub use tableau_specs::Block;

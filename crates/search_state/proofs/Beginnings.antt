@@ -10,7 +10,7 @@ use Rattle.tableau_specs.specs.Steps.{SearchContext}
 use Rattle.search_trace.proofs.Places.{start_is_traced}
 use Rattle.completion_tree.specs.declared.tree.Entry.{Entry}
 use Rattle.completion_tree.specs.Trail.{facts_in}
-use Rattle.step_agenda.specs.Followed.{Printed, AreFirstBlocks}
+use Rattle.step_agenda.specs.Followed.{Printed, AreFirstBlocks, IsCurrent}
 use Rattle.step_finders.specs.declared.clash.Clash.{Clash}
 use Rattle.search_trace.specs.Trace.{TraceLists, begun}
 use Rattle.search_state.specs.Beginning.{begun_entries}
@@ -37,13 +37,14 @@ module _ (w : SearchContext) (q : Query) (sub not_sup : ℕ) (asked : IsAsked w 
     fit = All-nil (IsFitLine w sub not_sup);
   }
 
-  starts : (prints : Printed) → AreFirstBlocks (facts_in (begun_entries sub not_sup)) prints → (clash : Option Clash) → IsClashOf w (facts_in (begun_entries sub not_sup)) clash → HasBegun w (at_start prints clash)
-  starts prints blocks clash is = record { is_searching = record { standing = stands prints blocks clash; clash = is }; trail_is = refl; no_steps = refl }
+  starts : (prints : Printed) → IsCurrent (facts_in (begun_entries sub not_sup)) prints → AreFirstBlocks (facts_in (begun_entries sub not_sup)) prints → (clash : Option Clash) → IsClashOf w (facts_in (begun_entries sub not_sup)) clash
+      → HasBegun w (at_start prints clash)
+  starts prints current blocks clash is = record { is_searching = record { standing = stands prints blocks clash; clash = is }; current = current; trail_is = refl; no_steps = refl }
 
-  pub begins : (es : List Entry) → es ≡ begun_entries sub not_sup → (prints : Printed) → AreFirstBlocks (facts_in es) prints → (trace : TraceLists) → trace ≡ begun → (marks : List ℕ) → marks ≡ [] → (clash : Option Clash) → IsClashOf w (facts_in es) clash
-      → HasBegun w (record { query = q; sub = sub; not_sup = not_sup; entries = es; prints = prints; trace = trace; marks = marks; clash = clash; steps = 0 })
-  begins es are prints blocks trace traced marks none clash is =
-      let h = starts prints (subst (λ (xs : List Entry). AreFirstBlocks (facts_in xs) prints) are blocks) clash (subst (λ (xs : List Entry). IsClashOf w (facts_in xs) clash) are is) in
+  pub begins : (es : List Entry) → es ≡ begun_entries sub not_sup → (prints : Printed) → IsCurrent (facts_in es) prints → AreFirstBlocks (facts_in es) prints → (trace : TraceLists) → trace ≡ begun → (marks : List ℕ) → marks ≡ [] → (clash : Option Clash)
+      → IsClashOf w (facts_in es) clash → HasBegun w (record { query = q; sub = sub; not_sup = not_sup; entries = es; prints = prints; trace = trace; marks = marks; clash = clash; steps = 0 })
+  begins es are prints current blocks trace traced marks none clash is =
+      let h = starts prints (subst (λ (xs : List Entry). IsCurrent (facts_in xs) prints) are current) (subst (λ (xs : List Entry). AreFirstBlocks (facts_in xs) prints) are blocks) clash (subst (λ (xs : List Entry). IsClashOf w (facts_in xs) clash) are is) in
       subst (λ (xs : List Entry). HasBegun w (record { query = q; sub = sub; not_sup = not_sup; entries = xs; prints = prints; trace = trace; marks = marks; clash = clash; steps = 0 })) (sym are)
       (subst (λ (t : TraceLists). HasBegun w (record { query = q; sub = sub; not_sup = not_sup; entries = begun_entries sub not_sup; prints = prints; trace = t; marks = marks; clash = clash; steps = 0 })) (sym traced)
       (subst (λ (ks : List ℕ). HasBegun w (record { query = q; sub = sub; not_sup = not_sup; entries = begun_entries sub not_sup; prints = prints; trace = begun; marks = ks; clash = clash; steps = 0 })) (sym none) h))

@@ -4,13 +4,18 @@ use Rattle.tableau_specs.specs.Steps.{SearchContext}
 use Rattle.completion_tree.specs.declared.tree.Entry.{Entry}
 use Rattle.completion_tree.specs.Trail.{facts_in}
 use Rattle.step_agenda.specs.Followed.{AreFirstBlocks}
+use Rattle.blocking.proofs.BlockLists.{all_are_first}
 use Rattle.search_state.specs.Progress.{ProgressLists, IsStanding, IsClashOf, IsSearching}
-use Rattle.search_state.specs.Stepping.{IsSameButBlocks, IsStepped}
+use Rattle.search_state.specs.Stepping.{IsSameButBlocks, HasFollowed, IsStepped}
 use Rattle.search_state.specs.declared.stepping.Stepped.{Stepped}
 use Rattle.search_state.specs.declared.stepping.Stepped.TheVariants.{Moved, Saturated, Closed}
 
 pub entries_same : (old new : ProgressLists) → IsSameButBlocks old new → new.entries ≡ old.entries
 entries_same old new same = ap (λ (q : ProgressLists). q.entries) same
+
+-- all blocks are those that are there
+pub followed_first : (old new : ProgressLists) → HasFollowed old new → AreFirstBlocks (facts_in new.entries) new.prints
+followed_first old new h = all_are_first (facts_in new.entries) new.prints h.current
 
 pub still_stands : (w : SearchContext) (old new : ProgressLists) → IsSameButBlocks old new → AreFirstBlocks (facts_in new.entries) new.prints → IsStanding w old → IsStanding w new
 still_stands w old new same first st = subst (λ (q : ProgressLists). IsStanding w q) (sym same) (record {
@@ -54,6 +59,7 @@ stepped_after w old mid new same s h = by_kind s (subst (λ (q : ProgressLists).
     by_kind Closed h = record {
       same = record { query = h.same.query; sub = h.same.sub; not_sup = h.same.not_sup };
       entries = h.entries;
+      blocks = h.blocks;
       steps = h.steps;
       has_clash = h.has_clash;
       closes = h.closes;

@@ -101,6 +101,7 @@ pub closing_is_closed : (w : SearchContext) (old new : ProgressLists) → new �
 closing_is_closed w old new same h = record {
   same = record { query = ap (λ (q : ProgressLists). q.query) same; sub = ap (λ (q : ProgressLists). q.sub) same; not_sup = ap (λ (q : ProgressLists). q.not_sup) same };
   entries = ap (λ (q : ProgressLists). q.entries) same;
+  blocks = h.blocks;
   steps = ap (λ (q : ProgressLists). q.steps) same;
   has_clash = h.has_clash;
   closes = h.closes;

@@ -7,7 +7,7 @@ use Rattle.search_trace.specs.Leaves.{leaves}
 use Rattle.search_trace.specs.Noted.{noted_start}
 use Rattle.search_trace.specs.Back.{step_of}
 use Rattle.completion_tree.specs.Trail.{facts_in, items_of}
-use Rattle.step_agenda.specs.Followed.{IsCurrent}
+use Rattle.step_agenda.specs.Followed.{AreFirstBlocks, IsCurrent}
 use Rattle.search_state.specs.declared.stepping.Stepped.{Stepped}
 use Rattle.search_state.specs.declared.stepping.Stepped.TheVariants.{Moved, Saturated, Closed}
 use Rattle.search_state.specs.declared.stepping.Rested.{Rested}
@@ -17,6 +17,7 @@ use Rattle.search_state.specs.Progress.{ProgressLists, IsFitLine, IsSearching, I
 -- what has begun
 pub record HasBegun (w : SearchContext) (s : ProgressLists) : Type 0 where
   pub is_searching : IsSearching w s
+  pub current : IsCurrent (facts_in s.entries) s.prints
   pub trail_is : items_of s.entries ≡ start s.sub s.not_sup
   pub no_steps : s.steps ≡ 0
 
@@ -30,10 +31,11 @@ pub record HasFollowed (old new : ProgressLists) : Type 0 where
   pub current : IsCurrent (facts_in new.entries) new.prints
 
 module _ (w : SearchContext) where
-  -- the lines close everything, and the trail is as it was
+  -- the lines close everything, the trail is as it was, and the blocks that are known are those of the trail
   pub record IsClosed (old new : ProgressLists) : Type 0 where
     pub same : IsSameQuery old new
     pub entries : new.entries ≡ old.entries
+    pub blocks : AreFirstBlocks (facts_in new.entries) new.prints
     pub steps : new.steps ≡ old.steps
     pub has_clash : HasClash w (items_of new.entries)
     pub closes : leaves (step_of w.theory w.table) (noted_start new.query.sub new.query.sup ∷ []) new.trace.lines ≡ Some []

@@ -102,8 +102,12 @@ impl<'b, A: Allocator + Copy> Progress<'b, A> {
         }
     }
 
-    // Finds the blocks of all nodes. Nothing else changes.
-    pub(crate) fn follow(&mut self) -> Result<(), NoMemory>
+    /// Finds the blocks of all nodes. Nothing else changes.
+    ///
+    /// # Errors
+    ///
+    /// Out of memory. The search serves no more then.
+    pub fn follow(&mut self) -> Result<(), NoMemory>
         requires { AreFirstBlocks (facts_in self.old.entries) self.old.prints }
         ensures followed { OnOk result (HasFollowed self.old self.new) }
         ensures first { OnOk result (AreFirstBlocks (facts_in self.new.entries) self.new.prints) }

@@ -40,8 +40,9 @@ impl<'b, A: Allocator + Copy> Progress<'b, A> {
         let mut tree = Tree::new_in(alloc)?;
         put_start(&mut tree, sub)?;
         put_start(&mut tree, not_sup)?;
-        let prints = Blocks::new(heap);
+        let mut prints = Blocks::new(heap);
         blocks_stay();
+        prints.complete(&tree)?;
         let clash = find_clash_at_start(&tree, rules, sub, not_sup);
         Ok(Progress {
             heap,

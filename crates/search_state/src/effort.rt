@@ -1,10 +1,11 @@
 // What a search did beside its steps.
 
 use search_trace::Trace;
+use step_agenda::BlockEffort;
 
-/// How often a search looked for a step at a fact and in its whole state, how often it went back, and how many choices
-/// and lines of its trace it lost by that. No contract speaks of these counts, and no answer rests on them: they tell
-/// whether a next step is looked for in the right place.
+/// How often a search looked for a step at a fact and in its whole state, how often it went back, how many choices and
+/// lines of its trace it lost by that, and how many blocks of nodes it found. No contract speaks of these counts, and no
+/// answer rests on them: they tell whether a next step is looked for in the right place, and blocks not too often.
 #[derive(Clone, Copy, Debug, PartialEq, Eq)]
 pub struct Effort {
     /// Looks at a fact for a step of one kind.
@@ -17,6 +18,10 @@ pub struct Effort {
     pub lost: u64,
     /// Lines that rested on a branching that was taken out with them.
     pub stripped: u64,
+    /// Blocks of nodes that were found, those of a node each time anew.
+    pub blocks: u64,
+    /// Looks through the prints of all nodes before one, for what may block it.
+    pub sieves: u64,
 }
 
 impl Effort {
@@ -28,6 +33,8 @@ impl Effort {
             backs: 0,
             lost: 0,
             stripped: 0,
+            blocks: 0,
+            sieves: 0,
         }
     }
 
@@ -51,6 +58,15 @@ impl Effort {
     /// With so many looks at facts.
     pub(crate) fn with_looks(self, looks: u64) -> Effort {
         Effort { looks, ..self }
+    }
+
+    /// With what was done to find blocks.
+    pub(crate) fn with_blocks(self, effort: BlockEffort) -> Effort {
+        Effort {
+            blocks: effort.blocks,
+            sieves: effort.sieves,
+            ..self
+        }
     }
 
     /// With the lines that were put into a trace and are no longer there.

@@ -15,5 +15,5 @@ mod stepping;
 pub use effort::Effort;
 pub use progress::Progress;
 pub use shq_terms::NoMemory;
-pub use step_agenda::{Blocks, blocks_stay};
+pub use step_agenda::Blocks;
 pub use stepping::{Rested, Stepped};

@@ -1,10 +1,12 @@
 // How far a search is.
-ghost use Rattle.std.specs.Prelude.{◌≡◌, ◌+◌, ◌<◌, ◌≤◌, ◌^◌, [], ◌∷◌, ◌++◌, None, OnOk, IfOk, length, take};
+ghost use Rattle.std.specs.Prelude.{◌≡◌, ◌+◌, ◌<◌, ◌≤◌, ◌^◌, [], ◌∷◌, ◌++◌, None, OnOk, IfOk, min, length, take, drop};
 ghost use Rattle.calculus_specs.specs.declared.facts.Fact.TheVariants.{Has};
+ghost use Rattle.calculus_specs.specs.Joins.{rep};
 ghost use Rattle.calculus_specs.specs.State.{node_count};
 ghost use Rattle.refutation_tree.specs.RuleLine.{line_of};
 ghost use Rattle.completion_tree.specs.Trail.{facts_in};
-ghost use Rattle.step_agenda.specs.Followed.{AreBlocksBelow, AreFirstBlocks};
+ghost use Rattle.blocking.specs.Changed.{least_touched};
+ghost use Rattle.step_agenda.specs.Followed.{printed_first, AreBlocksBelow, AreFirstBlocks};
 ghost use Rattle.step_finders.specs.Reasons.{IsAddition};
 ghost use Rattle.fact_tree.specs.Entries.{IsFit};
 ghost use Rattle.completion_tree.specs.declared.tree.Entry.TheVariants.{Fact as Grounded, Mark};
@@ -75,7 +77,8 @@ impl<'b, A: Allocator> Model for Progress<'b, A> {
     } };
 }
 
-// Keeps those blocks that stand, where those below `from` stood before the entries from `place` on were put.
+// Keeps those blocks that stand, where those below `from` stood before the entries from `place` on were put: of all
+// nodes below the least of which these entries say something new.
 pub(crate) fn keep_blocks<A: Allocator + Copy>(
     tree: &Tree<A>,
     prints: &mut Blocks,
@@ -84,7 +87,9 @@ pub(crate) fn keep_blocks<A: Allocator + Copy>(
 )
     requires place { place ≤ length tree.now }
     requires stood { AreBlocksBelow (facts_in (take place tree.now)) from prints.old }
-    ensures { AreFirstBlocks (facts_in tree.now) prints.new }
+    ensures kept { let fs = facts_in tree.now in
+        prints.new ≡ printed_first (min from (least_touched (rep fs) (node_count fs) (facts_in (drop place tree.now)))) prints.old }
+    ensures first { AreFirstBlocks (facts_in tree.now) prints.new }
 {
     let _count = tree.nodes();
     let still = still_current(tree, place, from);

@@ -156,6 +156,7 @@ impl<'b, A: Allocator + Copy> Progress<'b, A> {
     pub fn effort(&self) -> Effort {
         self.effort
             .with_looks(self.agenda.looks())
+            .with_blocks(self.prints.effort())
             .with_trace(&self.trace)
     }
 }

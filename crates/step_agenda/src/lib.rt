@@ -31,6 +31,6 @@ mod tree_state;
 mod watched;
 
 pub use agenda::Agenda;
-pub use blocking::{Blocks, blocks_stay, current_before, still_current};
+pub use blocking::{BlockEffort, Blocks, blocks_stay, current_before, still_current};
 pub use step_finders::NoMemory;
 pub use tree_state::{TreeState, TreeWithBlocks};

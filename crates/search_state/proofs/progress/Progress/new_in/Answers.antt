@@ -8,6 +8,11 @@ use Rattle.search_state.specs.Beginning.{by_start, begun_entries}
 use Rattle.search_state.proofs.Beginnings.{begins}
 use Rattle.search_state.proofs.progress.Progress.new_in.Goals as goal
 
+pub complete-requires : goal.complete-requires
+complete-requires g c =
+    let fs = facts_in c.put_start-2.new.tree in
+    subst (AreFirstBlocks fs) (sym c.new-prints.ensures) (c.blocks_stay.ensures.none fs no_prints)
+
 pub returns-clause-begun : goal.returns-clause-begun
 returns-clause-begun g c =
     let w = g.R.Rules.context c.args.rules.now in
@@ -16,5 +21,4 @@ returns-clause-begun g c =
     let es = c.put_start-2.new.tree in
     let are : es ≡ begun_entries sub not_sup =
     c.in_ok-put_start-2.ensures ∙ ap (λ (xs : List Entry). xs ++ Grounded (Has 0 not_sup) by_start ∷ []) (c.in_ok-put_start.ensures ∙ ap (λ (xs : List Entry). xs ++ Grounded (Has 0 sub) by_start ∷ []) c.in_ok-tree.ensures) in
-    let blocks = subst (AreFirstBlocks (facts_in es)) (sym c.new-prints.ensures) (c.blocks_stay.ensures.none (facts_in es) no_prints) in
-    begins w c.args.query.now sub not_sup c.requires es are c.new-prints.result blocks c.new.result c.new.ensures (reverse c.new-2.result.items) (ap reverse c.new-2.ensures.items) c.find_clash_at_start-clash.result c.find_clash_at_start-clash.ensures
+    begins w c.args.query.now sub not_sup c.requires es are c.complete.new.self c.in_ok-complete.ensures.current c.in_ok-complete.ensures.first c.new.result c.new.ensures (reverse c.new-2.result.items) (ap reverse c.new-2.ensures.items) c.find_clash_at_start-clash.result c.find_clash_at_start-clash.ensures

@@ -38,7 +38,7 @@ returns-clause-moved g c =
       trace_is = c.in_ok-number.ensures.put ∙ ap (λ (v : NumberSet). with_line s.trace line v) c.in_ok-shared.ensures;
       marks_are = refl;
       counted = refl;
-      blocks = c.keep_blocks.ensures;
+      blocks = c.keep_blocks.ensures.first;
     }))
 
 pub returns-clause-last : goal.returns-clause-last

@@ -63,7 +63,7 @@ returns-clause-moved g c =
       trace_is = c.in_ok-mark.ensures.opened ∙ ap (λ (v : NumberSet). with_branching s.trace line v c.args.left) c.in_ok-shared.ensures;
       marks_are = ap reverse c.in_ok-push.ensures.items ∙ reverse-append s.marks.items (c.len-place.result ∷ []) ∙ ap (λ (n : ℕ). n ∷ reverse s.marks.items) c.len-place.ensures;
       counted = refl;
-      blocks = c.keep_blocks.ensures;
+      blocks = c.keep_blocks.ensures.first;
     }))
 
 pub returns-clause-last : goal.returns-clause-last

@@ -164,7 +164,7 @@ returns-clause-moved g c =
       trace_is = refl;
       marks_are = ap reverse c.cut_marks-place.ensures.kept;
       counted = refl;
-      blocks = c.keep_blocks.ensures;
+      blocks = c.keep_blocks.ensures.first;
     }))
 
 pub returns-clause-chosen : goal.returns-clause-chosen
