@@ -4,21 +4,23 @@ use Rattle.shq_terms.specs.declared.axioms.Query.{Query}
 use Rattle.ontology_limits.specs.Limits.{IsInLimit, IsWithoutIndividuals}
 use Rattle.refutation_tree.specs.RefutationLists.{RefutationLists}
 use Rattle.tableau_specs.specs.Reached.{start, IsReached, Follows}
-use Rattle.tableau_specs.specs.Steps.{IsLegal}
+use Rattle.tableau_specs.specs.Steps.{SearchContext, IsLegal, IsSaturated, HasClash}
 use Rattle.tableau_specs.specs.declared.Item.{Item}
 use Rattle.completion_tree.specs.declared.tree.Entry.{Entry}
-use Rattle.completion_tree.specs.Trail.{items_of}
+use Rattle.completion_tree.specs.Trail.{items_of, facts_in}
 use Rattle.search_laws.specs.Runs.{IsRun}
 use Rattle.seen_concepts.specs.Seen.{SeenSets, AreOver, AreSeenIn}
 use Rattle.search_trace.specs.Trace.{begun}
 use Rattle.search_rules.specs.RuleLists.{RuleLists, AreNumbersOf, context_in}
 use Rattle.search_state.specs.Progress.{ProgressLists, IsStanding, IsSearching, HasMoved}
-use Rattle.search_state.specs.Stepping.{HasBegun, IsClosed, IsStepped, IsRested, IsSameButBlocks}
+use Rattle.search_state.specs.Stepping.{HasBegun, IsClosed, IsStepped, IsRested, IsSameButBlocks, HasFollowed}
+use Rattle.search_state.specs.Followed.{AreFirstBlocks, IsCurrent}
+use Rattle.search_state.proofs.Followed.{entries_same, followed_first, still_stands, still_searches}
 use Rattle.search_state.specs.declared.stepping.Stepped.{Stepped}
 use Rattle.search_state.specs.declared.stepping.Stepped.TheVariants.{Closed as StepClosed}
 use Rattle.search_state.specs.declared.stepping.Rested.{Rested}
 use Rattle.search_state.specs.declared.stepping.Rested.TheVariants.{Closed as RestClosed}
-use Rattle.tableau.specs.SearchState.{SearchState, room_for, context_of, trail_of, IsReachedBy, HasRun, IsSameSearch}
+use Rattle.tableau.specs.SearchState.{SearchState, room_for, context_of, trail_of, IsReachedBy, HasRun, HasAllBlocks, IsSameSearch}
 use Rattle.tableau.specs.Steps.{Refutes, Stays, IsAtRefutation, IsEvent, IsEnd, Runs}
 use Rattle.tableau.specs.declared.search.Event.{Event}
 use Rattle.tableau.specs.declared.search.Event.TheVariants.{Moved, Saturated, Closed}
@@ -58,6 +60,7 @@ module _ (rules : RuleLists) (query : Query) (sub not_sup : ℕ) (p : ProgressLi
     numbers = numbers;
     reached = λ whole. reached_by h.standing ended failed;
     has_run = λ whole. run;
+    blocks = λ whole. h.standing.blocks;
     progress = λ whole goes. record { query = query_is; sub = s; not_sup = n; steps = steps_is };
     searching = λ whole goes. h;
   }
@@ -76,6 +79,7 @@ has_closed : (rules : RuleLists) (old mid new : ProgressLists) (r : RefutationLi
 has_closed rules old mid new r h left refutes =
     subst (λ (p : ProgressLists). HasClosed rules r old p) (sym left) (record {
       entries = h.entries;
+      blocks = h.blocks;
       steps = h.steps;
       has_clash = h.has_clash;
       refutes = subst (λ (q : Query). Refutes rules q r) h.same.query refutes;
@@ -88,6 +92,50 @@ step_closed rules old mid new r s is h left refutes = has_closed rules old mid n
 pub rest_closed : (rules : RuleLists) (old mid new : ProgressLists) (r : RefutationLists) (s : Rested) → s ≡ RestClosed → IsRested (context_in rules) old mid s → new ≡ record mid { trace = begun } → Refutes rules mid.query r
     → HasClosed rules r old new
 rest_closed rules old mid new r s is h left refutes = has_closed rules old mid new r (subst (IsRested (context_in rules) old mid) is h) left refutes
+
+-- ---- blocks
+
+pub advanced_first : (rules : RuleLists) (old new : ProgressLists) (e : Event) → IsAdvanced rules old new e → AreFirstBlocks (facts_in new.entries) new.prints
+advanced_first rules old new Moved h = h.1.standing.blocks
+advanced_first rules old new Saturated h = followed_first old new h.0
+advanced_first rules old new (Closed r) h = h.blocks
+
+-- a step after which the blocks of all nodes were found
+module _ (rules : RuleLists) (old mid new : ProgressLists) (h : HasFollowed mid new) (first : AreFirstBlocks (facts_in new.entries) new.prints) where
+  abbrev w : SearchContext
+  w = context_in rules
+
+  entries_are : new.entries ≡ mid.entries
+  entries_are = entries_same mid new h.same
+
+  steps_are : new.steps ≡ mid.steps
+  steps_are = ap (λ (q : ProgressLists). q.steps) h.same
+
+  pub followed_advanced : (e : Event) → IsAdvanced rules old mid e → IsAdvanced rules old new e
+  followed_advanced Moved a = (
+    record {
+      same = record {
+        query = ap (λ (q : ProgressLists). q.query) h.same ∙ a.0.same.query;
+        sub = ap (λ (q : ProgressLists). q.sub) h.same ∙ a.0.same.sub;
+        not_sup = ap (λ (q : ProgressLists). q.not_sup) h.same ∙ a.0.same.not_sup;
+      };
+      standing = still_stands w mid new h.same first a.0.standing;
+      is_legal = subst (λ (es : List Entry). IsLegal w (items_of old.entries) (items_of es)) (sym entries_are) a.0.is_legal;
+      counted = steps_are ∙ a.0.counted;
+    },
+    still_searches w mid new h.same first a.1,
+  )
+  followed_advanced Saturated a = (
+    record { same = h.same ∙ ap (λ (q : ProgressLists). record q { prints = new.prints }) a.0.same; current = h.current },
+    subst (λ (es : List Entry). IsSaturated w (items_of es)) (sym entries_are) a.1,
+  )
+  followed_advanced (Closed r) a = record {
+    entries = entries_are ∙ a.entries;
+    blocks = first;
+    steps = steps_are ∙ a.steps;
+    has_clash = subst (λ (es : List Entry). HasClash w (items_of es)) (sym entries_are) a.has_clash;
+    refutes = a.refutes;
+  }
 
 -- ---- one call
 
@@ -145,8 +193,8 @@ module _ (rules : RuleLists) (query : Query) (sub not_sup : ℕ) (p p' : Progres
               (subst (AreSeenIn rules.table (items_of p.entries ∷ run.earlier)) (sym seen_is) run.are_seen);
         }
 
-    stays_kept : p'.entries ≡ p.entries → seen' ≡ seen → steps' ≡ steps → (goes : Bool) → goes ≡ false → IsKept (now goes) p'
-    stays_kept entries seen_is steps_is goes stops =
+    stays_kept : p'.entries ≡ p.entries → AreFirstBlocks (facts_in p'.entries) p'.prints → seen' ≡ seen → steps' ≡ steps → (goes : Bool) → goes ≡ false → IsKept (now goes) p'
+    stays_kept entries first seen_is steps_is goes stops =
         let w = context_in rules in
         record {
           in_limit = kept.in_limit;
@@ -157,6 +205,7 @@ module _ (rules : RuleLists) (query : Query) (sub not_sup : ℕ) (p p' : Progres
               subst (λ (es : List Entry). IsReached w.theory query.sub query.sup w.table w.rows steps' (items_of es)) (sym entries)
               (subst (λ (k : ℕ). IsReached w.theory query.sub query.sup w.table w.rows k (items_of p.entries)) (sym steps_is) (kept.reached whole));
           has_run = λ still. same_run entries seen_is steps_is goes;
+          blocks = λ still. first;
           progress = λ still goes_again. absurd (ended_now goes stops goes_again);
           searching = λ still goes_again. absurd (ended_now goes stops goes_again);
         }
@@ -191,19 +240,41 @@ module _ (rules : RuleLists) (query : Query) (sub not_sup : ℕ) (p p' : Progres
     pub stepped_kept : (e : Event) → IsAdvanced rules p p' e → IsNotedAfter rules p p' seen seen' e → steps' ≡ p'.steps → (goes : Bool) → goes ≡ goes_on e → IsKept (now goes) p'
     stepped_kept Moved h noted counts goes is = moved_kept h.0 h.1 noted counts goes
     stepped_kept Saturated h noted counts goes is =
-        stays_kept (ap (λ (q : ProgressLists). q.entries) h.0.same) noted (counts ∙ ap (λ (q : ProgressLists). q.steps) h.0.same ∙ progress_is.steps) goes is
-    stepped_kept (Closed r) h noted counts goes is = stays_kept h.entries noted (counts ∙ h.steps ∙ progress_is.steps) goes is
+        stays_kept (ap (λ (q : ProgressLists). q.entries) h.0.same) (followed_first p p' h.0) noted (counts ∙ ap (λ (q : ProgressLists). q.steps) h.0.same ∙ progress_is.steps) goes is
+    stepped_kept (Closed r) h noted counts goes is = stays_kept h.entries h.blocks noted (counts ∙ h.steps ∙ progress_is.steps) goes is
 
     pub settled_kept : (e : End) → IsSettled rules p p' e → seen' ≡ seen → steps' ≡ steps → (goes : Bool) → goes ≡ is_spent e → IsKept (now goes) p'
     settled_kept Spent h same counts goes is = rested_kept h.0 h.1 same counts goes
-    settled_kept RunSaturated h same counts goes is = stays_kept (ap (λ (q : ProgressLists). q.entries) h.0.same) same counts goes is
-    settled_kept (RunClosed r) h same counts goes is = stays_kept h.entries same counts goes is
+    settled_kept RunSaturated h same counts goes is = stays_kept (ap (λ (q : ProgressLists). q.entries) h.0.same) (followed_first p p' h.0) same counts goes is
+    settled_kept (RunClosed r) h same counts goes is = stays_kept h.entries h.blocks same counts goes is
 
     -- what halts has made no step
     pub halted_steps : (e : End) → IsSettled rules p p' e → p'.steps ≡ steps
     halted_steps Spent h = ap (λ (q : ProgressLists). q.steps) h.0 ∙ progress_is.steps
     halted_steps RunSaturated h = ap (λ (q : ProgressLists). q.steps) h.0.same ∙ progress_is.steps
     halted_steps (RunClosed r) h = h.steps ∙ progress_is.steps
+
+-- an end, after which the blocks of all nodes were found
+pub followed_end : (fuel : ℕ) (a b c : SearchState) (e : End) → IsEnd fuel a b e → c ≡ record b { prints = c.prints } → HasAllBlocks c → IsEnd fuel a c e
+followed_end fuel a b c e h same current = subst (λ (s : SearchState). IsEnd fuel a s e) (sym same) (by_kind e h)
+  where
+    with_all : SearchState
+    with_all = record b { prints = c.prints }
+
+    runs : Runs a b → Runs a with_all
+    runs r = record { count = r.count; follows = r.follows; counted = r.counted }
+
+    by_kind : (e : End) → IsEnd fuel a b e → IsEnd fuel a with_all e
+    by_kind RunSaturated h = (
+      runs h.0,
+      record {
+        is_saturated = h.1.is_saturated;
+        is_current = subst (λ (es : List Entry). IsCurrent (facts_in es) c.prints) (ap (λ (s : SearchState). s.entries) same) current;
+        ended = h.1.ended;
+      },
+    )
+    by_kind (RunClosed r) h = (runs h.0, record { has_clash = h.1.has_clash; refutes = h.1.refutes; ended = h.1.ended })
+    by_kind Spent h = (runs h.0, record { counted = h.1.counted; goes_on = h.1.goes_on; next = h.1.next; is_legal = h.1.is_legal })
 
 -- ---- several steps
 

@@ -6,7 +6,7 @@ use Rattle.tableau_specs.specs.declared.Item.{Item}
 use Rattle.tableau_specs.specs.Steps.{IsLegal, IsSaturated, HasClash}
 use Rattle.tableau_specs.specs.Items.{facts_of}
 use Rattle.completion_tree.specs.declared.tree.Entry.{Entry}
-use Rattle.completion_tree.specs.Trail.{items_of}
+use Rattle.completion_tree.specs.Trail.{items_of, facts_in}
 use Rattle.seen_concepts.specs.Seen.{SeenSets, HasNoted}
 use Rattle.search_trace.specs.Leaves.{leaves}
 use Rattle.search_trace.specs.Noted.{noted_start}
@@ -14,6 +14,7 @@ use Rattle.search_trace.specs.Back.{step_of}
 use Rattle.search_rules.specs.RuleLists.{RuleLists, AreNumbersOf, context_in, theory_in}
 use Rattle.search_state.specs.Progress.{ProgressLists, IsAsked, IsFitLine, IsSearching, HasMoved}
 use Rattle.search_state.specs.Stepping.{HasNext, HasFollowed, IsSameButBlocks}
+use Rattle.search_state.specs.Followed.{AreFirstBlocks}
 use Rattle.tableau.specs.SearchState.{SearchState, context_of, trail_of, IsReachedBy, HasRun}
 use Rattle.tableau.specs.Steps.{Refutes, Runs, Stays, IsAtModel, IsAtRefutation}
 use Rattle.tableau.specs.declared.search.Event.{Event}
@@ -30,9 +31,9 @@ pub record IsProgressOf (s : SearchState) (p : ProgressLists) : Type 0 where
   pub not_sup : p.not_sup ≡ s.not_sup
   pub steps : p.steps ≡ s.steps
 
--- the ontology and the query are within the limits and without individuals, the set is one of the ontology's axioms,
--- the numbers are the query's, and unless memory was refused the trail is reached by a run whose classes were noted, and
--- it can go on until the search has ended
+-- the ontology and the query are within the limits and without individuals, the set is one of the ontology's axioms, the
+-- numbers are the query's, and unless memory was refused the trail is reached by a run whose classes were noted, the
+-- blocks that are known are those of the trail, and it can go on until the search has ended
 pub record IsKept (s : SearchState) (p : ProgressLists) : Type 0 where
   pub in_limit : IsInLimit s.rules.ontology s.query
   pub without_individuals : IsWithoutIndividuals s.rules.ontology s.query
@@ -40,6 +41,7 @@ pub record IsKept (s : SearchState) (p : ProgressLists) : Type 0 where
   pub numbers : AreNumbersOf s.rules s.query s.sub s.not_sup
   pub reached : s.failed ≡ false → IsReachedBy s
   pub has_run : s.failed ≡ false → HasRun s
+  pub blocks : s.failed ≡ false → AreFirstBlocks (facts_in s.entries) s.prints
   pub progress : s.failed ≡ false → s.ended ≡ false → IsProgressOf s p
   pub searching : s.failed ≡ false → s.ended ≡ false → IsSearching (context_of s) p
 
@@ -53,9 +55,11 @@ pub record IsClosing (rules : RuleLists) (p : ProgressLists) : Type 0 where
   pub closes : leaves (step_of (theory_in rules) rules.table) (noted_start p.query.sub p.query.sup ∷ []) p.trace.lines ≡ Some []
   pub fit : All (IsFitLine (context_in rules) p.sub p.not_sup) p.trace.lines
 
--- the trail stays, it has a clash, and the refutation is one of the query
+-- the trail stays, it has a clash, the blocks that are known are those of the trail, and the refutation is one of the
+-- query
 pub record HasClosed (rules : RuleLists) (r : RefutationLists) (old new : ProgressLists) : Type 0 where
   pub entries : new.entries ≡ old.entries
+  pub blocks : AreFirstBlocks (facts_in new.entries) new.prints
   pub steps : new.steps ≡ old.steps
   pub has_clash : HasClash (context_in rules) (items_of new.entries)
   pub refutes : Refutes rules old.query r

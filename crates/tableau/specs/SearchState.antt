@@ -5,8 +5,8 @@ use Rattle.tableau_specs.specs.declared.Item.{Item}
 use Rattle.tableau_specs.specs.Steps.{SearchContext}
 use Rattle.tableau_specs.specs.Reached.{start, IsReached}
 use Rattle.completion_tree.specs.declared.tree.Entry.{Entry}
-use Rattle.completion_tree.specs.Trail.{items_of}
-use Rattle.search_state.specs.Followed.{Printed}
+use Rattle.completion_tree.specs.Trail.{items_of, facts_in}
+use Rattle.search_state.specs.Followed.{Printed, IsCurrent}
 use Rattle.search_rules.specs.RuleLists.{RuleLists, context_in}
 use Rattle.search_laws.specs.Runs.{IsRun}
 use Rattle.seen_concepts.specs.Seen.{SeenSets, AreOver, AreSeenIn}
@@ -36,6 +36,10 @@ trail_of s = items_of s.entries
 -- its trail is reached by as many legal steps
 abbrev pub IsReachedBy : SearchState → Type 0
 IsReachedBy s = IsReached (context_of s).theory s.query.sub s.query.sup s.rules.table (context_of s).rows s.steps (trail_of s)
+
+-- the blocks that are known are those of all nodes of its tree
+abbrev pub HasAllBlocks : SearchState → Type 0
+HasAllBlocks s = IsCurrent (facts_in s.entries) s.prints
 
 -- of how many classes is noted what a run has to do with them: of each where the search asks whether anything is in the
 -- query's subclass, since the complement of nothing is top, which is number 0

@@ -1,7 +1,9 @@
 // One call on the progress of a search.
-ghost use Rattle.std.specs.Prelude.{◌≡◌, ◌+◌, ◌<◌, ◌^◌, IfOk, length};
+ghost use Rattle.std.specs.Prelude.{◌≡◌, ◌+◌, ◌<◌, ◌^◌, IsTrue, OnOk, IfOk, length};
 ghost use Rattle.ontology_limits.specs.Limits.{IsInLimit};
+ghost use Rattle.completion_tree.specs.Trail.{facts_in};
 ghost use Rattle.search_rules.specs.RuleLists.{context_in};
+ghost use Rattle.search_state.specs.Followed.{IsCurrent};
 ghost use Rattle.search_state.specs.Progress.{IsSearching};
 ghost use Rattle.tableau.specs.Inside.{IsAdvanced, IsNotedAfter, HasNotedNew, IsSettled};
 
@@ -14,8 +16,32 @@ use search_state::{Progress, Rested, Stepped};
 use seen_concepts::SeenClasses;
 use std::alloc::{Allocator, Global};
 
-/// Makes the next step, if there is one, and notes what it put.
+/// Makes the next step, if there is one, and notes what it put. If it `follows`, it finds the blocks of all nodes then.
 pub(crate) fn advance<A: Allocator + Copy>(
+    heap: Global,
+    progress: &mut Progress<'_, A>,
+    seen: &mut SeenClasses,
+    rules: &SearchRules<'_>,
+    follows: bool,
+) -> Result<Event, NoMemory>
+    requires in_limit { IsInLimit rules.now.ontology progress.old.query }
+    requires set { rules.now.set.limit ≡ length rules.now.ontology.axioms }
+    requires searching { IsSearching (context_in rules.now) progress.old }
+    requires countable { progress.old.steps + 1 < 2 ^ 64 }
+    ensures advanced { IfOk result (IsAdvanced rules.now progress.old progress.new) }
+    ensures noted { IfOk result (IsNotedAfter rules.now progress.old progress.new seen.old seen.new) }
+    ensures current { OnOk result (IsTrue follows → IsCurrent (facts_in progress.new.entries) progress.new.prints) }
+{
+    let event = advance_once(heap, progress, seen, rules)?;
+    if !follows {
+        return Ok(event);
+    }
+    progress.follow()?;
+    Ok(event)
+}
+
+// Makes the next step, if there is one, and notes what it put.
+fn advance_once<A: Allocator + Copy>(
     heap: Global,
     progress: &mut Progress<'_, A>,
     seen: &mut SeenClasses,

@@ -4,6 +4,7 @@
 mod advancing;
 mod closing;
 mod search;
+mod walker;
 
 pub use refutation_tree::Refutation;
 pub use search::{End, Event, Search};

@@ -1,7 +1,9 @@
-use Rattle.tableau.proofs.Kept.{step_closed}
+use Rattle.tableau.proofs.Kept.{advanced_first, followed_advanced}
 use Rattle.tableau.proofs.advancing.advance.Goals as goal
 
-pub returns-in_ok-refutation-in-Closed-clause-advanced : goal.returns-in_ok-refutation-in-Closed-clause-advanced
-returns-in_ok-refutation-in-Closed-clause-advanced g c =
-    step_closed c.args.rules.now c.args.progress.now c.step.new.self c.refutation.new.progress c.in_ok-refutation-in-Closed.field-0 c.in_ok-step.field-0 c.in-Closed.is c.in_ok-step.ensures
-    c.in_ok-refutation-in-Closed.ensures.left c.in_ok-refutation-in-Closed.ensures.refutes
+pub follow-requires : goal.follow-requires
+follow-requires g c = advanced_first c.args.rules.now c.args.progress.now c.advance_once.new.progress c.in_ok-event.event c.in_ok-event.ensures.advanced
+
+pub returns-clause-advanced : goal.returns-clause-advanced
+returns-clause-advanced g c =
+    followed_advanced c.args.rules.now c.args.progress.now c.advance_once.new.progress c.follow.new.self c.in_ok-follow.ensures.followed c.in_ok-follow.ensures.first c.in_ok-event.event c.in_ok-event.ensures.advanced

@@ -3,7 +3,7 @@ use Rattle.completion_tree.specs.declared.tree.Entry.{Entry}
 use Rattle.completion_tree.specs.Trail.{items_of}
 use Rattle.seen_concepts.specs.Seen.{AreSeenIn}
 use Rattle.tableau.proofs.Kept.{begun_is_kept}
-use Rattle.tableau.proofs.search.Search.new_in.Goals as goal
+use Rattle.tableau.proofs.walker.Walker.new_in.Goals as goal
 
 pub invariant_of-result : goal.invariant_of-result
 invariant_of-result g c =

@@ -4,7 +4,7 @@ use Rattle.tableau_specs.specs.Items.{facts_of}
 use Rattle.seen_concepts.specs.Seen.{SeenSets, nothing_seen, HasNoted}
 use Rattle.tableau.specs.SearchState.{room_for}
 use Rattle.tableau.proofs.Seen.{over_at_start, seen_at_start}
-use Rattle.tableau.proofs.search.first_seen.Goals as goal
+use Rattle.tableau.proofs.walker.first_seen.Goals as goal
 
 pub returns-clause-over : goal.returns-clause-over
 returns-clause-over g c =

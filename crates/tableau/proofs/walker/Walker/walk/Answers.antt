@@ -1,6 +1,6 @@
 use Rattle.std.proofs.Common.{arith}
 use Rattle.tableau.proofs.Kept.{moved_event, one_more, same_search}
-use Rattle.tableau.proofs.search.Search.walk.Goals as goal
+use Rattle.tableau.proofs.walker.Walker.walk.Goals as goal
 
 pub loop-made-preserved : goal.loop-made-preserved
 loop-made-preserved g c =

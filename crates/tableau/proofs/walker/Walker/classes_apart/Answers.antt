@@ -3,7 +3,7 @@ use Rattle.seen_concepts.specs.Seen.{holds, has_seen}
 use Rattle.tableau.specs.SearchState.{SearchState}
 use Rattle.tableau.specs.Inside.{IsKept}
 use Rattle.tableau.proofs.Apart.{left_out_classes}
-use Rattle.tableau.proofs.search.Search.classes_apart.Goals as goal
+use Rattle.tableau.proofs.walker.Walker.classes_apart.Goals as goal
 
 pub returns : goal.returns
 returns g c =

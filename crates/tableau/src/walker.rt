@@ -1,0 +1,356 @@
+// A search within a call.
+ghost use Rattle.std.specs.Prelude.{◌≡◌, ◌+◌, ◌<◌, ◌≤◌, ◌^◌, [], ◌∷◌, true, false, IsTrue, IfOk, OnOk, OnErr, length};
+ghost use Rattle.ontology_limits.specs.Limits.{IsInLimit, IsWithoutIndividuals};
+ghost use Rattle.search_rules.specs.RuleLists.{AreNumbersOf};
+ghost use Rattle.completion_tree.specs.Trail.{items_of};
+ghost use Rattle.seen_concepts.specs.Seen.{AreOver, AreSeenIn};
+ghost use Rattle.tableau.specs.SearchState.{room_for, IsReachedBy, HasRun, HasBegun, HasAllBlocks, IsSameSearch};
+ghost use Rattle.tableau.specs.Steps.{IsEvent, IsEnd, IsAtModel, ShowsApart};
+ghost use Rattle.tableau.specs.Bounds.{HasFewSteps, HasFewMarks};
+ghost use Rattle.tableau.specs.Inside.{goes_on as event_goes_on, is_spent, IsHalted, IsWalked};
+
+use crate::NoMemory;
+use crate::advancing::{advance, settle};
+use crate::search::{End, Event};
+use axiom_sets::AxiomSet;
+use completion_tree::Tree;
+use search_laws::{few_marks, few_steps_without_going_back};
+use search_rules::SearchRules;
+use search_state::{Blocks, Effort, Progress};
+use seen_concepts::SeenClasses;
+use shq_terms::Query;
+use std::alloc::{Allocator, Global};
+use std::marker::Model;
+use step_finders::Rules;
+
+/// A search within a call. Until the call ends, the blocks that are known may be those of the first nodes alone.
+#[derive(Drop)]
+pub(crate) struct Walker<'b, A: Allocator> {
+    heap: Global,
+    rules: &'b SearchRules<'b>,
+    query: &'b Query,
+    sub: u32,
+    not_sup: u32,
+    progress: Progress<'b, A>,
+    seen: SeenClasses,
+    steps: u64,
+    ended: bool,
+    failed: bool,
+}
+
+impl<'b, A: Allocator> Model for Walker<'b, A> {
+    ghost use Rattle.std.specs.Coded.{codes};
+    ghost use Rattle.shq_terms.specs.Code.{concept_code};
+    ghost use Rattle.axiom_sets.specs.Sets.{limited_code};
+    ghost use Rattle.axiom_sets.specs.contracts.deps.Deps as deps;
+    ghost use Rattle.search_trace.specs.contracts.trace.Trace as traces;
+    ghost use Rattle.tableau.specs.SearchState.{SearchState};
+
+    ghost Value = { SearchState };
+
+    ghost coded = { Prim.hlevel (codes, concept_code, limited_code, deps.the_row.coded, traces.the_row.coded) };
+
+    ghost view = { λ s. record {
+      rules = s.rules.now;
+      query = s.query.now;
+      sub = s.sub;
+      not_sup = s.not_sup;
+      entries = s.progress.entries;
+      prints = s.progress.prints;
+      seen = s.seen;
+      steps = s.steps;
+      ended = s.ended;
+      failed = s.failed;
+    } };
+
+    ghost use Rattle.tableau.specs.Inside.{IsKept};
+
+    ghost invariant = { λ s. IsKept (record {
+      rules = s.rules.now;
+      query = s.query.now;
+      sub = s.sub;
+      not_sup = s.not_sup;
+      entries = s.progress.entries;
+      prints = s.progress.prints;
+      seen = s.seen;
+      steps = s.steps;
+      ended = s.ended;
+      failed = s.failed;
+    }) s.progress };
+}
+
+impl<'b, A: Allocator + Copy> Walker<'b, A> {
+    /// A search that begins.
+    pub(crate) fn new_in(
+        alloc: A,
+        heap: Global,
+        rules: &'b SearchRules<'b>,
+        query: &'b Query,
+        sub: u32,
+        not_sup: u32,
+    ) -> Result<Walker<'b, A>, NoMemory>
+        requires numbers { AreNumbersOf rules.now query.now sub not_sup }
+        requires set { rules.now.set.limit ≡ length rules.now.ontology.axioms }
+        requires in_limit { IsInLimit rules.now.ontology query.now }
+        requires without_individuals { IsWithoutIndividuals rules.now.ontology query.now }
+        ensures begun { IfOk result (HasBegun rules.entry.now query.entry.now sub not_sup) }
+        ensures current { IfOk result HasAllBlocks }
+    {
+        rules.is_ready();
+        let _ = rules.concepts();
+        let progress = Progress::new_in(alloc, heap, rules, query, sub, not_sup)?;
+        let seen = first_seen(heap, rules, progress.tree(), not_sup)?;
+        Ok(Walker {
+            heap,
+            rules,
+            query,
+            sub,
+            not_sup,
+            progress,
+            seen,
+            steps: 0,
+            ended: false,
+            failed: false,
+        })
+    }
+
+    /// Makes the next step, if there is one. If it `follows`, it finds the blocks of all nodes then.
+    pub(crate) fn step(&mut self, follows: bool) -> Result<Event, NoMemory>
+        requires goes_on { self.old.ended ≡ false }
+        requires whole { self.old.failed ≡ false }
+        requires countable { self.old.steps + 1 < 2 ^ 64 }
+        ensures same { IsSameSearch self.old self.new }
+        ensures event { IfOk result (IsEvent self.old self.new) }
+        ensures few_steps { OnOk result (HasFewSteps self.new) }
+        ensures few_marks { OnOk result (HasFewMarks self.new) }
+        ensures whole { OnOk result (self.new.failed ≡ false) }
+        ensures failed { OnErr result (self.new.failed ≡ true) }
+        ensures kept { OnErr result (self.new.steps ≡ self.old.steps) }
+        ensures current { IsTrue follows → self.new.failed ≡ false → HasAllBlocks self.new }
+    {
+        self.failed = true;
+        let event = advance(
+            self.heap,
+            &mut self.progress,
+            &mut self.seen,
+            self.rules,
+            follows,
+        )?;
+        self.steps = self.progress.steps();
+        self.ended = !goes_on(&event);
+        self.failed = false;
+
+        // What bounds the count stands after each step.
+        self.steps();
+        Ok(event)
+    }
+
+    /// Makes steps until the search ends or so many are made, and then finds the blocks of all nodes.
+    pub(crate) fn run(&mut self, fuel: u64) -> Result<End, NoMemory>
+        requires goes_on { self.old.ended ≡ false }
+        requires whole { self.old.failed ≡ false }
+        requires countable { self.old.steps + fuel < 2 ^ 64 }
+        ensures same { IsSameSearch self.old self.new }
+        ensures rises { self.old.steps ≤ self.new.steps }
+        ensures within { self.new.steps ≤ self.old.steps + fuel }
+        ensures end { IfOk result (IsEnd fuel self.old self.new) }
+        ensures few_steps { OnOk result (HasFewSteps self.new) }
+        ensures few_marks { OnOk result (HasFewMarks self.new) }
+        ensures whole { OnOk result (self.new.failed ≡ false) }
+        ensures failed { OnErr result (self.new.failed ≡ true) }
+        ensures current { self.new.failed ≡ false → HasAllBlocks self.new }
+    {
+        let end = self.run_on(fuel)?;
+        self.follow()?;
+        Ok(end)
+    }
+
+    // Finds the blocks of all nodes. Nothing else changes.
+    fn follow(&mut self) -> Result<(), NoMemory>
+        requires whole { self.old.failed ≡ false }
+        ensures followed { OnOk result (self.new ≡ record self.old { prints = self.new.prints }) }
+        ensures current { self.new.failed ≡ false → HasAllBlocks self.new }
+        ensures same { IsSameSearch self.old self.new }
+        ensures steps { self.new.steps ≡ self.old.steps }
+        ensures few_steps { OnOk result (HasFewSteps self.new) }
+        ensures few_marks { OnOk result (HasFewMarks self.new) }
+        ensures whole { OnOk result (self.new.failed ≡ false) }
+        ensures failed { OnErr result (self.new.failed ≡ true) }
+    {
+        self.failed = true;
+        self.progress.follow()?;
+        self.failed = false;
+
+        // What bounds the count stands as before.
+        self.steps();
+        Ok(())
+    }
+
+    // Makes steps until the search ends or so many are made.
+    fn run_on(&mut self, fuel: u64) -> Result<End, NoMemory>
+        requires goes_on { self.old.ended ≡ false }
+        requires whole { self.old.failed ≡ false }
+        requires countable { self.old.steps + fuel < 2 ^ 64 }
+        ensures same { IsSameSearch self.old self.new }
+        ensures rises { self.old.steps ≤ self.new.steps }
+        ensures within { self.new.steps ≤ self.old.steps + fuel }
+        ensures end { IfOk result (IsEnd fuel self.old self.new) }
+        ensures few_steps { OnOk result (HasFewSteps self.new) }
+        ensures few_marks { OnOk result (HasFewMarks self.new) }
+        ensures whole { OnOk result (self.new.failed ≡ false) }
+        ensures failed { OnErr result (self.new.failed ≡ true) }
+    {
+        match self.walk(fuel)? {
+            Event::Moved => self.settle(),
+            Event::Saturated => Ok(End::Saturated),
+            Event::Closed(refutation) => Ok(End::Closed(refutation)),
+        }
+    }
+
+    // Makes steps until one is not made, or so many are.
+    fn walk(&mut self, fuel: u64) -> Result<Event, NoMemory>
+        requires goes_on { self.old.ended ≡ false }
+        requires whole { self.old.failed ≡ false }
+        requires countable { self.old.steps + fuel < 2 ^ 64 }
+        ensures same { IsSameSearch self.old self.new }
+        ensures rises { self.old.steps ≤ self.new.steps }
+        ensures within { self.new.steps ≤ self.old.steps + fuel }
+        ensures walked { IfOk result (IsWalked fuel self.old self.new) }
+        ensures few_steps { OnOk result (HasFewSteps self.new) }
+        ensures few_marks { OnOk result (HasFewMarks self.new) }
+        ensures whole { OnOk result (self.new.failed ≡ false) }
+        ensures failed { OnErr result (self.new.failed ≡ true) }
+    {
+        for _made in 0..fuel {
+            match self.step(false)? {
+                Event::Moved => {}
+                Event::Saturated => return Ok(Event::Saturated),
+                Event::Closed(refutation) => return Ok(Event::Closed(refutation)),
+            }
+        }
+
+        // What bounds the count stands where no step was asked for.
+        self.steps();
+        Ok(Event::Moved)
+    }
+
+    // Ends where no step is left, once the fuel is spent.
+    fn settle(&mut self) -> Result<End, NoMemory>
+        requires goes_on { self.old.ended ≡ false }
+        requires whole { self.old.failed ≡ false }
+        ensures same { IsSameSearch self.old self.new }
+        ensures steps { self.new.steps ≡ self.old.steps }
+        ensures halted { IfOk result (IsHalted self.old self.new) }
+        ensures few_steps { OnOk result (HasFewSteps self.new) }
+        ensures few_marks { OnOk result (HasFewMarks self.new) }
+        ensures whole { OnOk result (self.new.failed ≡ false) }
+        ensures failed { OnErr result (self.new.failed ≡ true) }
+    {
+        self.failed = true;
+        let end = settle(self.heap, &mut self.progress, self.rules)?;
+        self.ended = !is_spent(&end);
+        self.failed = false;
+
+        // What bounds the count stands after this look.
+        self.steps();
+        Ok(end)
+    }
+
+    /// How many steps were made, and what bounds them.
+    pub(crate) fn steps(&self) -> u64
+        ensures count { result ≡ self.now.steps }
+        ensures reached { self.now.failed ≡ false → IsReachedBy self.now }
+        ensures run { self.now.failed ≡ false → HasRun self.now }
+        ensures few_steps { self.now.failed ≡ false → HasFewSteps self.now }
+        ensures few_marks { self.now.failed ≡ false → HasFewMarks self.now }
+    {
+        few_steps_without_going_back();
+        few_marks();
+        self.steps
+    }
+
+    /// The classes that a search that has ended at a model shows apart from the query's subclass.
+    pub(crate) fn classes_apart(&self) -> Result<Option<AxiomSet>, NoMemory>
+        requires whole { self.now.failed ≡ false }
+        requires ended { IsAtModel self.now }
+        ensures { IfOk result (ShowsApart self.now) }
+    {
+        if self.not_sup != 0 {
+            return Ok(None);
+        }
+        let classes = self.seen.others(self.heap)?;
+        Ok(Some(classes))
+    }
+
+    /// What was done beside the steps. No contract speaks of these counts.
+    pub(crate) fn effort(&self) -> Effort {
+        self.progress.effort()
+    }
+
+    /// Whether the search has ended.
+    pub(crate) fn ended(&self) -> bool
+        ensures { result ≡ self.now.ended }
+    {
+        self.ended
+    }
+
+    /// The tree, whose trail is reached by as many legal steps as were made, unless memory was refused.
+    pub(crate) fn tree(&self) -> &Tree<A>
+        ensures { result.now ≡ self.now.entries }
+    {
+        self.progress.tree()
+    }
+
+    /// The blocks that are known of the tree's nodes.
+    pub(crate) fn prints(&self) -> &Blocks
+        ensures { result.now ≡ self.now.prints }
+    {
+        self.progress.prints()
+    }
+
+    /// The rules of the search.
+    pub(crate) fn rules(&self) -> &SearchRules<'b>
+        ensures { result.now ≡ self.now.rules }
+    {
+        self.rules
+    }
+}
+
+// What the first trail puts.
+fn first_seen<A: Allocator + Copy>(
+    heap: Global,
+    rules: &SearchRules<'_>,
+    tree: &Tree<A>,
+    not_sup: u32,
+) -> Result<SeenClasses, NoMemory>
+    ensures over { IfOk result (AreOver (room_for (length rules.now.ontology.classes) not_sup)) }
+    ensures seen { IfOk result (AreSeenIn rules.now.table (items_of tree.now ∷ [])) }
+{
+    let mut seen = SeenClasses::new(heap, room_for(rules, not_sup))?;
+    seen.note(rules, tree, 0);
+    Ok(seen)
+}
+
+// Of how many classes is noted what a run has to do with them.
+fn room_for(rules: &SearchRules<'_>, not_sup: u32) -> u32
+    ensures { result ≡ room_for (length rules.now.ontology.classes) not_sup }
+{
+    if not_sup == 0 {
+        rules.ontology().class_count()
+    } else {
+        0
+    }
+}
+
+// Whether the search goes on.
+fn goes_on(event: &Event) -> bool
+    ensures { result ≡ event_goes_on event.now }
+{
+    matches!(event, Event::Moved)
+}
+
+fn is_spent(end: &End) -> bool
+    ensures { result ≡ is_spent end.now }
+{
+    matches!(end, End::Spent)
+}
