@@ -6,7 +6,7 @@ use Rattle.axiom_sets.specs.Sets.{Limited, IsWithin}
 use Rattle.certificate_lines.specs.Lines.{lines}
 use Rattle.shq_terms.specs.Listed.{Listed}
 use Rattle.shq_terms.specs.declared.axioms.Query.{Query as Asked}
-use Rattle.text_laws.specs.LimitLaws.{AreWritable}
+use Rattle.job_inputs.specs.LimitLaws.{AreWritable}
 use Rattle.audit_file.specs.AuditLists.{justified_sets}
 use Rattle.audit_file.specs.AuditText.{audit_in}
 use Rattle.audit_file.specs.Written.{audit_text}

@@ -7,7 +7,7 @@ use Rattle.shq_terms.specs.declared.axioms.Query.{Query as Asked}
 use Rattle.run_log.specs.declared.entry.Entry.{Entry}
 use Rattle.audit_file.specs.AuditLists.{AuditLists}
 use Rattle.audit_file.specs.Written.{audit_text, IsKeptAudit}
-use Rattle.hitting_set_tree.specs.declared.tree.Found.{Found}
+use Rattle.pinpointing_jobs.specs.TreeFound.{Found}
 use Rattle.job_inputs.specs.declared.status.Status.{Status}
 use Rattle.job_inputs.specs.declared.status.Status.TheVariants.{Done, Rejected, BadWords, BadText, Outside, Limit, ReadFault, WriteFault, Undecided, NoMemory as OutOfMemory}
 use Rattle.pinpointing_jobs.specs.Listings.{end_status}

@@ -7,13 +7,13 @@ use Rattle.set_questions.specs.Asked.{Answers, IsUnknownIf, ShowsNoOther}
 use Rattle.set_questions.specs.Meaning.{Keeps, one_more}
 use Rattle.set_questions.specs.declared.entail.Reply.{Reply}
 use Rattle.run_log.specs.Entries.{nodes_of}
-use Rattle.query_asker.specs.AskerLists.{AskerLists, origin_of}
-use Rattle.query_asker.specs.Told.{asker_meaning}
-use Rattle.query_asker.specs.Asking.{IsLater}
-use Rattle.query_asker.specs.Deciding.{IsKnown}
-use Rattle.query_asker.specs.declared.known.Known.TheVariants.{Unknown}
-use Rattle.query_asker.proofs.Tested.{nothing_later}
-use Rattle.query_asker.proofs.Answering.{keeps_later, lifted, local_later, unknown_whole, left_out}
+use Rattle.pinpointing_jobs.specs.AskerLists.{AskerLists, origin_of}
+use Rattle.pinpointing_jobs.specs.Told.{asker_meaning}
+use Rattle.pinpointing_jobs.specs.Asking.{IsLater}
+use Rattle.pinpointing_jobs.specs.Deciding.{IsKnown}
+use Rattle.pinpointing_jobs.specs.AskerKnown.TheVariants.{Unknown}
+use Rattle.pinpointing_jobs.proofs.Tested.{nothing_later}
+use Rattle.pinpointing_jobs.proofs.Answering.{keeps_later, lifted, local_later, unknown_whole, left_out}
 use Rattle.audit_jobs.specs.declared.evidence.Evidence.{Evidence}
 use Rattle.audit_jobs.specs.Kept.{IsEvidence}
 use Rattle.audit_jobs.specs.Told.{HasTold}

@@ -6,7 +6,7 @@ use Rattle.shq_terms.specs.Listed.{Listed}
 use Rattle.ontology_limits.specs.Limits.{IsInLimit}
 use Rattle.ofn_reader.specs.DocumentContext.{DocumentContext}
 use Rattle.ofn_reader.specs.Documents.{IsDocument}
-use Rattle.text_laws.proofs.InLimit.{queries_in_limit}
+use Rattle.job_inputs.proofs.InLimit.{queries_in_limit}
 use Rattle.job_inputs.specs.declared.unread.Unread.{Unread}
 use Rattle.audit_file.specs.Fitting.{Fits}
 use Rattle.audit_jobs.specs.Audited.{input_with, IsAuditClaim, CanBeJudged}

@@ -23,16 +23,16 @@ use Rattle.run_log.specs.declared.entry.TestEnd.{TestEnd}
 use Rattle.run_log.specs.declared.entry.TestEnd.TheVariants as E
 use Rattle.run_log.specs.Entries.{nodes_of}
 use Rattle.run_log.specs.HonestLog.{IsAxiomSet}
-use Rattle.shq_oracle.specs.declared.answer.Answer.{Answer}
-use Rattle.shq_oracle.specs.declared.answer.Answer.TheVariants as Answered
-use Rattle.shq_oracle.specs.declared.answer.Outcome.{Outcome}
-use Rattle.shq_oracle.specs.declared.answer.Outcome.TheVariants as Found
-use Rattle.shq_oracle.specs.Decided.{outcome_of, IsAnswer, EndsAs}
-use Rattle.query_asker.specs.AskerLists.{AskerLists}
-use Rattle.query_asker.specs.Told.{asker_meaning, IsUnknown, LogsNode}
-use Rattle.query_asker.specs.Asking.{reply_of, IsLater}
-use Rattle.query_asker.specs.Deciding.{GainsTest}
-use Rattle.query_asker.proofs.Tested.{nodes_test}
+use Rattle.pinpointing_jobs.specs.Answer.{Answer}
+use Rattle.pinpointing_jobs.specs.Answer.TheVariants as Answered
+use Rattle.pinpointing_jobs.specs.Outcome.{Outcome}
+use Rattle.pinpointing_jobs.specs.Outcome.TheVariants as Found
+use Rattle.pinpointing_jobs.specs.Decided.{outcome_of, IsAnswer, EndsAs}
+use Rattle.pinpointing_jobs.specs.AskerLists.{AskerLists}
+use Rattle.pinpointing_jobs.specs.Told.{asker_meaning, IsUnknown, LogsNode}
+use Rattle.pinpointing_jobs.specs.Asking.{reply_of, IsLater}
+use Rattle.pinpointing_jobs.specs.Deciding.{GainsTest}
+use Rattle.pinpointing_jobs.proofs.Tested.{nodes_test}
 use Rattle.audit_jobs.specs.declared.evidence.CounterModel.{CounterModel}
 use Rattle.audit_jobs.specs.declared.evidence.Evidence.{Evidence}
 use Rattle.audit_jobs.specs.Kept.{IsRefuted, IsModelled, HasRefutation, HasModel, IsEvidence, NamesUpTo, KeepsAnswer}

@@ -8,7 +8,7 @@ use Rattle.ofn_reader.specs.Documents.{IsDocument, IsNoDocument}
 use Rattle.ofn_reader.specs.Queries.{query_start}
 use Rattle.ofn_reader.proofs.OneReason.{document_refusals, query_refusals}
 use Rattle.ofn_reader.proofs.Unique.{documents, documents_not_refused, queries, queries_not_refused}
-use Rattle.text_laws.specs.LimitLaws.{with_names}
+use Rattle.job_inputs.specs.LimitLaws.{with_names}
 use Rattle.job_inputs.specs.Answer.{Answer}
 use Rattle.job_inputs.specs.Asked.{IsAsked, IsNotAsked}
 use Rattle.job_inputs.specs.declared.unread.Unread.{Unread}

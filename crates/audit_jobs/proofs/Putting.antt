@@ -14,7 +14,7 @@ use Rattle.axiom_sets.proofs.Same.{set_of_parts, same_limited}
 use Rattle.pinpointing_specs.specs.Order.{IsAscending}
 use Rattle.pinpointing_specs.proofs.Choices.{in_rest, to_rest}
 use Rattle.lane_sieve.specs.Sets.{IsPart}
-use Rattle.hitting_set_tree.specs.declared.tree.Found.{Found}
+use Rattle.pinpointing_jobs.specs.TreeFound.{Found}
 use Rattle.shq_terms.specs.NoMemory.{NoMemory}
 use Rattle.pinpointing_jobs.specs.Written.{AreFoundRepairs}
 use Rattle.refutation_tree.specs.RefutationLists.{RefutationLists}

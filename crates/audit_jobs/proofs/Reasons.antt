@@ -9,7 +9,7 @@ use Rattle.shq_terms.specs.declared.axioms.Query.{Query as Asked}
 use Rattle.ofn_expressions.specs.Counts.{Counts}
 use Rattle.ofn_reader.specs.DocumentContext.{DocumentContext}
 use Rattle.ofn_reader.specs.Documents.{IsDocument}
-use Rattle.text_laws.specs.LimitLaws.{with_names}
+use Rattle.job_inputs.specs.LimitLaws.{with_names}
 use Rattle.job_inputs.specs.Asked.{IsAsked, IsUndocumented, IsUnasked}
 use Rattle.job_inputs.specs.Unread.{line_unread}
 use Rattle.job_inputs.specs.declared.unread.Unread.{Unread}

@@ -10,9 +10,9 @@ use Rattle.axiom_sets.specs.Sets.{Limited}
 use Rattle.axiom_sets.proofs.Same.{same_limited}
 use Rattle.pinpointing_specs.specs.Smallest.{numbers_to}
 use Rattle.pinpointing_specs.proofs.Choices.{in_difference}
-use Rattle.hitting_set_tree.specs.declared.tree.Found.{Found}
-use Rattle.hitting_set_tree.specs.Found.{IsFound, HasTree}
-use Rattle.hitting_set_tree.specs.Open.{AsksFew}
+use Rattle.pinpointing_jobs.specs.TreeFound.{Found}
+use Rattle.pinpointing_jobs.specs.Found.{IsFound, HasTree}
+use Rattle.pinpointing_jobs.specs.Open.{AsksFew}
 use Rattle.shq_terms.specs.Listed.{Listed}
 use Rattle.shq_terms.specs.NoMemory.{NoMemory}
 use Rattle.shq_terms.specs.declared.axioms.Query.{Query as Asked}
@@ -21,9 +21,9 @@ use Rattle.run_log.specs.declared.entry.Entry.TheVariants.{Test}
 use Rattle.run_log.specs.declared.entry.TestEnd.TheVariants as E
 use Rattle.run_log.specs.Entries.{spent_of, nodes_of}
 use Rattle.run_log.specs.HonestLog.{IsHonestEntry, AreTreeNodes}
-use Rattle.query_asker.specs.OracleLists.{OracleLists}
-use Rattle.query_asker.specs.AskerLists.{AskerLists, origin_of}
-use Rattle.query_asker.specs.Told.{asker_meaning, IsAskerLog}
+use Rattle.pinpointing_jobs.specs.OracleLists.{OracleLists}
+use Rattle.pinpointing_jobs.specs.AskerLists.{AskerLists, origin_of}
+use Rattle.pinpointing_jobs.specs.Told.{asker_meaning, IsAskerLog}
 use Rattle.pinpointing_jobs.proofs.Searched.{budget_kept, few, just, tree, fresh, made_fresh, IsMadeOf, is_made_of, asks_few, along}
 use Rattle.audit_jobs.specs.declared.evidence.Evidence.{Evidence}
 use Rattle.audit_jobs.specs.declared.searching.Searched.{Searched}

@@ -7,7 +7,7 @@ use Rattle.ofn_expressions.specs.Counts.{Counts}
 use Rattle.ofn_expressions.specs.declared.refusal.Refusal.{Refusal}
 use Rattle.ofn_reader.specs.DocumentContext.{DocumentContext}
 use Rattle.ofn_reader.specs.Documents.{IsDocument, IsNoDocument}
-use Rattle.text_laws.specs.LimitLaws.{with_names}
+use Rattle.job_inputs.specs.LimitLaws.{with_names}
 use Rattle.job_inputs.specs.Answer.{Answer, IsAnswer, line, no_memory}
 use Rattle.job_inputs.specs.Asked.{IsAsked, IsNotAsked}
 use Rattle.job_inputs.specs.Replies.{unread_answer}

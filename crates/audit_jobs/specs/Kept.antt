@@ -12,9 +12,9 @@ use Rattle.run_log.specs.declared.entry.Entry.{Entry}
 use Rattle.run_log.specs.declared.entry.Entry.TheVariants.{Test}
 use Rattle.run_log.specs.declared.entry.TestEnd.TheVariants.{Yes, No}
 use Rattle.run_log.specs.HonestLog.{IsAxiomSet}
-use Rattle.shq_oracle.specs.Decided.{IsRefuting}
-use Rattle.shq_oracle.specs.declared.answer.Answer.{Answer}
-use Rattle.shq_oracle.specs.declared.answer.Answer.TheVariants as Answered
+use Rattle.pinpointing_jobs.specs.Decided.{IsRefuting}
+use Rattle.pinpointing_jobs.specs.Answer.{Answer}
+use Rattle.pinpointing_jobs.specs.Answer.TheVariants as Answered
 use Rattle.audit_jobs.specs.declared.evidence.CounterModel.{CounterModel}
 use Rattle.audit_jobs.specs.declared.evidence.Evidence.{Evidence}
 

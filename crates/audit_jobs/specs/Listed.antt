@@ -4,7 +4,7 @@ use Rattle.axiom_sets.specs.Sets.{Limited, IsWithin}
 use Rattle.pinpointing_specs.specs.Order.{IsAscending}
 use Rattle.pinpointing_specs.specs.Smallest.{rest}
 use Rattle.set_questions.specs.InOrder.{HaveOneLimit}
-use Rattle.hitting_set_tree.specs.declared.tree.Found.{Found}
+use Rattle.pinpointing_jobs.specs.TreeFound.{Found}
 use Rattle.refutation_tree.specs.RefutationLists.{RefutationLists}
 use Rattle.audit_file.specs.AuditLists.{AuditLists, justified_sets, repaired_sets, with_justification, with_repair}
 use Rattle.audit_file.specs.declared.entries.Justification.{Justification}

@@ -5,9 +5,9 @@ use Rattle.set_questions.specs.Asked.{Answers, ShowsNoOther}
 use Rattle.set_questions.specs.Meaning.{one_more}
 use Rattle.set_questions.specs.declared.entail.Reply.{Reply}
 use Rattle.run_log.specs.Entries.{nodes_of}
-use Rattle.query_asker.specs.AskerLists.{AskerLists}
-use Rattle.query_asker.specs.Told.{asker_meaning, IsUnknown}
-use Rattle.query_asker.specs.Asking.{IsLater}
+use Rattle.pinpointing_jobs.specs.AskerLists.{AskerLists}
+use Rattle.pinpointing_jobs.specs.Told.{asker_meaning, IsUnknown}
+use Rattle.pinpointing_jobs.specs.Asking.{IsLater}
 
 -- the answer about the set, of which the log gained at most a test, which was counted, and which shows no more than it
 -- tells

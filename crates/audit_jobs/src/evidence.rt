@@ -1,15 +1,15 @@
 // The evidence of tests.
 ghost use Rattle.std.specs.Prelude.{◌≡◌, ◌∷◌, [], ◌++◌, OnOk};
 ghost use Rattle.std.specs.FinSet as sets;
-ghost use Rattle.query_asker.specs.Asking.{reply_of};
-ghost use Rattle.shq_oracle.specs.Decided.{outcome_of};
+ghost use Rattle.pinpointing_jobs.specs.Asking.{reply_of};
+ghost use Rattle.pinpointing_jobs.specs.Decided.{outcome_of};
 ghost use Rattle.audit_jobs.specs.Kept.{HasRoom, NamesUpTo, KeepsAnswer};
 
 use axiom_sets::AxiomSet;
 use finite_model::Interp;
 use refutation_tree::Refutation;
 use set_questions::Reply;
-use shq_oracle::Answer;
+use pinpointing_jobs::Answer;
 use shq_terms::NoMemory;
 use std::alloc::Global;
 

@@ -6,8 +6,8 @@ ghost use Rattle.audit_jobs.specs.Witnessed.{IsSearched, HasAsked};
 
 use crate::evidence::Evidence;
 use crate::witness::Witness;
-use hitting_set_tree::{Found, enumerate};
-use query_asker::Oracle;
+use pinpointing_jobs::{Found, enumerate};
+use pinpointing_jobs::Oracle;
 use run_log::RunLog;
 use shq_terms::{NoMemory, Ontology, Query};
 use std::alloc::Global;

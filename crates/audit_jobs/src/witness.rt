@@ -7,14 +7,14 @@ ghost use Rattle.ontology_limits.specs.Limits.{IsInLimit, IsWithoutIndividuals};
 ghost use Rattle.set_questions.specs.Asked.{Answers, IsUnknownIf, ShowsNoOther, Takes};
 ghost use Rattle.set_questions.specs.Meaning.{Keeps, ShowsTheSame, one_more};
 ghost use Rattle.run_log.specs.Entries.{is_spent, IsAnswered};
-ghost use Rattle.query_asker.specs.AskerLists.{origin_of};
-ghost use Rattle.query_asker.specs.Told.{AreTestsOfOthers, asker_meaning, IsAskerLog};
+ghost use Rattle.pinpointing_jobs.specs.AskerLists.{origin_of};
+ghost use Rattle.pinpointing_jobs.specs.Told.{AreTestsOfOthers, asker_meaning, IsAskerLog};
 ghost use Rattle.audit_jobs.specs.Kept.{IsEvidence};
 ghost use Rattle.audit_jobs.specs.Told.{HasTold};
 
 use crate::evidence::{Evidence, keep, make_room, no_evidence};
 use axiom_sets::AxiomSet;
-use query_asker::{Asker, Known, Oracle};
+use pinpointing_jobs::{Asker, Known, Oracle};
 use set_questions::{Entail, Reply};
 use shq_terms::{NoMemory, Query};
 use std::alloc::Global;
@@ -34,7 +34,7 @@ impl<'a> Model for Witness<'a> {
     ghost use Rattle.std.specs.Coded.{codes};
     ghost use Rattle.shq_terms.specs.Code.{concept_code};
     ghost use Rattle.axiom_sets.specs.Sets.{limited_code};
-    ghost use Rattle.query_asker.specs.AskerLists.{AskerLists, number_set_code};
+    ghost use Rattle.pinpointing_jobs.specs.AskerLists.{AskerLists, number_set_code};
     ghost use Rattle.audit_jobs.specs.Kept.{IsEvidence};
 
     ghost Value = { AskerLists };
@@ -103,8 +103,8 @@ impl<'a> Witness<'a> {
 }
 
 impl<'a> Entail for Witness<'a> {
-    ghost use Rattle.query_asker.specs.AskerLists.{AskerOrigin, origin_of};
-    ghost use Rattle.query_asker.specs.Told.{asker_meaning, asker_grows};
+    ghost use Rattle.pinpointing_jobs.specs.AskerLists.{AskerOrigin, origin_of};
+    ghost use Rattle.pinpointing_jobs.specs.Told.{asker_meaning, asker_grows};
 
     ghost meaning = { asker_meaning };
 

@@ -3,10 +3,10 @@ use Rattle.std.proofs.Common.{◌≡◌, ℕ, List, drop, Result, Ok, Err, sym, 
 use Rattle.std.specs.Prelude.{IfOk}
 use Rattle.std.specs.Result.{result_map_both}
 use Rattle.shq_terms.specs.Listed.{Listed}
-use Rattle.ontology_limits.specs.Limits.{IsInLimit}
+use Rattle.refutation_check.specs.Limits.{IsInLimit}
 use Rattle.ofn_reader.specs.DocumentContext.{DocumentContext}
 use Rattle.ofn_reader.specs.Documents.{IsDocument}
-use Rattle.text_laws.proofs.InLimit.{queries_in_limit}
+use Rattle.job_inputs.proofs.InLimit.{queries_in_limit}
 use Rattle.certificate_check.specs.Certificates.{Fits}
 use Rattle.certificate_check.specs.Checking.{input_with, IsClaim, IsInput, CanBeJudged}
 use Rattle.certificate_check.specs.declared.checking.Claim.{Claim}

@@ -11,7 +11,7 @@ use Rattle.certificate_lines.specs.Malformed.{IsFirstMalformed}
 use Rattle.certificate_check.specs.Certificates.{certificate_lines, certificate, IsUnreadBy}
 use Rattle.certificate_check.specs.Malformed.{certificate_read}
 use Rattle.certificate_check.proofs.FirstMalformed.{malformed_is_first}
-use Rattle.text_laws.specs.LimitLaws.{with_names}
+use Rattle.job_inputs.specs.LimitLaws.{with_names}
 use Rattle.job_inputs.specs.Asked.{IsAsked, judged, malformed_line, IsUndocumented, IsUnasked}
 use Rattle.certificate_check.specs.Checking.{IsInput, IsVerdict, IsVerdictOn, IsReply, no_document, no_query, shown, IsUnclaimed, IsUnread}
 use Rattle.certificate_check.specs.declared.checking.Input.{Input}

@@ -6,7 +6,7 @@ use Rattle.shq_terms.specs.declared.axioms.Numbered.{Numbered}
 use Rattle.shq_terms.specs.declared.axioms.Query.{Query as Asked}
 use Rattle.shq_meaning.specs.Truth.{Interpretation, meets, meets_all, refutes_at, Entails}
 use Rattle.finite_model.specs.ModelLists.{meaning}
-use Rattle.refutation_truth.proofs.Entailed.{entailed_by_all}
+use Rattle.refutation_check.proofs.Entailed.{entailed_by_all}
 use Rattle.certificate_check.specs.Checking.{IsVerdictOn, first_unmet}
 use Rattle.certificate_check.specs.declared.certificate.Certificate.{Certificate}
 use Rattle.certificate_check.specs.declared.certificate.Certificate.TheVariants as C

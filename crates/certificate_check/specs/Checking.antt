@@ -5,7 +5,7 @@ use Rattle.shq_terms.specs.declared.axioms.Numbered.{Numbered}
 use Rattle.shq_terms.specs.declared.axioms.Query.{Query as Asked}
 use Rattle.shq_meaning.specs.Truth.{Interpretation, PlacesIndividuals, meets, refutes_at}
 use Rattle.shq_meaning.specs.Least.{IsFirstBelow}
-use Rattle.ontology_limits.specs.Limits.{IsInLimit}
+use Rattle.refutation_check.specs.Limits.{IsInLimit}
 use Rattle.finite_model.specs.ModelLists.{ModelLists as Model, meaning}
 use Rattle.calculus_specs.specs.Valid.{concept_at, IsBrokenAt, IsRefutation}
 use Rattle.refutation_tree.specs.RefutationLists.{RefutationLists as Refutation}
@@ -16,7 +16,7 @@ use Rattle.ofn_expressions.specs.Counts.{Counts}
 use Rattle.ofn_expressions.specs.declared.refusal.Refusal.{Refusal}
 use Rattle.ofn_reader.specs.DocumentContext.{DocumentContext}
 use Rattle.ofn_reader.specs.Documents.{IsDocument, IsNoDocument}
-use Rattle.text_laws.specs.LimitLaws.{with_names}
+use Rattle.job_inputs.specs.LimitLaws.{with_names}
 use Rattle.certificate_lines.specs.Malformed.{IsFirstMalformed}
 use Rattle.certificate_check.specs.Certificates.{certificate_lines, certificate, Fits}
 use Rattle.certificate_check.specs.Malformed.{certificate_read}

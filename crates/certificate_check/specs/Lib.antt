@@ -12,3 +12,4 @@ pub use Rattle.job_inputs.specs.Replies
 pub use Rattle.job_inputs.specs.declared.status.Status
 pub use Rattle.job_inputs.specs.declared.unread.Unread
 pub use Rattle.job_inputs.specs.declared.verdict.Verdict
+pub use Rattle.job_inputs.specs.LimitLaws

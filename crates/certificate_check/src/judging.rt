@@ -1,6 +1,6 @@
 // The verdict on a certificate.
 ghost use Rattle.std.specs.Prelude.{◌≡◌, ◌≤◌, IfOk, length};
-ghost use Rattle.ontology_limits.specs.Limits.{IsInLimit};
+ghost use Rattle.refutation_check.specs.Limits.{IsInLimit};
 ghost use Rattle.refutation_tree.specs.ReadBack.{IsWritable};
 ghost use Rattle.finite_model.specs.ModelLists.{meaning};
 ghost use Rattle.certificate_check.specs.Checking.{CanBeJudged, IsVerdict, IsOfModel, IsOfRefutation, first_unmet, line_of_place, verdict_of};

@@ -3,9 +3,9 @@ use Rattle.std.specs.Prelude.{◌≡◌, ◌⊎◌, ℕ, [], List, codes}
 use Rattle.shq_terms.specs.Listed.{Listed}
 use Rattle.ofn_expressions.specs.declared.refusal.Refusal.{Refusal}
 use Rattle.ofn_reader.specs.DocumentContext.{DocumentContext}
-use Rattle.run_log.specs.declared.entry.Entry.{Entry}
-use Rattle.run_log.specs.HonestLog.{IsClassificationLog}
-use Rattle.run_log.specs.Shown.{ShowsClasses}
+use Rattle.classifier.specs.Entry.{Entry}
+use Rattle.classifier.specs.HonestLog.{IsClassificationLog}
+use Rattle.classifier.specs.Shown.{ShowsClasses}
 use Rattle.classifier.specs.Subsumption.{IsSubsumption}
 use Rattle.classifier.specs.ClassificationClassified.{EndsSpent}
 use Rattle.classifier.specs.Excluded.{AsksNoExcluded}

@@ -1,7 +1,7 @@
 // The relation of the classes, and the text of their taxonomy.
 ghost use Rattle.std.specs.Prelude.{◌≡◌, [], IfOk, IfErr, length};
 ghost use Rattle.ontology_limits.specs.Limits.{IsOntologyInLimit, IsOntologyWithoutIndividuals};
-ghost use Rattle.run_log.specs.HonestLog.{IsClassificationLog};
+ghost use Rattle.classifier.specs.HonestLog.{IsClassificationLog};
 ghost use Rattle.classifier.specs.Rows.{holds};
 ghost use Rattle.classifier.specs.ClassificationClassified.{IsClassified};
 ghost use Rattle.classifier.specs.Excluded.{AsksNoExcluded};

@@ -10,3 +10,6 @@ pub mod ClassificationClassified
 pub mod Excluded
 pub mod Mirrors
 pub mod ClassificationLaws
+pub use Rattle.run_log.specs.HonestLog
+pub use Rattle.run_log.specs.declared.entry.Entry
+pub use Rattle.run_log.specs.Shown

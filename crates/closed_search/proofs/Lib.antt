@@ -8,3 +8,4 @@ pub mod Places
 pub mod Trees
 pub mod Names
 pub mod Made
+pub use Rattle.refutation_truth.proofs.Entailed

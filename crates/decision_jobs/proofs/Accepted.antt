@@ -17,7 +17,7 @@ use Rattle.refutation_tree.specs.RefutationText.{refutation_of}
 use Rattle.refutation_tree.specs.Written.{refutation_text}
 use Rattle.refutation_tree.proofs.TextBack.{refutation_read_back}
 use Rattle.refutation_truth.specs.Theory.{all_axioms}
-use Rattle.text_laws.specs.LimitLaws.{AreWritable}
+use Rattle.certificate_check.specs.LimitLaws.{AreWritable}
 use Rattle.run_log.specs.HonestLog.{IsWhole}
 use Rattle.run_log.proofs.Named.{whole}
 use Rattle.shq_oracle.specs.declared.answer.Answer.{Answer as Decision}

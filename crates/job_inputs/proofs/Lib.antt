@@ -7,3 +7,4 @@ pub mod Messages
 pub mod NoFault
 pub mod ReadInLimit
 pub use Rattle.text_laws.proofs.InLimit
+pub use Rattle.text_laws.proofs.LongerDocuments

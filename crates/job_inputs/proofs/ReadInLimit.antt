@@ -5,7 +5,7 @@ use Rattle.shq_terms.specs.Listed.{Listed}
 use Rattle.shq_terms.specs.declared.axioms.On.TheVariants.{Any}
 use Rattle.shq_terms.specs.declared.axioms.Query.{Query as Asked}
 use Rattle.ofn_reader.specs.DocumentContext.{DocumentContext}
-use Rattle.ontology_limits.specs.Limits.{IsInLimit, IsWithoutIndividuals}
+use Rattle.text_laws.specs.Limits.{IsInLimit, IsWithoutIndividuals}
 use Rattle.text_laws.specs.LimitLaws.{AreWritable}
 use Rattle.text_laws.proofs.InLimit.{queries_in_limit, classes_in_limit, queries_without_individuals, classes_without_individuals, queries_list_names, classes_list_names}
 use Rattle.job_inputs.specs.Questions.{Text, has_element, follows, IsDocumentAlone, IsReadQuestion}

@@ -15,7 +15,7 @@ use Rattle.role_box.specs.Steps.{is_transitive}
 use Rattle.role_box.specs.Paths.{has_path, role_limit, is_below}
 use Rattle.role_box.specs.Closure.{any_below}
 use Rattle.role_box.proofs.Limits.{transitive_within}
-use Rattle.ontology_limits.specs.Limits.{IsInLimit}
+use Rattle.search_laws.specs.Limits.{IsInLimit}
 use Rattle.calculus_specs.specs.declared.facts.Fact.{Fact}
 use Rattle.search_laws.specs.Theory.{theory_of}
 use Rattle.tableau_specs.specs.declared.Item.{Item}

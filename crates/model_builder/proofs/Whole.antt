@@ -17,7 +17,7 @@ use Rattle.calculus_specs.specs.Shape.{Shape}
 use Rattle.role_box.specs.declared.role_axiom.RoleAxiom.{RoleAxiom}
 use Rattle.role_box.specs.RoleAxioms.{role_axioms}
 use Rattle.role_box.specs.Paths.{is_below}
-use Rattle.ontology_limits.specs.Limits.{IsInLimit, IsWithoutIndividuals}
+use Rattle.search_laws.specs.Limits.{IsInLimit, IsWithoutIndividuals}
 use Rattle.finite_model.specs.ModelLists.{ModelLists, IsDomain, meaning, is_member, is_link, individuals_below, element_at}
 use Rattle.finite_model.specs.Written.{uses_listed_names}
 use Rattle.calculus_specs.specs.declared.facts.Fact.{Fact}

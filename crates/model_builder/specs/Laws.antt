@@ -8,7 +8,7 @@ use Rattle.calculus_specs.specs.Shape.{Shape}
 use Rattle.calculus_specs.specs.Rows.{Row}
 use Rattle.role_box.specs.declared.role_axiom.RoleAxiom.{RoleAxiom}
 use Rattle.role_box.specs.RoleAxioms.{role_axioms}
-use Rattle.ontology_limits.specs.Limits.{IsInLimit}
+use Rattle.search_laws.specs.Limits.{IsInLimit}
 use Rattle.calculus_specs.specs.declared.facts.Fact.{Fact}
 use Rattle.search_laws.specs.Theory.{theory_of}
 use Rattle.tableau_specs.specs.declared.Item.{Item}

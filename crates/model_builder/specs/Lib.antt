@@ -5,3 +5,5 @@ pub mod Saturated
 pub mod Structure
 pub mod Gains
 pub mod Walks
+pub use Rattle.completion_tree.specs.Trail
+pub use Rattle.search_laws.specs.Limits

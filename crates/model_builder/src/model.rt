@@ -1,6 +1,6 @@
 // The model of a saturated tree.
 ghost use Rattle.std.specs.Prelude.{IsTrue, IfOk, length};
-ghost use Rattle.ontology_limits.specs.Limits.{IsInLimit, IsWithoutIndividuals};
+ghost use Rattle.search_laws.specs.Limits.{IsInLimit, IsWithoutIndividuals};
 ghost use Rattle.finite_model.specs.ModelLists.{meaning};
 ghost use Rattle.finite_model.specs.Written.{uses_listed_names};
 ghost use Rattle.completion_tree.specs.Trail.{facts_in, items_of};

@@ -9,7 +9,7 @@ use Rattle.shq_meaning.proofs.Below.{all_below-false}
 use Rattle.finite_model.specs.ModelLists.{ModelLists as Model, meaning}
 use Rattle.calculus_specs.specs.RefutationLaws.{IsJudged}
 use Rattle.calculus_specs.proofs.Broken.{judged as judged_once}
-use Rattle.refutation_tree.specs.RefutationLists.{RefutationLists as Refutation}
+use Rattle.audit_jobs.specs.RefutationLists.{RefutationLists as Refutation}
 use Rattle.decision_jobs.specs.Verdicts.{named_theory}
 use Rattle.ofn_expressions.specs.Counts.{Counts}
 use Rattle.ofn_reader.specs.DocumentContext.{DocumentContext}

@@ -21,11 +21,11 @@ use Rattle.classification_jobs.specs.Status.{Status}
 use Rattle.classification_jobs.specs.Status.TheVariants.{Done, Rejected, BadWords, BadText, Outside, Limit, ReadFault, WriteFault, Undecided, NoMemory}
 use Rattle.audit_jobs.specs.Answers.{IsEvidenced}
 use Rattle.audit_jobs.specs.Witnessed.{IsEvidenceLog}
-use Rattle.pinpointing_jobs.specs.Answers.{IsPinpointed, IsMeasured, AnswersWorkload}
+use Rattle.audit_jobs.specs.PinpointingAnswers.{IsPinpointed, IsMeasured, AnswersWorkload}
 use Rattle.run_log.specs.HonestLog.{IsPinpointingLog}
-use Rattle.pinpointing_jobs.specs.Memory.{UnlessNoMemory}
-use Rattle.pinpointing_jobs.specs.Listings.{end_status}
-use Rattle.pinpointing_jobs.specs.declared.wanted.Wanted.{Wanted}
+use Rattle.audit_jobs.specs.Memory.{UnlessNoMemory}
+use Rattle.audit_jobs.specs.Listings.{end_status}
+use Rattle.audit_jobs.specs.Wanted.{Wanted}
 use Rattle.ontology_jobs.specs.Words.{Job, check, decide, classify, pinpoint, evidence}
 use Rattle.ontology_jobs.specs.Answers.{IsTooLong, AnswersRead, AnswersJob}
 use Rattle.ontology_jobs.specs.Laws.{IsFaultless}

@@ -10,7 +10,7 @@ use Rattle.run_log.specs.declared.entry.Entry.{Entry}
 use Rattle.classification_jobs.specs.Answer.{Answer, IsAnswer, is_fault}
 use Rattle.classification_jobs.specs.Status.{Status}
 use Rattle.classification_jobs.specs.Status.TheVariants.{Done, Rejected, BadWords, BadText, Outside, Limit, ReadFault, WriteFault, Undecided, NoMemory}
-use Rattle.pinpointing_jobs.specs.Answers.{AnswersWorkload}
+use Rattle.audit_jobs.specs.PinpointingAnswers.{AnswersWorkload}
 use Rattle.ontology_jobs.specs.Words.{Job, Request, on_input, generated, request_of}
 use Rattle.ontology_jobs.specs.Answers.{end_answer, AnswersRead, AnswersJob, AnswersRequest, IsBadWords, Answers, Answered, AreAll, AnswersJobOnAll, AnswersRequestOnAll, AnswersAll, AnsweredAll, left_by, LeavesFor}
 

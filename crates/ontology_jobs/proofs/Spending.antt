@@ -20,10 +20,10 @@ use Rattle.classification_jobs.specs.Status.TheVariants.{Undecided}
 use Rattle.classification_jobs.specs.Questions.{Text, follows}
 use Rattle.classification_jobs.specs.Refusals.{IsRefused}
 use Rattle.decision_jobs.specs.Decisions.{decision_status, IsDecided}
-use Rattle.pinpointing_jobs.specs.declared.wanted.Wanted.{Wanted}
-use Rattle.pinpointing_jobs.specs.Listings.{end_status, IsListing, IsListAnswer}
+use Rattle.audit_jobs.specs.Wanted.{Wanted}
+use Rattle.audit_jobs.specs.Listings.{end_status, IsListing, IsListAnswer}
 use Rattle.audit_jobs.specs.Answers.{IsEvidenceAnswer}
-use Rattle.pinpointing_jobs.specs.Counts.{IsCount, IsCounted}
+use Rattle.audit_jobs.specs.Counts.{IsCount, IsCounted}
 use Rattle.ontology_jobs.specs.Words.{Job, check, audit, decide, classify, pinpoint, evidence, Request, on_input, generated, request_of}
 use Rattle.ontology_jobs.specs.Answers.{IsTooLong, IsBadWords, AnswersJob, AnswersRequest, Answers, AnswersAll}
 use Rattle.ontology_jobs.specs.Laws.{SpendsAll, HasSpentAll, UndecidedSpendsAll}

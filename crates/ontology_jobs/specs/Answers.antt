@@ -13,7 +13,7 @@ use Rattle.decision_jobs.specs.Checked.{Checked}
 use Rattle.decision_jobs.specs.Decisions.{AnswersQuestion}
 use Rattle.classification_jobs.specs.Classifications.{AnswersClassification}
 use Rattle.audit_jobs.specs.Answers.{AnswersEvidence}
-use Rattle.pinpointing_jobs.specs.Answers.{AnswersPinpointing, AnswersWorkload}
+use Rattle.audit_jobs.specs.PinpointingAnswers.{AnswersPinpointing, AnswersWorkload}
 use Rattle.audit_jobs.specs.Audited.{Audited}
 use Rattle.ontology_jobs.specs.Words.{Job, check, audit, decide, classify, pinpoint, evidence, Request, on_input, generated, request_of}
 

@@ -11,7 +11,7 @@ use crate::words::{Command, Job, read_words};
 use audit_jobs::{find_evidence, verify_audit};
 use classification_jobs::{Status, Text, classify};
 use decision_jobs::{answer, verify};
-use pinpointing_jobs::{pinpoint, run_workload};
+use audit_jobs::{pinpoint, run_workload};
 use run_log::RunLog;
 use shq_io::{ReadEnd, Sink, Source, WriteFailed, read_all, write_whole};
 use std::alloc::Global;

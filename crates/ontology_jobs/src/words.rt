@@ -5,7 +5,7 @@ ghost use Rattle.ontology_jobs.specs.Words.{request_of, command_request, texts_o
 use crate::workload_number::WorkloadNumber;
 use certificate_lines::number;
 use classification_jobs::Question;
-use pinpointing_jobs::Wanted;
+use audit_jobs::Wanted;
 
 /// What the words ask for.
 #[derive(Clone, Copy)]

@@ -8,3 +8,5 @@ pub mod Whole
 pub mod Repairs
 pub mod Listed
 mod Union
+pub use Rattle.query_asker.proofs.Tested
+pub use Rattle.query_asker.proofs.Answering

@@ -8,7 +8,7 @@ use Rattle.axiom_sets.specs.Sets.{Limited}
 use Rattle.pinpointing_specs.specs.Smallest.{IsMinimalRemoval}
 use Rattle.pinpointing_specs.specs.Nodes.{AreSettled}
 use Rattle.pinpointing_specs.proofs.Explored.{listed_minimal, removal_is_leaf, removal_is_hit_alone}
-use Rattle.hitting_set_tree.specs.declared.tree.Found.{Found}
+use Rattle.repair_list.specs.TreeFound.{Found}
 use Rattle.shq_terms.specs.Listed.{Listed}
 use Rattle.shq_terms.specs.declared.axioms.Query.{Query as Asked}
 use Rattle.pinpointing_specs.specs.LocalModule.{of_axioms}

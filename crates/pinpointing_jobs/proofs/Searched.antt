@@ -16,8 +16,8 @@ use Rattle.pinpointing_specs.specs.Nodes.{AreNodes, IsSettled}
 use Rattle.pinpointing_specs.proofs.Choices.{to_rest, in_rest, to_without}
 use Rattle.pinpointing_specs.proofs.Explored.{removal_is_leaf}
 use Rattle.shq_terms.specs.NoMemory.{NoMemory}
-use Rattle.hitting_set_tree.specs.declared.tree.Found.{Found}
-use Rattle.hitting_set_tree.specs.Tree.{HasFoundIn}
+use Rattle.repair_list.specs.TreeFound.{Found}
+use Rattle.repair_list.specs.Tree.{HasFoundIn}
 use Rattle.repair_list.specs.Found.{IsFound, ListsAllShown, HasTree}
 use Rattle.repair_list.specs.Open.{AsksFew}
 use Rattle.shq_terms.specs.Listed.{Listed}

@@ -12,3 +12,15 @@ pub mod Searched
 pub mod Written
 pub mod ListLaws
 pub mod SetLists
+pub use Rattle.query_asker.specs.Decided
+pub use Rattle.query_asker.specs.Answer
+pub use Rattle.query_asker.specs.Outcome
+pub use Rattle.query_asker.specs.Asking
+pub use Rattle.query_asker.specs.AskerLists
+pub use Rattle.query_asker.specs.Told
+pub use Rattle.query_asker.specs.Deciding
+pub use Rattle.query_asker.specs.declared.known.Known as AskerKnown
+pub use Rattle.query_asker.specs.OracleLists
+pub use Rattle.repair_list.specs.TreeFound
+pub use Rattle.repair_list.specs.Found
+pub use Rattle.repair_list.specs.Open

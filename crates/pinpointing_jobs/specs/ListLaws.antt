@@ -3,7 +3,7 @@ use Rattle.std.specs.Prelude.{◌≡◌, ℕ, List}
 use Rattle.std.specs.List.{Contains}
 use Rattle.lane_sieve.specs.Sets.{NumberSet, IsPart, DoMeet}
 use Rattle.axiom_sets.specs.Sets.{Limited}
-use Rattle.hitting_set_tree.specs.declared.tree.Found.{Found}
+use Rattle.repair_list.specs.TreeFound.{Found}
 use Rattle.shq_terms.specs.Listed.{Listed}
 use Rattle.shq_terms.specs.declared.axioms.Query.{Query as Asked}
 use Rattle.pinpointing_specs.specs.LocalModule.{IsLocalModule, IsJustification}

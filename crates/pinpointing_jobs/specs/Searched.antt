@@ -6,7 +6,7 @@ use Rattle.pinpointing_specs.specs.Smallest.{rest, IsExplored}
 use Rattle.pinpointing_specs.specs.Order.{IsAscending}
 use Rattle.pinpointing_specs.specs.Nodes.{AreNodes, AreSettled}
 use Rattle.set_questions.specs.InOrder.{HaveOneLimit}
-use Rattle.hitting_set_tree.specs.declared.tree.Found.{Found}
+use Rattle.repair_list.specs.TreeFound.{Found}
 use Rattle.shq_terms.specs.Listed.{Listed}
 use Rattle.shq_terms.specs.declared.axioms.Query.{Query as Asked}
 use Rattle.pinpointing_specs.specs.LocalModule.{FollowsFrom}

@@ -4,7 +4,7 @@ use Rattle.std.specs.List.{All, Contains}
 use Rattle.axiom_sets.specs.Sets.{Limited}
 use Rattle.pinpointing_specs.specs.Order.{IsAscending}
 use Rattle.set_questions.specs.InOrder.{HaveOneLimit}
-use Rattle.hitting_set_tree.specs.declared.tree.Found.{Found}
+use Rattle.repair_list.specs.TreeFound.{Found}
 use Rattle.repair_list.specs.Alone.{AreRepairs}
 use Rattle.shq_terms.specs.Listed.{Listed}
 use Rattle.job_inputs.specs.Answer.{line}

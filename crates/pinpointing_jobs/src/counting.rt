@@ -6,7 +6,7 @@ ghost use Rattle.pinpointing_jobs.specs.Counts.{counts_text};
 ghost use Rattle.pinpointing_jobs.specs.Written.{AreOfAxioms, IsWrittenCount, IsToldCount};
 
 use crate::NoMemory;
-use hitting_set_tree::Found;
+use repair_list::Found;
 use job_inputs::{Status, Text};
 use repair_list::repairs;
 use shq_terms::Ontology;

@@ -35,3 +35,5 @@ pub use wanted::Wanted;
 pub use whole_text::sets_text;
 pub use workload_laws::{workload_queries_follow_by_pairs, workloads_have_eight_and_three};
 pub use workloads::run_workload;
+pub use query_asker::{Answer, Asker, Known, Oracle};
+pub use repair_list::{Found, enumerate, repairs};

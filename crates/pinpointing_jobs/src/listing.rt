@@ -15,7 +15,7 @@ ghost use Rattle.pinpointing_jobs.specs.Written.{AreOfAxioms, IsWritten};
 use crate::wanted::Wanted;
 use crate::{NoMemory, sets_text};
 use axiom_sets::AxiomSet;
-use hitting_set_tree::Found;
+use repair_list::Found;
 use job_inputs::{Status, Text};
 use repair_list::repairs;
 use shq_terms::Ontology;

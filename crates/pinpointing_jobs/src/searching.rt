@@ -4,7 +4,7 @@ ghost use Rattle.ontology_limits.specs.Limits.{IsInLimit, IsWithoutIndividuals};
 ghost use Rattle.pinpointing_jobs.specs.Searched.{IsSearched};
 ghost use Rattle.pinpointing_jobs.specs.Begun.{HasSearched};
 
-use hitting_set_tree::{Found, enumerate};
+use repair_list::{Found, enumerate};
 use module_extract::module;
 use query_asker::{Asker, Oracle};
 use run_log::RunLog;

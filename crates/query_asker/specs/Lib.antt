@@ -4,3 +4,6 @@ pub mod Memory
 pub mod Asking
 pub mod Deciding
 pub use Rattle.shq_oracle.specs.OracleLists
+pub use Rattle.shq_oracle.specs.Decided
+pub use Rattle.shq_oracle.specs.declared.answer.Answer
+pub use Rattle.shq_oracle.specs.declared.answer.Outcome

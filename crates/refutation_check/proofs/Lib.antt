@@ -7,3 +7,4 @@ mod Steps
 mod Reading
 mod Judged
 mod Named
+pub use Rattle.refutation_rules.proofs.Entailed

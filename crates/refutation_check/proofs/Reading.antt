@@ -9,7 +9,7 @@ use Rattle.refutation_tree.specs.declared.line.Line.{Line as Kept}
 use Rattle.calculus_specs.specs.Line.{Line}
 use Rattle.calculus_specs.specs.Rules.{Known, nothing_known}
 use Rattle.calculus_specs.specs.Valid.{concept_at, open_after, open_after_all, Breaks}
-use Rattle.refutation_truth.specs.Theory.{theory_of}
+use Rattle.refutation_rules.specs.Theory.{theory_of}
 use Rattle.refutation_rules.specs.RefutationContext.{RefutationContext, theory, IsSameButTable}
 use Rattle.refutation_check.specs.declared.checking.Verdict.TheVariants.{Rejected}
 use Rattle.refutation_check.specs.Open.{Open, branches, are_known, AreNumberedBranches}

@@ -1,3 +1,4 @@
 pub mod Open
 pub mod Verdicts
 pub mod Steps
+pub use Rattle.ontology_limits.specs.Limits

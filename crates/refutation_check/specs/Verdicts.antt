@@ -6,7 +6,7 @@ use Rattle.shq_terms.specs.declared.axioms.Numbered.{Numbered}
 use Rattle.shq_terms.specs.declared.axioms.Query.{Query}
 use Rattle.calculus_specs.specs.Rows.{Theory}
 use Rattle.calculus_specs.specs.Valid.{concept_at, IsBrokenAt, IsRefutation}
-use Rattle.refutation_truth.specs.Theory.{theory_of}
+use Rattle.refutation_rules.specs.Theory.{theory_of}
 use Rattle.refutation_tree.specs.RefutationLists.{RefutationLists}
 use Rattle.refutation_check.specs.declared.checking.Verdict.{Verdict}
 use Rattle.refutation_check.specs.declared.checking.Verdict.TheVariants.{Accepted, Rejected}

@@ -14,7 +14,7 @@ use Rattle.branch_facts.specs.NumberedBranch.{NumberedBranch as Branch}
 use Rattle.calculus_specs.specs.Line.{Line}
 use Rattle.calculus_specs.specs.Rules.{children_of}
 use Rattle.calculus_specs.specs.Valid.{concept_at}
-use Rattle.refutation_truth.specs.Theory.{theory_of}
+use Rattle.row_cache.specs.Theory.{theory_of}
 use Rattle.refutation_rules.specs.RefutationContext.{RefutationContext, IsRefutationContext, IsSameButTable, line_children}
 use Rattle.refutation_rules.proofs.Reading.{known_stays}
 use Rattle.refutation_rules.proofs.Renumbered.{first_stays}

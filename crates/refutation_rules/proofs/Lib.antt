@@ -7,3 +7,4 @@ pub mod Nodes
 pub mod TooMany
 pub mod Rows
 pub mod Renumbered
+pub use Rattle.row_cache.proofs.Entailed

@@ -25,7 +25,7 @@ use Rattle.calculus_specs.specs.Line.Line.{carry_line, choose_line, clash_line}
 use Rattle.calculus_specs.specs.Rules.{Known, knows, when, children_of, at_concept}
 use Rattle.calculus_specs.specs.Rules.{with_facts as known_with}
 use Rattle.calculus_specs.specs.Valid.{concept_at}
-use Rattle.refutation_truth.specs.Theory.{theory_of}
+use Rattle.row_cache.specs.Theory.{theory_of}
 use Rattle.refutation_rules.specs.declared.outcome.Outcome.{Outcome}
 use Rattle.refutation_rules.specs.Numbers.{AreAllNumbered}
 use Rattle.refutation_rules.specs.Outcomes.{known_of, branch_with_facts, children_after, IsFitIfSome}

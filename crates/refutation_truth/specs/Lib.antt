@@ -1,3 +1,4 @@
 pub mod Theory
 pub mod Laws
 pub mod Examples
+pub use Rattle.shq_nnf.specs.Shapes

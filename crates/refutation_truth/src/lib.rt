@@ -54,3 +54,4 @@ pub fn unlisted_are_not_refuted()
 pub fn old_refutations_stand()
     ensures { OldRefutationsStand }
 {}
+pub use shq_nnf::{Concepts, OwnedShape, Shape};

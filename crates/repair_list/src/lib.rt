@@ -122,3 +122,4 @@ fn has_alone(just: &AxiomSet, others: &AxiomSet, number: u32) -> bool
     }
     !just.meets(others)
 }
+pub use hitting_set_tree::{Found, enumerate};

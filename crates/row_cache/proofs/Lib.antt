@@ -6,3 +6,4 @@ pub use Rattle.refutation_truth.proofs.Below
 pub use Rattle.refutation_truth.proofs.Models
 pub use Rattle.refutation_truth.proofs.Numbered
 pub use Rattle.refutation_truth.proofs.Rows
+pub use Rattle.refutation_truth.proofs.Entailed

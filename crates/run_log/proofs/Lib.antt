@@ -1,2 +1,3 @@
 pub mod Named
 pub mod Told
+pub use Rattle.refutation_truth.proofs.Old

@@ -7,3 +7,4 @@ pub mod LogExamples
 pub mod PinpointingExamples
 pub mod TestExamples
 pub mod ShownExamples
+pub use Rattle.refutation_truth.specs.Theory

@@ -1,10 +1,10 @@
 // A trail that is kept when its search is gone.
 ghost use Rattle.std.specs.Prelude.{◌≡◌, ◌<◌, IfOk, length, map, take};
 ghost use Rattle.calculus_specs.specs.Shape.{shape_of};
-ghost use Rattle.shq_nnf.specs.Shapes.{form_of, form_of_owned};
+ghost use Rattle.refutation_truth.specs.Shapes.{form_of, form_of_owned};
 
 use crate::NoMemory;
-use shq_nnf::{Concepts, OwnedShape, Shape};
+use refutation_truth::{Concepts, OwnedShape, Shape};
 use std::alloc::Global;
 use std::marker::Model;
 use tableau_specs::Item;
@@ -19,7 +19,7 @@ pub struct KeptTrail {
 impl Model for KeptTrail {
     ghost use Rattle.std.specs.Prelude.{map};
     ghost use Rattle.std.specs.Coded.{codes};
-    ghost use Rattle.shq_nnf.specs.Shapes.{form_of_owned};
+    ghost use Rattle.refutation_truth.specs.Shapes.{form_of_owned};
     ghost use Rattle.run_log.specs.Trails.{TrailLists};
 
     ghost Value = { TrailLists };

@@ -14,3 +14,4 @@ pub mod Runs
 pub mod ReuseLaws
 pub mod ReuseExamples
 pub use Rattle.refutation_truth.specs.Theory
+pub use Rattle.ontology_limits.specs.Limits

@@ -4,3 +4,4 @@ pub mod Files
 pub mod Mosts
 pub mod Tables
 pub mod Queries
+pub use Rattle.ontology_limits.specs.Limits

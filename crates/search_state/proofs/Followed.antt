@@ -4,7 +4,7 @@ use Rattle.tableau_specs.specs.Steps.{SearchContext}
 use Rattle.completion_tree.specs.declared.tree.Entry.{Entry}
 use Rattle.completion_tree.specs.Trail.{facts_in}
 use Rattle.step_agenda.specs.Followed.{AreFirstBlocks}
-use Rattle.blocking.proofs.BlockLists.{all_are_first}
+use Rattle.step_agenda.proofs.BlockLists.{all_are_first}
 use Rattle.search_state.specs.Progress.{ProgressLists, IsStanding, IsClashOf, IsSearching}
 use Rattle.search_state.specs.Stepping.{IsSameButBlocks, HasFollowed, IsStepped}
 use Rattle.search_state.specs.declared.stepping.Stepped.{Stepped}

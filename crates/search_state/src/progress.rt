@@ -5,7 +5,7 @@ ghost use Rattle.calculus_specs.specs.Joins.{rep};
 ghost use Rattle.calculus_specs.specs.State.{node_count};
 ghost use Rattle.refutation_tree.specs.RuleLine.{line_of};
 ghost use Rattle.completion_tree.specs.Trail.{facts_in};
-ghost use Rattle.blocking.specs.Changed.{least_touched};
+ghost use Rattle.step_agenda.specs.Changed.{least_touched};
 ghost use Rattle.step_agenda.specs.Followed.{printed_first, AreBlocksBelow, AreFirstBlocks};
 ghost use Rattle.step_finders.specs.Reasons.{IsAddition};
 ghost use Rattle.fact_tree.specs.Entries.{IsFit};

@@ -1,3 +1,9 @@
 pub mod Sets
 pub mod Left
 pub mod Noting
+pub use Rattle.search_laws.proofs.Last
+pub use Rattle.search_laws.proofs.Allowed
+pub use Rattle.search_laws.proofs.AllowedParts
+pub use Rattle.search_laws.proofs.CounterModelLaws
+pub use Rattle.search_laws.proofs.Answering
+pub use Rattle.search_laws.proofs.Counting

@@ -6,16 +6,16 @@ use Rattle.shq_terms.specs.Concept.{name}
 use Rattle.shq_terms.specs.NoMemory.{NoMemory}
 use Rattle.axiom_sets.specs.Sets.{Limited, member_list}
 use Rattle.shq_terms.specs.declared.axioms.Query.{Query}
-use Rattle.ontology_limits.specs.Limits.{IsInLimit, IsWithoutIndividuals}
+use Rattle.model_builder.specs.Limits.{IsInLimit, IsWithoutIndividuals}
 use Rattle.tableau.proofs.Entailed.{entailed_on_any}
 use Rattle.calculus_specs.specs.Line.{Line}
 use Rattle.calculus_specs.specs.Rules.{on_any}
 use Rattle.calculus_specs.specs.Shape.{Shape}
 use Rattle.calculus_specs.specs.Valid.{IsRefutation}
-use Rattle.refutation_truth.specs.Theory.{theory_of, question_of}
-use Rattle.refutation_truth.proofs.Old.{old_stand}
+use Rattle.run_log.specs.Theory.{theory_of, question_of}
+use Rattle.run_log.proofs.Old.{old_stand}
 use Rattle.shq_terms.specs.Listed.{Listed}
-use Rattle.refutation_tree.specs.RefutationLists.{RefutationLists}
+use Rattle.tableau.specs.RefutationLists.{RefutationLists}
 use Rattle.tableau.proofs.CounterModelLaws.{saturated_does_not_entail}
 use Rattle.tableau.specs.SearchState.{SearchState, context_of, trail_of, IsReachedBy}
 use Rattle.tableau.specs.declared.search.End.{End}

@@ -5,10 +5,10 @@ use Rattle.axiom_sets.specs.Sets.{Limited, member_list}
 use Rattle.shq_terms.specs.Listed.{Listed}
 use Rattle.shq_terms.specs.declared.axioms.Query.{Query}
 use Rattle.calculus_specs.specs.Valid.{IsRefutation}
-use Rattle.refutation_truth.specs.Theory.{question_of}
-use Rattle.closed_search.specs.Named.{NamesAxioms}
-use Rattle.refutation_tree.specs.RefutationLists.{RefutationLists}
-use Rattle.refutation_tree.specs.ReadBack.{IsWritable}
+use Rattle.run_log.specs.Theory.{question_of}
+use Rattle.tableau.specs.Named.{NamesAxioms}
+use Rattle.tableau.specs.RefutationLists.{RefutationLists}
+use Rattle.tableau.specs.ReadBack.{IsWritable}
 use Rattle.finite_model.specs.ModelLists.{ModelLists, meaning}
 use Rattle.finite_model.specs.Written.{uses_listed_names}
 use Rattle.tableau.specs.CounterModelLaws.{IsCounterModel}

@@ -3,7 +3,7 @@
 use crate::Apart;
 use axiom_sets::AxiomSet;
 use finite_model::Interp;
-use refutation_tree::Refutation;
+use tableau::Refutation;
 
 /// Whether a query follows from a set of axioms, and why.
 #[derive(Drop)]

@@ -1,7 +1,7 @@
 // What one search finds.
 ghost use Rattle.std.specs.Prelude.{◌≡◌, ◌≤◌, ℕ, false, IfOk};
-ghost use Rattle.ontology_limits.specs.Limits.{IsInLimit, IsWithoutIndividuals};
-ghost use Rattle.completion_tree.specs.Trail.{items_of};
+ghost use Rattle.model_builder.specs.Limits.{IsInLimit, IsWithoutIndividuals};
+ghost use Rattle.model_builder.specs.Trail.{items_of};
 ghost use Rattle.tableau.specs.RuleLists.{AreNumbersOf};
 ghost use Rattle.tableau.specs.SearchState.{trail_of};
 ghost use Rattle.tableau.specs.Steps.{IsAtModel, IsAtRefutation};
@@ -10,9 +10,9 @@ ghost use Rattle.shq_oracle.specs.Decided.{IsFound, IsFoundBy, MayGoOn, HasEnded
 
 use crate::{Answer, KeptTrail, NoMemory, TestEnd};
 use bumpalo::Bump;
-use completion_tree::Tree;
+use model_builder::Tree;
 use model_builder::build;
-use refutation_tree::Refutation;
+use tableau::Refutation;
 use shq_terms::Query;
 use std::alloc::{Allocator, Global};
 use tableau::{End, Search, SearchRules};

@@ -3,7 +3,7 @@ ghost use Rattle.std.specs.Prelude.{◌≡◌, ◌↔◌, ◌+◌, ◌<◌, ◌�
 ghost use Rattle.run_log.specs.declared.entry.Entry.TheVariants.{Test};
 ghost use Rattle.std.specs.List.{list_any};
 ghost use Rattle.axiom_sets.specs.Sets.{IsWithin};
-ghost use Rattle.ontology_limits.specs.Limits.{IsOntologyInLimit, IsInLimit, IsWithoutIndividuals};
+ghost use Rattle.model_builder.specs.Limits.{IsOntologyInLimit, IsInLimit, IsWithoutIndividuals};
 ghost use Rattle.run_log.specs.Entries.{spent_of, is_spent, IsAnswered};
 ghost use Rattle.run_log.specs.HonestLog.{IsAxiomSet, IsHonestEntry};
 ghost use Rattle.shq_oracle.specs.Decided.{IsAnswer, AppendsTest, LeavesNothing, IsFound};

@@ -1,6 +1,6 @@
 // What the outcome of one search is.
 ghost use Rattle.std.specs.Prelude.{◌≡◌, ◌≤◌, ℕ, false, IfOk, IfSome};
-ghost use Rattle.ontology_limits.specs.Limits.{IsInLimit, IsWithoutIndividuals};
+ghost use Rattle.model_builder.specs.Limits.{IsInLimit, IsWithoutIndividuals};
 ghost use Rattle.tableau.specs.RuleLists.{AreNumbersOf};
 ghost use Rattle.tableau.specs.Steps.{IsAtModel, IsAtRefutation, AreLeftOut};
 ghost use Rattle.run_log.specs.HonestLog.{IsAxiomSet};
@@ -10,7 +10,7 @@ use crate::found::kept_trail;
 use crate::{NoMemory, Outcome, TestEnd};
 use axiom_sets::AxiomSet;
 use bumpalo::Bump;
-use refutation_tree::Refutation;
+use tableau::Refutation;
 use shq_terms::Query;
 use std::alloc::{Allocator, Global};
 use tableau::{End, Search, SearchRules};

@@ -1,1 +1,2 @@
 pub use Rattle.blocking.specs.Followed
+pub use Rattle.blocking.specs.Changed

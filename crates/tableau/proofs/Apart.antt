@@ -17,14 +17,14 @@ use Rattle.calculus_specs.specs.declared.facts.Fact.{Fact}
 use Rattle.calculus_specs.specs.declared.facts.Fact.TheVariants.{Has, Edge, Apart, Same}
 use Rattle.role_box.specs.Counted.{counted_roles}
 use Rattle.role_box.specs.Simple.{all_role_axioms, is_simple, are_simple}
-use Rattle.ontology_limits.specs.Limits.{IsInLimit, IsWithoutIndividuals, has_enough_parts}
+use Rattle.search_rules.specs.Limits.{IsInLimit, IsWithoutIndividuals, has_enough_parts}
 use Rattle.tableau_specs.specs.declared.Item.{Item}
 use Rattle.tableau_specs.specs.Items.{facts_of}
 use Rattle.tableau_specs.specs.Reached.{start}
-use Rattle.search_laws.proofs.CounterModelLaws.{saturated_does_not_entail}
-use Rattle.search_laws.specs.Runs.{IsRun, was_ever, puts, puts_at_root, LeavesOut}
-use Rattle.search_laws.specs.ReuseLaws.{EndsSaturated}
-use Rattle.search_laws.proofs.Answering.{one_run_answers_more}
+use Rattle.seen_concepts.proofs.CounterModelLaws.{saturated_does_not_entail}
+use Rattle.seen_concepts.specs.Runs.{IsRun, was_ever, puts, puts_at_root, LeavesOut}
+use Rattle.seen_concepts.specs.ReuseLaws.{EndsSaturated}
+use Rattle.seen_concepts.proofs.Answering.{one_run_answers_more}
 use Rattle.seen_concepts.specs.Seen.{holds, class_of, complement_of, union_parts, is_one, is_complement, has_complement, gives_class, gives_complement, has_seen}
 use Rattle.search_rules.specs.RuleLists.{AreNumbersOf}
 use Rattle.tableau.specs.SearchState.{SearchState, room_for, context_of, trail_of, IsReachedBy, HasRun}

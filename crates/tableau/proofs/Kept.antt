@@ -1,16 +1,16 @@
 -- What a search keeps.
 use Rattle.std.proofs.Common.{◌≡◌, ℕ, suc, ◌+◌, Bool, true, false, not, List, [], ◌∷◌, length, refl, sym, ap, subst, ◌∙◌, arith}
 use Rattle.shq_terms.specs.declared.axioms.Query.{Query}
-use Rattle.ontology_limits.specs.Limits.{IsInLimit, IsWithoutIndividuals}
-use Rattle.refutation_tree.specs.RefutationLists.{RefutationLists}
+use Rattle.search_rules.specs.Limits.{IsInLimit, IsWithoutIndividuals}
+use Rattle.closed_search.specs.RefutationLists.{RefutationLists}
 use Rattle.tableau_specs.specs.Reached.{start, IsReached, Follows}
 use Rattle.tableau_specs.specs.Steps.{SearchContext, IsLegal, IsSaturated, HasClash}
 use Rattle.tableau_specs.specs.declared.Item.{Item}
 use Rattle.completion_tree.specs.declared.tree.Entry.{Entry}
 use Rattle.completion_tree.specs.Trail.{items_of, facts_in}
-use Rattle.search_laws.specs.Runs.{IsRun}
+use Rattle.seen_concepts.specs.Runs.{IsRun}
 use Rattle.seen_concepts.specs.Seen.{SeenSets, AreOver, AreSeenIn}
-use Rattle.search_trace.specs.Trace.{begun}
+use Rattle.closed_search.specs.Trace.{begun}
 use Rattle.search_rules.specs.RuleLists.{RuleLists, AreNumbersOf, context_in}
 use Rattle.search_state.specs.Progress.{ProgressLists, IsStanding, IsSearching, HasMoved}
 use Rattle.search_state.specs.Stepping.{HasBegun, IsClosed, IsStepped, IsRested, IsSameButBlocks, HasFollowed}

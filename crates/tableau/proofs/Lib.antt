@@ -3,7 +3,7 @@ pub mod Reached
 pub mod Seen
 pub mod Kept
 pub mod Apart
-pub use Rattle.search_laws.proofs.CounterModelLaws
-pub use Rattle.search_laws.proofs.Counting
+pub use Rattle.seen_concepts.proofs.CounterModelLaws
+pub use Rattle.seen_concepts.proofs.Counting
 pub use Rattle.seen_concepts.proofs.Left
-pub use Rattle.refutation_truth.proofs.Entailed
+pub use Rattle.closed_search.proofs.Entailed

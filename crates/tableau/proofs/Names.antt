@@ -11,22 +11,22 @@ use Rattle.shq_terms.specs.declared.axioms.Numbered.{Numbered}
 use Rattle.calculus_specs.specs.Rows.{Theory}
 use Rattle.calculus_specs.specs.Tree.{tree_of}
 use Rattle.role_box.specs.Counted.{counted_roles, counted_by}
-use Rattle.ontology_limits.specs.Limits.{IsOntologyInLimit}
+use Rattle.search_rules.specs.Limits.{IsOntologyInLimit}
 use Rattle.calculus_specs.specs.Line.{Line}
 use Rattle.calculus_specs.specs.Line.Line.{start_line, and_line, or_line, all_line, carry_line, row_line, range_line, some_line, least_line, choose_line, pair_line, bottom_line, clash_line, most_line, fact_line, differ_line}
-use Rattle.refutation_truth.specs.Theory.{theory_of}
-use Rattle.refutation_tree.specs.RuleLine.{concept_numbers}
-use Rattle.refutation_tree.specs.Written.{line_is_listed}
+use Rattle.closed_search.specs.Theory.{theory_of}
+use Rattle.closed_search.specs.RuleLine.{concept_numbers}
+use Rattle.closed_search.specs.Written.{line_is_listed}
 use Rattle.tableau_specs.specs.KeptKinds.{IsKept}
 use Rattle.tableau_specs.specs.Lines.{concept_in}
 use Rattle.tableau_specs.specs.Steps.{SearchContext}
-use Rattle.search_laws.proofs.Allowed.{IsAllowed, allowed_normal, allowed_negated}
-use Rattle.search_laws.proofs.AllowedParts.{allowed_kept}
-use Rattle.search_trace.specs.Premises.{carry_rule, rule_of}
-use Rattle.search_trace.specs.Leaves.{leaves}
-use Rattle.search_trace.specs.Noted.{Noted, NotedLine, noted_by, noted_children, noted_start}
+use Rattle.seen_concepts.proofs.Allowed.{IsAllowed, allowed_normal, allowed_negated}
+use Rattle.seen_concepts.proofs.AllowedParts.{allowed_kept}
+use Rattle.closed_search.specs.Premises.{carry_rule, rule_of}
+use Rattle.closed_search.specs.Leaves.{leaves}
+use Rattle.closed_search.specs.Noted.{Noted, NotedLine, noted_by, noted_children, noted_start}
 use Rattle.closed_search.specs.Finished.{is_over, are_over}
-use Rattle.search_trace.specs.Trace.{lines_in}
+use Rattle.closed_search.specs.Trace.{lines_in}
 use Rattle.closed_search.specs.Refuted.{concept_is_listed, uses_names}
 use Rattle.search_rules.specs.RuleLists.{RuleLists, context_in, theory_in, numbers_in}
 use Rattle.search_state.specs.Progress.{ProgressLists, IsFitLine}

@@ -3,8 +3,8 @@ use Rattle.std.specs.Prelude.{◌+◌, ◌*◌, ◌≤◌, List, length}
 use Rattle.shq_terms.specs.Concept.{Concept}
 use Rattle.calculus_specs.specs.State.{node_count}
 use Rattle.tableau_specs.specs.Items.{facts_of}
-use Rattle.search_laws.specs.Closure.{IsClosure}
-use Rattle.search_laws.specs.BoundLaws.{AreAtFirst, mark_count}
+use Rattle.seen_concepts.specs.Closure.{IsClosure}
+use Rattle.seen_concepts.specs.BoundLaws.{AreAtFirst, mark_count}
 use Rattle.tableau.specs.SearchState.{SearchState, context_of, trail_of}
 
 -- the concepts are those that the search can give to nodes, each once

@@ -1,16 +1,16 @@
 -- What a search keeps, and what one call on its progress comes to.
 use Rattle.std.specs.Prelude.{◌≡◌, ℕ, ◌+◌, ◌-◌, min, drop, Bool, true, false, List, [], ◌∷◌, length, Some, All}
-use Rattle.ontology_limits.specs.Limits.{IsInLimit, IsWithoutIndividuals}
-use Rattle.refutation_tree.specs.RefutationLists.{RefutationLists}
+use Rattle.search_rules.specs.Limits.{IsInLimit, IsWithoutIndividuals}
+use Rattle.closed_search.specs.RefutationLists.{RefutationLists}
 use Rattle.tableau_specs.specs.declared.Item.{Item}
 use Rattle.tableau_specs.specs.Steps.{IsLegal, IsSaturated, HasClash}
 use Rattle.tableau_specs.specs.Items.{facts_of}
 use Rattle.completion_tree.specs.declared.tree.Entry.{Entry}
 use Rattle.completion_tree.specs.Trail.{items_of, facts_in}
 use Rattle.seen_concepts.specs.Seen.{SeenSets, HasNoted}
-use Rattle.search_trace.specs.Leaves.{leaves}
-use Rattle.search_trace.specs.Noted.{noted_start}
-use Rattle.search_trace.specs.Back.{step_of}
+use Rattle.closed_search.specs.Leaves.{leaves}
+use Rattle.closed_search.specs.Noted.{noted_start}
+use Rattle.closed_search.specs.Back.{step_of}
 use Rattle.search_rules.specs.RuleLists.{RuleLists, AreNumbersOf, context_in, theory_in}
 use Rattle.search_state.specs.Progress.{ProgressLists, IsAsked, IsFitLine, IsSearching, HasMoved}
 use Rattle.search_state.specs.Stepping.{HasNext, HasFollowed, IsSameButBlocks}

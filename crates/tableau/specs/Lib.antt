@@ -3,4 +3,7 @@ pub mod Steps
 pub mod Inside
 pub mod Bounds
 pub use Rattle.search_rules.specs.RuleLists
-pub use Rattle.search_laws.specs.CounterModelLaws
+pub use Rattle.seen_concepts.specs.CounterModelLaws
+pub use Rattle.closed_search.specs.Named
+pub use Rattle.closed_search.specs.RefutationLists
+pub use Rattle.closed_search.specs.ReadBack

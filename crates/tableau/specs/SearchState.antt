@@ -8,7 +8,7 @@ use Rattle.completion_tree.specs.declared.tree.Entry.{Entry}
 use Rattle.completion_tree.specs.Trail.{items_of, facts_in}
 use Rattle.search_state.specs.Followed.{Printed, IsCurrent}
 use Rattle.search_rules.specs.RuleLists.{RuleLists, context_in}
-use Rattle.search_laws.specs.Runs.{IsRun}
+use Rattle.seen_concepts.specs.Runs.{IsRun}
 use Rattle.seen_concepts.specs.Seen.{SeenSets, AreOver, AreSeenIn}
 
 -- the rules and the query, the numbers of what the query asks, the entries of the trail, what is known of blocked

@@ -9,9 +9,9 @@ use Rattle.lane_sieve.specs.Sets.{IsPart}
 use Rattle.axiom_sets.specs.Sets.{Limited, member_list}
 use Rattle.calculus_specs.specs.Rules.{on_any}
 use Rattle.calculus_specs.specs.Valid.{IsRefutation}
-use Rattle.refutation_tree.specs.RefutationLists.{RefutationLists}
-use Rattle.refutation_tree.specs.ReadBack.{IsWritable}
-use Rattle.refutation_truth.specs.Theory.{named_axioms, theory_of}
+use Rattle.closed_search.specs.RefutationLists.{RefutationLists}
+use Rattle.closed_search.specs.ReadBack.{IsWritable}
+use Rattle.closed_search.specs.Theory.{named_axioms, theory_of}
 use Rattle.tableau_specs.specs.declared.Item.{Item}
 use Rattle.tableau_specs.specs.Steps.{IsLegal, IsSaturated, HasClash}
 use Rattle.tableau_specs.specs.Reached.{Follows, Costs}

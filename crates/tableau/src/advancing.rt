@@ -1,6 +1,6 @@
 // One call on the progress of a search.
 ghost use Rattle.std.specs.Prelude.{◌≡◌, ◌+◌, ◌<◌, ◌^◌, IsTrue, OnOk, IfOk, length};
-ghost use Rattle.ontology_limits.specs.Limits.{IsInLimit};
+ghost use Rattle.search_rules.specs.Limits.{IsInLimit};
 ghost use Rattle.completion_tree.specs.Trail.{facts_in};
 ghost use Rattle.search_rules.specs.RuleLists.{context_in};
 ghost use Rattle.search_state.specs.Followed.{IsCurrent};

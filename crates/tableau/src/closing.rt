@@ -1,6 +1,6 @@
 // The refutation of a search whose lines close everything.
 ghost use Rattle.std.specs.Prelude.{◌≡◌, IfOk};
-ghost use Rattle.search_trace.specs.Trace.{begun};
+ghost use Rattle.closed_search.specs.Trace.{begun};
 ghost use Rattle.tableau.specs.Steps.{Refutes};
 ghost use Rattle.tableau.specs.Inside.{IsClosing};
 

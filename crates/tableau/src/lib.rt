@@ -6,9 +6,9 @@ mod closing;
 mod search;
 mod walker;
 
-pub use refutation_tree::Refutation;
+pub use closed_search::Refutation;
 pub use search::{End, Event, Search};
-pub use search_laws::legal_runs_are_bounded;
+pub use seen_concepts::legal_runs_are_bounded;
 pub use search_rules::SearchRules;
 pub use search_state::Effort;
 pub use shq_terms::NoMemory;

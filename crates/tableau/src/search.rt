@@ -1,6 +1,6 @@
 // The search.
 ghost use Rattle.std.specs.Prelude.{◌≡◌, ◌+◌, ◌<◌, ◌≤◌, ◌^◌, true, false, IfOk, OnOk, OnErr, length};
-ghost use Rattle.ontology_limits.specs.Limits.{IsInLimit, IsWithoutIndividuals};
+ghost use Rattle.search_rules.specs.Limits.{IsInLimit, IsWithoutIndividuals};
 ghost use Rattle.search_rules.specs.RuleLists.{AreNumbersOf};
 ghost use Rattle.completion_tree.specs.Trail.{facts_in};
 ghost use Rattle.search_state.specs.Followed.{IsCurrent};
@@ -53,7 +53,7 @@ impl<'b, A: Allocator> Model for Search<'b, A> {
     ghost use Rattle.shq_terms.specs.Code.{concept_code};
     ghost use Rattle.axiom_sets.specs.Sets.{limited_code};
     ghost use Rattle.axiom_sets.specs.contracts.deps.Deps as deps;
-    ghost use Rattle.search_trace.specs.contracts.trace.Trace as traces;
+    ghost use Rattle.closed_search.specs.TraceContract as traces;
     ghost use Rattle.tableau.specs.SearchState.{SearchState, HasAllBlocks};
 
     ghost Value = { SearchState };

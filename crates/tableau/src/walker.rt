@@ -1,6 +1,6 @@
 // A search within a call.
 ghost use Rattle.std.specs.Prelude.{◌≡◌, ◌+◌, ◌<◌, ◌≤◌, ◌^◌, [], ◌∷◌, true, false, IsTrue, IfOk, OnOk, OnErr, length};
-ghost use Rattle.ontology_limits.specs.Limits.{IsInLimit, IsWithoutIndividuals};
+ghost use Rattle.search_rules.specs.Limits.{IsInLimit, IsWithoutIndividuals};
 ghost use Rattle.search_rules.specs.RuleLists.{AreNumbersOf};
 ghost use Rattle.completion_tree.specs.Trail.{items_of};
 ghost use Rattle.seen_concepts.specs.Seen.{AreOver, AreSeenIn};
@@ -14,14 +14,14 @@ use crate::advancing::{advance, settle};
 use crate::search::{End, Event};
 use axiom_sets::AxiomSet;
 use completion_tree::Tree;
-use search_laws::{few_marks, few_steps_without_going_back};
+use seen_concepts::{few_marks, few_steps_without_going_back};
 use search_rules::SearchRules;
 use search_state::{Blocks, Effort, Progress};
 use seen_concepts::SeenClasses;
 use shq_terms::Query;
 use std::alloc::{Allocator, Global};
 use std::marker::Model;
-use step_finders::Rules;
+use seen_concepts::Rules;
 
 /// A search within a call. Until the call ends, the blocks that are known may be those of the first nodes alone.
 #[derive(Drop)]
@@ -43,7 +43,7 @@ impl<'b, A: Allocator> Model for Walker<'b, A> {
     ghost use Rattle.shq_terms.specs.Code.{concept_code};
     ghost use Rattle.axiom_sets.specs.Sets.{limited_code};
     ghost use Rattle.axiom_sets.specs.contracts.deps.Deps as deps;
-    ghost use Rattle.search_trace.specs.contracts.trace.Trace as traces;
+    ghost use Rattle.closed_search.specs.TraceContract as traces;
     ghost use Rattle.tableau.specs.SearchState.{SearchState};
 
     ghost Value = { SearchState };

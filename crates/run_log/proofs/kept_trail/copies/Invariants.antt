@@ -1,5 +1,5 @@
 use Rattle.std.proofs.Common.{◌≡◌, map, take}
-use Rattle.shq_nnf.specs.Shapes.{form_of_owned}
+use Rattle.refutation_truth.specs.Shapes.{form_of_owned}
 use Rattle.run_log.proofs.kept_trail.copies.Given as goal
 
 abbrev pub invariant-loop-concept : goal.invariant-loop-concept

@@ -1,5 +1,5 @@
 use Rattle.std.proofs.Common.{◌≡◌, take}
-use Rattle.completion_tree.specs.Trail.{items_of}
+use Rattle.model_builder.specs.Trail.{items_of}
 use Rattle.shq_oracle.proofs.found.items.Given as goal
 
 abbrev pub invariant-loop-place : goal.invariant-loop-place

@@ -3,7 +3,7 @@ use Rattle.std.specs.List.{list_all}
 use Rattle.shq_terms.specs.Listed.{Listed}
 use Rattle.calculus_specs.specs.Shape.{Shape}
 use Rattle.closed_search.specs.Finished.{are_over}
-use Rattle.search_trace.specs.Trace.{TraceLists, lines_in}
+use Rattle.closed_search.specs.Trace.{TraceLists, lines_in}
 use Rattle.closed_search.specs.Refuted.{uses_names}
 use Rattle.tableau.proofs.Names.{closing_is_over, closing_is_listed}
 use Rattle.tableau.proofs.closing.refutation.Goals as goal

@@ -1,8 +1,8 @@
 use Rattle.std.proofs.Common.{◌≡◌, ◌∙◌, length, ap, sym, subst}
 use Rattle.run_log.specs.Entries.{IsAnswered}
 use Rattle.run_log.specs.HonestLog.{IsAxiomSet}
-use Rattle.shq_oracle.specs.Decided.{outcome_of}
-use Rattle.query_asker.specs.AskerLists.{AskerLists}
+use Rattle.pinpointing_jobs.specs.Decided.{outcome_of}
+use Rattle.pinpointing_jobs.specs.AskerLists.{AskerLists}
 use Rattle.audit_jobs.specs.Kept.{IsEvidence}
 use Rattle.audit_jobs.specs.Told.{HasTold}
 use Rattle.audit_jobs.proofs.Keeping.{names_up_to, evidence_moved, evidence_gained, has_told}

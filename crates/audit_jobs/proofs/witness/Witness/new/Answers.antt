@@ -1,5 +1,5 @@
 use Rattle.std.proofs.Common.{ap}
-use Rattle.query_asker.specs.AskerLists.{AskerLists}
+use Rattle.pinpointing_jobs.specs.AskerLists.{AskerLists}
 use Rattle.audit_jobs.proofs.Keeping.{evidence_begun}
 use Rattle.audit_jobs.proofs.witness.Witness.new.Goals as goal
 

@@ -4,11 +4,11 @@ use Rattle.set_questions.specs.Asked.{ShowsNoOther}
 use Rattle.set_questions.specs.Meaning.{Keeps, one_more}
 use Rattle.lane_sieve.specs.Sets.{IsPart}
 use Rattle.run_log.specs.Entries.{nodes_of, IsAnswered}
-use Rattle.query_asker.specs.AskerLists.{AskerLists, origin_of}
-use Rattle.query_asker.specs.Told.{asker_meaning}
-use Rattle.query_asker.proofs.Answering.{left_out, shows_counted, local_inside}
-use Rattle.query_asker.specs.declared.known.Known.TheVariants.{Answered, Unknown}
-use Rattle.query_asker.specs.Deciding.{IsKnown}
+use Rattle.pinpointing_jobs.specs.AskerLists.{AskerLists, origin_of}
+use Rattle.pinpointing_jobs.specs.Told.{asker_meaning}
+use Rattle.pinpointing_jobs.proofs.Answering.{left_out, shows_counted, local_inside}
+use Rattle.pinpointing_jobs.specs.AskerKnown.TheVariants.{Answered, Unknown}
+use Rattle.pinpointing_jobs.specs.Deciding.{IsKnown}
 use Rattle.audit_jobs.proofs.Asked.{asked_answer, asked_unknown, asked_shown, asked_keeps, asked_counted, asked_uncounted, asked_taken, asked_same}
 use Rattle.audit_jobs.proofs.witness.WitnessEntail.ask.Goals as goal
 
