@@ -7,9 +7,9 @@ ghost use Rattle.audit_jobs.specs.Kept.{HasRoom, NamesUpTo, KeepsAnswer};
 
 use axiom_sets::AxiomSet;
 use finite_model::Interp;
+use pinpointing_jobs::Answer;
 use refutation_tree::Refutation;
 use set_questions::Reply;
-use pinpointing_jobs::Answer;
 use shq_terms::NoMemory;
 use std::alloc::Global;
 

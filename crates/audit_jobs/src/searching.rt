@@ -6,8 +6,7 @@ ghost use Rattle.audit_jobs.specs.Witnessed.{IsSearched, HasAsked};
 
 use crate::evidence::Evidence;
 use crate::witness::Witness;
-use pinpointing_jobs::{Found, enumerate};
-use pinpointing_jobs::Oracle;
+use pinpointing_jobs::{Found, Oracle, enumerate};
 use run_log::RunLog;
 use shq_terms::{NoMemory, Ontology, Query};
 use std::alloc::Global;

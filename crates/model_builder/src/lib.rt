@@ -23,8 +23,8 @@ mod structure_model;
 mod successors;
 mod walk;
 
+pub use completion_tree::Tree;
 pub use laws::structures_are_built;
 pub use model::{build, interpretation_of_elements};
 pub use shq_terms::NoMemory;
 pub use structure_model::{Edge, Member, interpretation};
-pub use completion_tree::Tree;

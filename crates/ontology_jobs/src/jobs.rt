@@ -8,10 +8,9 @@ ghost use Rattle.ontology_jobs.specs.Complete.{IsComplete};
 ghost use Rattle.ontology_jobs.specs.Answers.{AnswersRead, AnswersJobOnAll, AnswersRequestOnAll, AnswersAll, AnsweredAll, SaysBadWords, IsBadWords, end_answer, ReadsNothing, LeavesFor, Leaves};
 
 use crate::words::{Command, Job, read_words};
-use audit_jobs::{find_evidence, verify_audit};
+use audit_jobs::{find_evidence, pinpoint, run_workload, verify_audit};
 use classification_jobs::{Status, Text, classify};
 use decision_jobs::{answer, verify};
-use audit_jobs::{pinpoint, run_workload};
 use run_log::RunLog;
 use shq_io::{ReadEnd, Sink, Source, WriteFailed, read_all, write_whole};
 use std::alloc::Global;

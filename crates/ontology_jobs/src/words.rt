@@ -3,9 +3,9 @@ ghost use Rattle.std.specs.Prelude.{◌≡◌, ◌∷◌, [], option_map};
 ghost use Rattle.ontology_jobs.specs.Words.{request_of, command_request, texts_of, budget_in, plain_number, workload_number, alone_request, text_request, searching_request, pinpointing_request, workload_request, budgeted_request, budgeted_alone, longest_request, longer_request};
 
 use crate::workload_number::WorkloadNumber;
+use audit_jobs::Wanted;
 use certificate_lines::number;
 use classification_jobs::Question;
-use audit_jobs::Wanted;
 
 /// What the words ask for.
 #[derive(Clone, Copy)]

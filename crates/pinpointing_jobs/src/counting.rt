@@ -6,9 +6,8 @@ ghost use Rattle.pinpointing_jobs.specs.Counts.{counts_text};
 ghost use Rattle.pinpointing_jobs.specs.Written.{AreOfAxioms, IsWrittenCount, IsToldCount};
 
 use crate::NoMemory;
-use repair_list::Found;
 use job_inputs::{Status, Text};
-use repair_list::repairs;
+use repair_list::{Found, repairs};
 use shq_terms::Ontology;
 use std::alloc::Global;
 

@@ -15,9 +15,8 @@ ghost use Rattle.pinpointing_jobs.specs.Written.{AreOfAxioms, IsWritten};
 use crate::wanted::Wanted;
 use crate::{NoMemory, sets_text};
 use axiom_sets::AxiomSet;
-use repair_list::Found;
 use job_inputs::{Status, Text};
-use repair_list::repairs;
+use repair_list::{Found, repairs};
 use shq_terms::Ontology;
 use std::alloc::Global;
 

@@ -4,9 +4,9 @@ ghost use Rattle.ontology_limits.specs.Limits.{IsInLimit, IsWithoutIndividuals};
 ghost use Rattle.pinpointing_jobs.specs.Searched.{IsSearched};
 ghost use Rattle.pinpointing_jobs.specs.Begun.{HasSearched};
 
-use repair_list::{Found, enumerate};
 use module_extract::module;
 use query_asker::{Asker, Oracle};
+use repair_list::{Found, enumerate};
 use run_log::RunLog;
 use shq_terms::{NoMemory, Ontology, Query};
 use std::alloc::Global;

@@ -54,4 +54,5 @@ pub fn unlisted_are_not_refuted()
 pub fn old_refutations_stand()
     ensures { OldRefutationsStand }
 {}
+
 pub use shq_nnf::{Concepts, OwnedShape, Shape};

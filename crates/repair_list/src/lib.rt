@@ -122,4 +122,5 @@ fn has_alone(just: &AxiomSet, others: &AxiomSet, number: u32) -> bool
     }
     !just.meets(others)
 }
+
 pub use hitting_set_tree::{Found, enumerate};

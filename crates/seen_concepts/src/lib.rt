@@ -9,7 +9,7 @@
 
 mod seen;
 
+pub use search_laws::{few_marks, few_steps_without_going_back, legal_runs_are_bounded};
 pub use seen::SeenClasses;
 pub use shq_terms::NoMemory;
 pub use step_finders::Rules;
-pub use search_laws::{few_marks, few_steps_without_going_back, legal_runs_are_bounded};

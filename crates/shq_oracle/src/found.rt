@@ -10,12 +10,10 @@ ghost use Rattle.shq_oracle.specs.Decided.{IsFound, IsFoundBy, MayGoOn, HasEnded
 
 use crate::{Answer, KeptTrail, NoMemory, TestEnd};
 use bumpalo::Bump;
-use model_builder::Tree;
-use model_builder::build;
-use tableau::Refutation;
+use model_builder::{Tree, build};
 use shq_terms::Query;
 use std::alloc::{Allocator, Global};
-use tableau::{End, Search, SearchRules};
+use tableau::{End, Refutation, Search, SearchRules};
 use tableau_specs::Item;
 
 /// What a search answers, in how many steps, and how its test ended.

@@ -10,10 +10,9 @@ use crate::found::kept_trail;
 use crate::{NoMemory, Outcome, TestEnd};
 use axiom_sets::AxiomSet;
 use bumpalo::Bump;
-use tableau::Refutation;
 use shq_terms::Query;
 use std::alloc::{Allocator, Global};
-use tableau::{End, Search, SearchRules};
+use tableau::{End, Refutation, Search, SearchRules};
 
 /// The outcome of a search, what it shows of further classes if that was asked for, in how many steps, and how its test
 /// ended.

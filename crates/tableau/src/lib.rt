@@ -8,7 +8,7 @@ mod walker;
 
 pub use closed_search::Refutation;
 pub use search::{End, Event, Search};
-pub use seen_concepts::legal_runs_are_bounded;
 pub use search_rules::SearchRules;
 pub use search_state::Effort;
+pub use seen_concepts::legal_runs_are_bounded;
 pub use shq_terms::NoMemory;

@@ -14,14 +14,12 @@ use crate::advancing::{advance, settle};
 use crate::search::{End, Event};
 use axiom_sets::AxiomSet;
 use completion_tree::Tree;
-use seen_concepts::{few_marks, few_steps_without_going_back};
 use search_rules::SearchRules;
 use search_state::{Blocks, Effort, Progress};
-use seen_concepts::SeenClasses;
+use seen_concepts::{Rules, SeenClasses, few_marks, few_steps_without_going_back};
 use shq_terms::Query;
 use std::alloc::{Allocator, Global};
 use std::marker::Model;
-use seen_concepts::Rules;
 
 /// A search within a call. Until the call ends, the blocks that are known may be those of the first nodes alone.
 #[derive(Drop)]
