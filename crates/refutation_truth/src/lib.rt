@@ -11,6 +11,8 @@ ghost use Rattle.refutation_truth.specs.Laws.{PartsAreNumbered, TheoriesHaveRole
 ghost use Rattle.refutation_truth.specs.Laws.{RefutationsEntail, RefutationsEntailByAll, RefutationsOnAnyEntail};
 ghost use Rattle.refutation_truth.specs.Laws.{UnlistedAreNotRefuted, OldRefutationsStand};
 
+pub use shq_nnf::{Concepts, OwnedShape, Shape};
+
 /// A number of an axiom and one of a part find that part of the axiom, if it is named, and nothing else.
 pub fn parts_are_numbered()
     ensures { PartsAreNumbered }
@@ -54,5 +56,3 @@ pub fn unlisted_are_not_refuted()
 pub fn old_refutations_stand()
     ensures { OldRefutationsStand }
 {}
-
-pub use shq_nnf::{Concepts, OwnedShape, Shape};

@@ -14,7 +14,7 @@ ghost use Rattle.set_questions.specs.InOrder.{HaveOneLimit};
 ghost use Rattle.repair_list.specs.Alone.{AreRepairs, FinishedRepairsAreAll, IsRepairAdded, NeedsAlone, HasAlone, HitsBeside};
 
 use axiom_sets::AxiomSet;
-use hitting_set_tree::Found;
+pub use hitting_set_tree::{Found, enumerate};
 use lane_sieve::NoMemory;
 use set_questions::{Entail, put_in_order};
 use std::alloc::Global;
@@ -122,5 +122,3 @@ fn has_alone(just: &AxiomSet, others: &AxiomSet, number: u32) -> bool
     }
     !just.meets(others)
 }
-
-pub use hitting_set_tree::{Found, enumerate};
