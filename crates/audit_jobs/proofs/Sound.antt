@@ -184,7 +184,7 @@ module _ (o : Listed) (q : Asked) (f : Found) (e : Evidence) (w : IsWitnessed o 
     repair_listed : (r : Repair) → Contains a.repairs r → Contains is.sets r.set
     repair_listed r at = subst (λ (xs : List Limited). Contains xs r.set) is.repairs.sets_are (to_map (λ (x : Repair). x.set) a.repairs r at)
 
-    just_shown : (j : Justification) → Contains a.justifications j → IsShown o.axioms q j
+    just_shown : (j : Justification) → Contains a.justifications j → IsShown o q j
     just_shown j at =
         let from = is.justifications.from_kept j at in
         record {

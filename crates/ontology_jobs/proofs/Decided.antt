@@ -10,7 +10,7 @@ use Rattle.finite_model.specs.ModelLists.{ModelLists as Model, meaning}
 use Rattle.calculus_specs.specs.RefutationLaws.{IsJudged}
 use Rattle.calculus_specs.proofs.Broken.{judged as judged_once}
 use Rattle.audit_jobs.specs.RefutationLists.{RefutationLists as Refutation}
-use Rattle.decision_jobs.specs.Verdicts.{named_theory}
+use Rattle.decision_jobs.specs.Verdicts.{named_question}
 use Rattle.ofn_expressions.specs.Counts.{Counts}
 use Rattle.ofn_reader.specs.DocumentContext.{DocumentContext}
 use Rattle.ofn_reader.specs.Documents.{IsDocument}
@@ -78,8 +78,8 @@ module _ (o : Listed) (q : Asked) (m : Model) where
 
 -- and so does one on a refutation
 module _ (o : Listed) (q : Asked) (r : Refutation) where
-  judgement : IsJudged (named_theory o.axioms r) q.sub q.sup r.shapes r.lines
-  judgement = judged_once (named_theory o.axioms r) q.sub q.sup r.shapes r.lines
+  judgement : IsJudged (named_question o q r) r.shapes r.lines
+  judgement = judged_once (named_question o q r) r.shapes r.lines
 
   same_of_refutation : (v w : Verdict) → IsOfRefutation o q r v → IsOfRefutation o q r w → ◌≡◌ {A = Answer} (verdict_answer v) (verdict_answer w)
   same_of_refutation Entailed Entailed a b = refl

@@ -26,12 +26,12 @@ pub fn documents_are_without_individuals()
     ensures { DocumentsAreWithoutIndividuals }
 {}
 
-/// So is it with a query on it, which speaks of each element.
+/// The same with a query on it, which speaks of each element.
 pub fn queries_are_without_individuals()
     ensures { QueriesAreWithoutIndividuals }
 {}
 
-/// So is it with a class expression, as the query whether the class is in `owl:Nothing`.
+/// The same with a class expression, as the query whether the class is in `owl:Nothing`.
 pub fn classes_are_without_individuals()
     ensures { ClassesAreWithoutIndividuals }
 {}
