@@ -2,7 +2,9 @@ pub mod Reading
 pub mod Contexts
 pub mod Held
 pub mod Edges
+pub mod FactPlaces
 pub mod Children
+pub mod Individuals
 pub mod Nodes
 pub mod TooMany
 pub mod Rows

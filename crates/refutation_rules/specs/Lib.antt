@@ -1,4 +1,5 @@
 pub mod Outcomes
+pub mod Assertions
 pub mod Numbers
 pub mod RefutationContext
 pub mod Tests

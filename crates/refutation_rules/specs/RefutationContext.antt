@@ -1,5 +1,5 @@
 -- What the rule lines of one refutation are read by.
-use Rattle.std.specs.Prelude.{◌≡◌, ℕ, ◌+◌, ◌<◌, ◌&&◌, true, List, [], ◌∷◌, length, Option, Some, None}
+use Rattle.std.specs.Prelude.{◌≡◌, ℕ, ◌<◌, ◌≤◌, ◌&&◌, true, List, [], ◌∷◌, length, Option, Some, None}
 use Rattle.std.specs.List.{list_all}
 use Rattle.shq_terms.specs.Concept.{Concept, bottom, name, complement, all_of}
 use Rattle.shq_terms.specs.declared.axioms.Numbered.{Numbered as Axiom}
@@ -22,30 +22,34 @@ use Rattle.calculus_specs.specs.State.{has, has_tree, has_edge}
 use Rattle.calculus_specs.specs.declared.facts.Fact.TheVariants.{Has}
 use Rattle.calculus_specs.specs.Line.{Line}
 use Rattle.calculus_specs.specs.Line.Line.{carry_line, choose_line, clash_line}
-use Rattle.calculus_specs.specs.Rules.{Known, knows, when, children_of, at_concept}
+use Rattle.calculus_specs.specs.Rules.{Question, Known, knows, when, children_of, at_concept}
 use Rattle.calculus_specs.specs.Rules.{with_facts as known_with}
 use Rattle.calculus_specs.specs.Valid.{concept_at}
-use Rattle.row_cache.specs.Theory.{theory_of}
+use Rattle.row_cache.specs.Theory.{theory_of, question_of}
 use Rattle.refutation_rules.specs.declared.outcome.Outcome.{Outcome}
 use Rattle.refutation_rules.specs.Numbers.{AreAllNumbered}
 use Rattle.refutation_rules.specs.Outcomes.{known_of, branch_with_facts, children_after, IsFitIfSome}
 
--- the axioms of the ontology and the numbers of those that are named, the two sides of the query, the shapes of the
--- refutation's concepts, and the table by whose numbers branches are kept
+-- how many individuals the ontology lists, its axioms and the numbers of those that are named, the query, the shapes of
+-- the refutation's concepts, and the table by whose numbers branches are kept
 pub record RefutationContext : Type 0 where
+  pub individuals : ℕ
   pub axioms : List Axiom
   pub named : List ℕ
-  pub sub : Concept
-  pub sup : Concept
+  pub query : Query
   pub shapes : List Shape
   pub table : List Shape
+
+-- what is to be refuted
+abbrev pub question : RefutationContext → Question
+question f = question_of f.individuals f.axioms f.named f.query
 
 abbrev pub theory : RefutationContext → Theory
 theory f = theory_of f.axioms f.named
 
 -- the branches that a line leaves of one
 abbrev pub line_children : RefutationContext → Branch → Line → Option (List Known)
-line_children f k line = children_of (theory f) f.sub f.sup (concept_at f.shapes) (known_of f.table k) line
+line_children f k line = children_of (question f) (concept_at f.shapes) (known_of f.table k) line
 
 -- what a line leaves of a branch is what the outcome says, and its facts and nodes fit
 pub record IsOutcome (f : RefutationContext) (k : Branch) (line : Line) (o : Option Outcome) : Type 0 where
@@ -111,9 +115,10 @@ abbrev pub range_used : RefutationContext → Branch → ℕ → ℕ → Option 
 range_used f k x y None = None
 range_used f k x y (Some r) = when (knows (known_of f.table k) x && knows (known_of f.table k) y && has_edge (known_of f.table k).facts (λ q. (theory f).below q r.role) x y) (Some r.concept)
 
--- what is kept for a refutation of a query: the roles are by the axioms that it names, and its concepts, the two sides
--- of the query and bottom have their numbers in the table
-pub record IsRefutationContext (rows : CacheState) (shapes : List Shape) (query : Query) (roles : List RoleAxiom) (numbers : List ℕ) (sub not_sup none : ℕ) : Type 0 where
+-- what is kept for a refutation of a query: there is a number for each first node, the roles are by the axioms that the
+-- refutation names, and its concepts, the two sides of the query and bottom have their numbers in the table
+pub record IsRefutationContext (individuals : ℕ) (rows : CacheState) (shapes : List Shape) (query : Query) (roles : List RoleAxiom) (numbers : List ℕ) (sub not_sup none : ℕ) : Type 0 where
+  pub few_individuals : individuals ≤ 20000
   pub roles_are : roles ≡ role_axioms rows.axioms rows.named
   pub concepts : AreAllNumbered shapes rows.table numbers
   pub sub_is : IsNumber rows.table sub (normal_form query.sub)
@@ -122,8 +127,8 @@ pub record IsRefutationContext (rows : CacheState) (shapes : List Shape) (query 
 
 -- the same context over a longer table
 pub record IsSameButTable (earlier later : RefutationContext) : Type 0 where
+  pub individuals : later.individuals ≡ earlier.individuals
   pub axioms : later.axioms ≡ earlier.axioms
   pub named : later.named ≡ earlier.named
-  pub sub : later.sub ≡ earlier.sub
-  pub sup : later.sup ≡ earlier.sup
+  pub query : later.query ≡ earlier.query
   pub shapes : later.shapes ≡ earlier.shapes

@@ -1,15 +1,24 @@
 -- What rule lines ask of a branch, over concepts by number.
-use Rattle.std.specs.Prelude.{◌≡◌, ℕ, ◌+◌, ◌^◌, ◌==◌, ◌&&◌, nat_le, not, Bool, List, length, Option, Some}
+use Rattle.std.specs.Prelude.{ℕ, ◌+◌, ◌^◌, ◌==◌, ◌&&◌, nat_le, nat_lt, not, Bool, List, length, Option, Some}
 use Rattle.std.specs.List.{list_any, range_with_len}
 use Rattle.calculus_specs.specs.Tree.{tree_of}
 use Rattle.branch_facts.specs.NumberedBranch.{NumberedBranch as Branch, has_node}
-use Rattle.calculus_specs.specs.State.{has_tree, has_edge, all_apart}
+use Rattle.calculus_specs.specs.Joins.{rep}
+use Rattle.calculus_specs.specs.State.{has_tree, has_edge, are_apart, all_apart}
 use Rattle.calculus_specs.specs.Rules.{knows, when, are_fillers}
 use Rattle.refutation_rules.specs.declared.outcome.NewNodes.{NewNodes}
 use Rattle.refutation_rules.specs.declared.outcome.Outcome.{Outcome}
 use Rattle.refutation_rules.specs.declared.outcome.Outcome.TheVariants.{Nodes}
 use Rattle.refutation_rules.specs.Outcomes.{known_of}
-use Rattle.refutation_rules.specs.RefutationContext.{RefutationContext, theory}
+use Rattle.refutation_rules.specs.RefutationContext.{RefutationContext, theory, question}
+
+-- the node in question, where it is a first node
+abbrev pub node_asked : RefutationContext → Option ℕ
+node_asked f = when (nat_lt (question f).at (question f).first) (Some (question f).at)
+
+-- the two nodes are known, apart and one
+abbrev pub are_differing : Branch → ℕ → ℕ → Bool
+are_differing k x y = has_node k x && has_node k y && are_apart k.facts x y && rep k.facts x == rep k.facts y
 
 -- the node has the concept of the number, and the node is known as well
 abbrev pub has_number : RefutationContext → Branch → ℕ → ℕ → Bool

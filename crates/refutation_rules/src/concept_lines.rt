@@ -2,7 +2,7 @@
 ghost use Rattle.std.specs.Prelude.{◌≡◌, [], ◌∷◌, IfOk, length, map};
 ghost use Rattle.calculus_specs.specs.declared.facts.Fact.TheVariants.{Has};
 ghost use Rattle.shq_nnf.specs.Numbers.{Extends};
-ghost use Rattle.calculus_specs.specs.Line.Line.{start_line, and_line, or_line, choose_line, pair_line, bottom_line, clash_line};
+ghost use Rattle.calculus_specs.specs.Line.Line.{and_line, or_line, choose_line, pair_line, bottom_line, clash_line};
 ghost use Rattle.refutation_rules.specs.Outcomes.{IsBranch};
 ghost use Rattle.refutation_rules.specs.RefutationContext.{IsOutcome, IsSameButTable, LineChooses, LineCloses};
 
@@ -50,17 +50,6 @@ impl<'a> Rules<'a> {
             Shape::Or(parts) => Ok(Some(Outcome::Branches(all_had(self.alloc, node, parts)?))),
             _ => Ok(None),
         }
-    }
-
-    // Node 0, in the query's subclass and in the complement of its superclass, where nothing is known yet.
-    pub(crate) fn start(&self, branch: &BranchFacts) -> Option<Outcome>
-        ensures { IsOutcome self.now branch.now start_line result }
-    {
-        if branch.mark().nodes != 0 {
-            return None;
-        }
-        let (sub, not_sup) = self.query_numbers();
-        Some(Outcome::Started(sub, not_sup))
     }
 
     // A branch where the node is in the concept, and one where it is in the complement.

@@ -7,18 +7,22 @@
 //! alternative.
 //!
 //! [`Rules`] are made for one refutation of one query. They hold a table of concepts by number, in which branches are
-//! kept, the roles by the axioms that the refutation names, and the rows that its lines use.
+//! kept, the roles by the axioms that the refutation names, and the rows that its lines use. The first nodes of a
+//! branch stand for the individuals of the ontology, each for that of its number, and one more for an element without a
+//! name.
 #![tactic(auto)]
 
+mod assertions;
 mod concept_lines;
 mod counts;
 mod edge_lines;
+mod individual_lines;
 mod new_nodes;
 mod numbering;
 mod outcome;
 mod row_lines;
 mod rules;
 
-pub use outcome::{NewNodes, Outcome};
+pub use outcome::{FirstNodes, NewNodes, Outcome};
 pub use rules::Rules;
 pub use shq_terms::NoMemory;

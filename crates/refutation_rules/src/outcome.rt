@@ -2,11 +2,24 @@
 ghost use Rattle.std.specs.Prelude.{◌≡◌, [], ◌∷◌, Some, IfOk};
 ghost use Rattle.calculus_specs.specs.Rules.{when};
 ghost use Rattle.refutation_rules.specs.declared.outcome.Outcome.TheVariants.{Closed};
-ghost use Rattle.refutation_rules.specs.Outcomes.{AddsIfSome, BranchesInto};
+ghost use Rattle.refutation_rules.specs.Outcomes.{AddsIfSome, AddsFactIfSome, BranchesInto};
 
 use crate::NoMemory;
 use calculus_specs::Fact;
 use std::alloc::Global;
+
+/// The first nodes of a branch, from 0 on, of which one is in question and in two concepts.
+#[derive(Clone, Copy, Debug, PartialEq, Eq)]
+pub struct FirstNodes {
+    /// How many there are.
+    pub count: u32,
+    /// The node in question.
+    pub asked: u32,
+    /// The query's subclass, by number.
+    pub sub: u32,
+    /// The complement of its superclass, by number.
+    pub not_sup: u32,
+}
 
 /// New nodes below a node, each the end of an edge and in a concept, and pairwise apart.
 #[derive(Clone, Copy, Debug, PartialEq, Eq)]
@@ -28,8 +41,8 @@ pub struct NewNodes {
 pub enum Outcome {
     /// Nothing: the branch is closed.
     Closed,
-    /// Node 0 alone, in these two concepts.
-    Started(u32, u32),
+    /// The first nodes alone.
+    Started(FirstNodes),
     /// The branch with these facts more.
     More(Vec<Fact<u32>>),
     /// The branch with these nodes and their facts more.
@@ -63,6 +76,20 @@ pub(crate) fn one_more(
         Some(concept) => {
             let mut facts = Vec::new(alloc);
             facts.push(Fact::Has(node, concept))?;
+            Ok(Some(Outcome::More(facts)))
+        }
+    }
+}
+
+// The branch with a fact more, where there is one.
+pub(crate) fn one_fact(alloc: Global, fact: Option<Fact<u32>>) -> Result<Option<Outcome>, NoMemory>
+    ensures { IfOk result (λ o. AddsFactIfSome fact o) }
+{
+    match fact {
+        None => Ok(None),
+        Some(fact) => {
+            let mut facts = Vec::new(alloc);
+            facts.push(fact)?;
             Ok(Some(Outcome::More(facts)))
         }
     }

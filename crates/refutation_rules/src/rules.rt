@@ -9,11 +9,12 @@ ghost use Rattle.shq_nnf.specs.Shapes.{form_of, concept_of};
 ghost use Rattle.shq_nnf.specs.Numbers.{Extends, IsNumber};
 ghost use Rattle.axiom_sets.specs.Sets.{IsWithin, member_list};
 ghost use Rattle.row_cache.specs.Rows.{AreInLimit};
+ghost use Rattle.row_cache.specs.Cache.{IsNamedAxiom};
 ghost use Rattle.calculus_specs.specs.Valid.{concept_at};
 ghost use Rattle.refutation_tree.specs.RuleLine.{line_of};
 ghost use Rattle.refutation_rules.specs.Outcomes.{IsBranch};
 ghost use Rattle.refutation_rules.specs.RefutationContext.{theory, IsOutcome, IsSameButTable, StandsFor, IsHeld, IsUsableRow, IsUsableRange};
-ghost use Rattle.refutation_rules.specs.Tests.{is_in, has_number};
+ghost use Rattle.refutation_rules.specs.Tests.{node_asked, is_in, has_number};
 
 use crate::numbering::{number_concepts, roles_of};
 use crate::{NoMemory, Outcome};
@@ -23,17 +24,18 @@ use refutation_tree::{Line, Refutation};
 use role_box::RoleBox;
 use row_cache::{CachedRange, CachedRow, RowCache};
 use shq_nnf::{Concepts, Shape};
-use shq_terms::{Ontology, Query};
+use shq_terms::{Concept, Numbered, On, Ontology, Query};
 use std::alloc::Global;
 use std::marker::Model;
 
-/// The rules for the lines of one refutation: the axioms that it names, the roles by these, the query, and the numbers
-/// of its concepts in a table of their own, which keeps the rows that lines use.
+/// The rules for the lines of one refutation: how many individuals there are, the axioms that it names, the roles by
+/// these, the query, and the numbers of its concepts in a table of their own, which keeps the rows that lines use.
 #[derive(Drop)]
 pub struct Rules<'a> {
     pub(crate) alloc: Global,
     refutation: &'a Refutation,
     query: &'a Query,
+    individuals: u32,
     roles: RoleBox,
     rows: RowCache<'a>,
     numbers: Vec<u32>,
@@ -51,9 +53,9 @@ impl<'a> Model for Rules<'a> {
 
     ghost coded = { Prim.hlevel (codes, concept_code) };
 
-    ghost view = { λ r. record { axioms = r.rows.axioms; named = r.rows.named; sub = r.query.now.sub; sup = r.query.now.sup; shapes = r.refutation.now.shapes; table = r.rows.table } };
+    ghost view = { λ r. record { individuals = r.individuals; axioms = r.rows.axioms; named = r.rows.named; query = r.query.now; shapes = r.refutation.now.shapes; table = r.rows.table } };
 
-    ghost invariant = { λ r. IsRefutationContext r.rows r.refutation.now.shapes r.query.now r.roles r.numbers.items r.sub r.not_sup r.bottom };
+    ghost invariant = { λ r. IsRefutationContext r.individuals r.rows r.refutation.now.shapes r.query.now r.roles r.numbers.items r.sub r.not_sup r.bottom };
 }
 
 impl<'a> Rules<'a> {
@@ -74,10 +76,10 @@ impl<'a> Rules<'a> {
         requires within { AreInLimit ontology.now.axioms }
         requires sub { IsTrue (has_counts_within 100 query.now.sub) }
         requires sup { IsTrue (has_counts_within 100 query.now.sup) }
+        ensures individuals { IfOk result (λ f. f.individuals ≡ length ontology.entry.now.individuals) }
         ensures axioms { IfOk result (λ f. f.axioms ≡ ontology.entry.now.axioms) }
         ensures named { IfOk result (λ f. f.named ≡ member_list refutation.entry.now.axioms) }
-        ensures sub { IfOk result (λ f. f.sub ≡ query.entry.now.sub) }
-        ensures sup { IfOk result (λ f. f.sup ≡ query.entry.now.sup) }
+        ensures query { IfOk result (λ f. f.query ≡ query.entry.now) }
         ensures shapes { IfOk result (λ f. f.shapes ≡ refutation.entry.now.shapes) }
     {
         let mut concepts = Concepts::new(alloc)?;
@@ -92,6 +94,7 @@ impl<'a> Rules<'a> {
             alloc,
             refutation,
             query,
+            individuals: ontology.individual_count(),
             roles,
             rows,
             numbers,
@@ -150,6 +153,8 @@ impl<'a> Rules<'a> {
             Line::Most(node, concept, ends) => {
                 Ok(self.most(branch, *node, *concept, ends.items()))
             }
+            Line::Fact(axiom, place) => self.fact(branch, *axiom, *place),
+            Line::Differ(first, second) => Ok(self.differ(branch, *first, *second)),
         }
     }
 
@@ -216,10 +221,34 @@ impl<'a> Rules<'a> {
 
     // The numbers of the query's subclass and of the complement of its superclass.
     pub(crate) fn query_numbers(&self) -> (u32, u32)
-        ensures sub { IsNumber self.now.table result.0 (normal_form self.now.sub) }
-        ensures not_sup { IsNumber self.now.table result.1 (negated_form self.now.sup) }
+        ensures sub { IsNumber self.now.table result.0 (normal_form self.now.query.sub) }
+        ensures not_sup { IsNumber self.now.table result.1 (negated_form self.now.query.sup) }
     {
         (self.sub, self.not_sup)
+    }
+
+    // How many individuals there are. The first nodes are one for each of them, and one more.
+    pub(crate) fn individual_count(&self) -> u32
+        ensures count { result ≡ self.now.individuals }
+        ensures few { result ≤ 20000 }
+    {
+        self.individuals
+    }
+
+    // The node in question, where it is a first node: that of the individual that the query speaks of, or the last one.
+    pub(crate) fn asked_node(&self) -> Option<u32>
+        ensures { result ≡ node_asked self.now }
+    {
+        match self.query.on {
+            On::Any => Some(self.individuals),
+            On::Individual(individual) => {
+                if individual < self.individuals {
+                    Some(individual)
+                } else {
+                    None
+                }
+            }
+        }
     }
 
     pub(crate) fn bottom(&self) -> u32
@@ -267,6 +296,23 @@ impl<'a> Rules<'a> {
         ensures same { IsSameButTable self.old self.new }
     {
         self.rows.negated(number)
+    }
+
+    // The axiom of a number, from 1, if it is named.
+    pub(crate) fn named_axiom(&self, number: u32) -> Option<&'a Numbered>
+        ensures { IsNamedAxiom self.now.axioms self.now.named number result }
+    {
+        self.rows.named_axiom(number)
+    }
+
+    // The number of the normal form of a class expression.
+    pub(crate) fn intern(&mut self, concept: &Concept) -> Result<u32, NoMemory>
+        requires { IsTrue (has_counts_within 100 concept.now) }
+        ensures number { IfOk result (λ n. IsNumber self.new.table n (normal_form concept.now)) }
+        ensures kept { Extends self.old.table self.new.table }
+        ensures same { IsSameButTable self.old self.new }
+    {
+        self.rows.intern(concept)
     }
 
     // The row of a part of an axiom for the conjuncts at these positions.

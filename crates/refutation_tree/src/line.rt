@@ -8,7 +8,7 @@ use shq_terms::NumberList;
 /// In the fields `X`, `Y` and `Z` are nodes, and `C` is the number of a concept among the refutation's shapes.
 #[derive(Drop)]
 pub enum Line {
-    /// The first nodes, of which the one in question is in the query's subclass and in the complement of its superclass.
+    /// The first nodes, one of which is in the query's subclass and in the complement of its superclass.
     Start,
     /// `X C`: the parts of an intersection.
     And(u32, u32),
