@@ -1,5 +1,8 @@
 // Going back from a clash.
-ghost use Rattle.std.specs.Prelude.{◌≡◌, ℕ, ◌+◌, ◌<◌, ◌≤◌, ◌^◌, length, take, true, Some, slice_get, OnOk, IfOk};
+ghost use Rattle.std.specs.Prelude.{◌≡◌, ℕ, ◌+◌, ◌<◌, ◌≤◌, ◌^◌, min, length, take, drop, true, Some, slice_get, OnOk, IfOk};
+ghost use Rattle.calculus_specs.specs.Joins.{rep};
+ghost use Rattle.calculus_specs.specs.State.{node_count};
+ghost use Rattle.blocking.specs.Changed.{least_touched};
 ghost use Rattle.refutation_tree.specs.RuleLine.{line_of};
 ghost use Rattle.tableau_specs.specs.Steps.{HasClash};
 ghost use Rattle.completion_tree.specs.declared.tree.Entry.TheVariants.{Mark as Marks};
@@ -127,11 +130,13 @@ fn choice_at<A: Allocator + Copy>(tree: &Tree<A>, place: u32) -> Choice
 }
 
 // Takes the entries from a place on out, and answers below which node the blocks stand of those below `from`, where
-// these stood before.
+// these stood before: the least of which these entries say something, or the number of nodes.
 fn cut<A: Allocator + Copy>(tree: &mut Tree<A>, place: u32, from: u32) -> u32
     requires { place ≤ length tree.old }
     ensures cut { tree.new ≡ take place tree.old }
     ensures stand { (p : Printed) → AreBlocksBelow (facts_in tree.old) from p → AreBlocksBelow (facts_in (take place tree.old)) result p }
+    ensures least { let fs = facts_in tree.old in
+        result ≡ min (min from (least_touched (rep fs) (node_count fs) (facts_in (drop place tree.old)))) (node_count (facts_in (take place tree.old))) }
 {
     let _nodes = tree.nodes();
     let below = current_before(tree, place, from);
