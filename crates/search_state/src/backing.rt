@@ -2,7 +2,7 @@
 ghost use Rattle.std.specs.Prelude.{◌≡◌, ℕ, ◌+◌, ◌<◌, ◌≤◌, ◌^◌, min, length, take, drop, true, Some, slice_get, OnOk, IfOk};
 ghost use Rattle.calculus_specs.specs.Joins.{rep};
 ghost use Rattle.calculus_specs.specs.State.{node_count};
-ghost use Rattle.blocking.specs.Changed.{least_touched};
+ghost use Rattle.step_agenda.specs.Changed.{least_touched};
 ghost use Rattle.refutation_tree.specs.RuleLine.{line_of};
 ghost use Rattle.tableau_specs.specs.Steps.{HasClash};
 ghost use Rattle.completion_tree.specs.declared.tree.Entry.TheVariants.{Mark as Marks};
