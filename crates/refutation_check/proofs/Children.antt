@@ -19,7 +19,7 @@ use Rattle.refutation_check.proofs.Begun.{IsBegun}
 pub ready_if : (n : ℕ) (o : Open) (out : Option Outcome) → IsBranch n o.branch → IsFitIfSome n o.branch out → IsReadyIf o out
 ready_if n o None is fit = tt
 ready_if n o (Some Closed) is fit = tt
-ready_if n o (Some (Started c d)) is fit = (fit.0, is.begun fit.0)
+ready_if n o (Some (Started m)) is fit = (fit.0, is.begun fit.0, fit.3)
 ready_if n o (Some (More fs)) is fit = tt
 ready_if n o (Some (Nodes m)) is fit = (fit.1, fit.2)
 ready_if n o (Some (Branches fs)) is fit = tt
@@ -54,7 +54,8 @@ module _ (n : ℕ) where
 
   all_listed : (k : Branch) (o : Outcome) → IsListed k → IsFit n k o → All IsListed (branches_after k o)
   all_listed k Closed h fit = All-nil IsListed
-  all_listed k (Started c d) h fit = one _ (and_from (is_fact_listed n (Has 0 c)) (is_fact_listed n (Has 0 d) && true) (lt-ltb c n fit.1) (and_from (is_fact_listed n (Has 0 d)) true (lt-ltb d n fit.2) refl))
+  all_listed k (Started m) h fit =
+      one _ (and_from (is_fact_listed n (Has m.asked m.sub)) (is_fact_listed n (Has m.asked m.not_sup) && true) (lt-ltb m.sub n fit.1) (and_from (is_fact_listed n (Has m.asked m.not_sup)) true (lt-ltb m.not_sup n fit.2) refl))
   all_listed k (More fs) h fit = one _ (both_listed k.facts fs.items h fit)
   all_listed k (Nodes m) h fit =
       one _ (both_listed k.facts _ h (both_listed (new_nodes m.from m.role m.concept m.first m.count) (pairwise_apart m.first m.count) (nodes_listed m.from m.role m.concept fit.0 m.count m.first) (pairs_listed m.count m.first)))

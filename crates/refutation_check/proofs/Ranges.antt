@@ -52,6 +52,12 @@ new_after nodes x (suc n) first l h =
     let rest = new_after nodes x n (first + 1) (omega arith) parts.1 in
     ap (λ b. b || are_new (nodes ++ x ∷ []) (first + 1) n) here ∙ rest
 
+-- a branch that knows no node knows none of them
+pub none_known : (nodes : List ℕ) → nodes ≡ [] → (first n : ℕ) → are_new nodes first n ≡ false
+none_known [] e first zero = refl
+none_known [] e first (suc n) = none_known [] e (first + 1) n
+none_known (x ∷ xs) e first n = cc
+
 -- where none of the nodes that are left is known, the next is not, nor are the others once it is
 pub next_is_new : (nodes : List ℕ) (first place count : ℕ) → place < count → are_new nodes (first + place) (count - place) ≡ false → list_any (λ y. y == first + place) nodes ≡ false
 next_is_new nodes first place count l h =

@@ -3,21 +3,20 @@ use Rattle.std.proofs.Common.{◌≡◌, ℕ, suc, ◌+◌, ◌<◌, Bool, true,
 use Rattle.std.specs.Option.{option_and_then}
 use Rattle.std.proofs.lemmas.List.{take_more, get_or-map, length-map}
 use Rattle.shq_terms.specs.Concept.{Concept}
-use Rattle.calculus_specs.specs.Rows.{Theory}
 use Rattle.refutation_tree.specs.RuleLine.{line_of}
 use Rattle.refutation_tree.specs.declared.line.Line.{Line as Kept}
 use Rattle.calculus_specs.specs.Line.{Line}
-use Rattle.calculus_specs.specs.Rules.{Known, nothing_known}
+use Rattle.calculus_specs.specs.Rules.{Question, Known, nothing_known}
 use Rattle.calculus_specs.specs.Valid.{concept_at, open_after, open_after_all, Breaks}
-use Rattle.refutation_rules.specs.Theory.{theory_of}
-use Rattle.refutation_rules.specs.RefutationContext.{RefutationContext, theory, IsSameButTable}
+use Rattle.refutation_rules.specs.Theory.{question_of}
+use Rattle.refutation_rules.specs.RefutationContext.{RefutationContext, question, IsSameButTable}
 use Rattle.refutation_check.specs.declared.checking.Verdict.TheVariants.{Rejected}
 use Rattle.refutation_check.specs.Open.{Open, branches, are_known, AreNumberedBranches}
 use Rattle.refutation_check.specs.Steps.{left_by_line, left_by_lines, IsLeftIf, IsReadAs}
 
-module _ (theory : Theory) (sub sup : Concept) (concept : ℕ → Option Concept) where
+module _ (q : Question) (concept : ℕ → Option Concept) where
   abbrev goes_on : List Line → List Known → Option (List Known)
-  goes_on lines ks = open_after_all theory sub sup concept ks lines
+  goes_on lines ks = open_after_all q concept ks lines
 
   after_one : (one rest both : List Known → Option (List Known)) → ((ks : List Known) → both ks ≡ option_and_then rest (one ks)) → (o : Option (List Known))
       → option_and_then both o ≡ option_and_then rest (option_and_then one o)
@@ -26,16 +25,16 @@ module _ (theory : Theory) (sub sup : Concept) (concept : ℕ → Option Concept
 
   after_more : (lines rest : List Line) (ks : List Known) → goes_on (lines ++ rest) ks ≡ option_and_then (goes_on rest) (goes_on lines ks)
   after_more [] rest ks = refl
-  after_more (line ∷ lines) rest ks = after_one (goes_on lines) (goes_on rest) (goes_on (lines ++ rest)) (after_more lines rest) (open_after theory sub sup concept ks line)
+  after_more (line ∷ lines) rest ks = after_one (goes_on lines) (goes_on rest) (goes_on (lines ++ rest)) (after_more lines rest) (open_after q concept ks line)
 
   only : (o : Option (List Known)) → option_and_then (goes_on []) o ≡ o
   only None = refl
   only (Some ks) = refl
 
-  pub one_more : (lines : List Line) (line : Line) (ks left : List Known) → goes_on lines ks ≡ Some left → goes_on (lines ++ line ∷ []) ks ≡ open_after theory sub sup concept left line
-  one_more lines line ks left e = after_more lines (line ∷ []) ks ∙ ap (option_and_then (goes_on (line ∷ []))) e ∙ only (open_after theory sub sup concept left line)
+  pub one_more : (lines : List Line) (line : Line) (ks left : List Known) → goes_on lines ks ≡ Some left → goes_on (lines ++ line ∷ []) ks ≡ open_after q concept left line
+  one_more lines line ks left e = after_more lines (line ∷ []) ks ∙ ap (option_and_then (goes_on (line ∷ []))) e ∙ only (open_after q concept left line)
 
-  pub at_line : (ks : List Known) (line : Line) (lines : List Line) → open_after theory sub sup concept ks line ≡ None → Breaks theory sub sup concept ks (line ∷ lines)
+  pub at_line : (ks : List Known) (line : Line) (lines : List Line) → open_after q concept ks line ≡ None → Breaks q concept ks (line ∷ lines)
   at_line [] line lines e = e
   at_line (k ∷ ks) line lines e = e
 
@@ -43,15 +42,15 @@ module _ (theory : Theory) (sub sup : Concept) (concept : ℕ → Option Concept
 
 pub same_twice : (f g h : RefutationContext) → IsSameButTable f g → IsSameButTable g h → IsSameButTable f h
 same_twice f g h a b = record {
+  individuals = b.individuals ∙ a.individuals;
   axioms = b.axioms ∙ a.axioms;
   named = b.named ∙ a.named;
-  sub = b.sub ∙ a.sub;
-  sup = b.sup ∙ a.sup;
+  query = b.query ∙ a.query;
   shapes = b.shapes ∙ a.shapes;
 }
 
-same_left : (f g : RefutationContext) (o : Open) (line : Line) → IsSameButTable f g → left_by_line g o line ≡ open_after (theory f) f.sub f.sup (concept_at f.shapes) (are_known g.table (branches o)) line
-same_left f g o line same i = open_after (theory_of (same.axioms i) (same.named i)) (same.sub i) (same.sup i) (concept_at (same.shapes i)) (are_known g.table (branches o)) line
+same_left : (f g : RefutationContext) (o : Open) (line : Line) → IsSameButTable f g → left_by_line g o line ≡ open_after (question f) (concept_at f.shapes) (are_known g.table (branches o)) line
+same_left f g o line same i = open_after (question_of (same.individuals i) (same.axioms i) (same.named i) (same.query i)) (concept_at (same.shapes i)) (are_known g.table (branches o)) line
 
 -- ---- lines that were read
 
@@ -76,7 +75,7 @@ module _ (f g : RefutationContext) (o : Open) (lines : List Kept) (place : ℕ) 
   read_on h p b is l read e moved same =
       let left = subst (λ (c : Bool). IsLeftIf c (left_by_line g o (line_of kept)) h p) e moved in
       let taken = take_more all place (line_of kept) (within l) ∙ ap (λ (m : Line). take place all ++ m ∷ []) (sym (is_here is l)) in
-      let more = one_more (theory f) f.sub f.sup (concept_at f.shapes) (take place all) (line_of kept) (nothing_known ∷ []) (are_known g.table (branches o)) read.left in
+      let more = one_more (question f) (concept_at f.shapes) (take place all) (line_of kept) (nothing_known ∷ []) (are_known g.table (branches o)) read.left in
       record {
         left = ap (left_by_lines f) taken ∙ more ∙ sym (same_left f g o (line_of kept) read.same) ∙ left.are;
         are = left.listed;
@@ -90,7 +89,7 @@ module _ (f g : RefutationContext) (o : Open) (lines : List Kept) (place : ℕ) 
       let none = sym (same_left f g o (line_of kept) read.same) ∙ left in
       let rest = drop-cons all place (line_of kept) (within l) ∙ ap (λ (m : Line). m ∷ drop (suc place) all) (sym (is_here is l)) in
       let known = are_known g.table (branches o) in
-      let breaks = at_line (theory f) f.sub f.sup (concept_at f.shapes) known (line_of kept) (drop (suc place) all) none in
+      let breaks = at_line (question f) (concept_at f.shapes) known (line_of kept) (drop (suc place) all) none in
       let in_all = within l in
       record {
         count = place;
@@ -98,5 +97,5 @@ module _ (f g : RefutationContext) (o : Open) (lines : List Kept) (place : ℕ) 
         within = omega arith;
         left = known;
         before = read.left;
-        breaks = subst (λ (ls : List Line). Breaks (theory f) f.sub f.sup (concept_at f.shapes) known ls) (sym rest) breaks;
+        breaks = subst (λ (ls : List Line). Breaks (question f) (concept_at f.shapes) known ls) (sym rest) breaks;
       }

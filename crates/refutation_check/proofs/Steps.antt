@@ -13,7 +13,7 @@ use Rattle.calculus_specs.specs.Rules.{Known}
 use Rattle.calculus_specs.specs.Valid.{concept_at, open_after}
 use Rattle.refutation_rules.specs.declared.outcome.Outcome.{Outcome}
 use Rattle.refutation_rules.specs.Outcomes.{known_of, branches_after, children_after, IsFitIfSome, IsBranch}
-use Rattle.refutation_rules.specs.RefutationContext.{RefutationContext, theory, line_children, IsSameButTable}
+use Rattle.refutation_rules.specs.RefutationContext.{RefutationContext, question, line_children, IsSameButTable}
 use Rattle.refutation_rules.proofs.Reading.{known_stays, branch_stays}
 use Rattle.refutation_rules.proofs.Contexts.{line_stays}
 use Rattle.refutation_check.specs.Open.{Open, branches, branches_of, are_known, AreNumberedBranches}
@@ -64,7 +64,7 @@ module _ (f g : RefutationContext) (o : Open) (line : Line) where
   left_is : (out : Option Outcome) → IsMove f g o line out → left_by_line f o line ≡ option_map on (children_after g.table o.branch out)
   left_is out h =
       let first = All-head (IsBranch (length f.table)) o.branch o.waiting (all_are out h) in
-      ap (λ (b : Bool). open_after (theory f) f.sub f.sup (concept_at f.shapes) (are_known f.table (branches_of b o.branch o.waiting)) line) h.open
+      ap (λ (b : Bool). open_after (question f) (concept_at f.shapes) (are_known f.table (branches_of b o.branch o.waiting)) line) h.open
       ∙ ap (option_map on) (sym (line_stays f g o.branch line h.same h.kept first.listed) ∙ h.children)
 
   left_some : (out : Outcome) (p : Open) → IsMove f g o line (Some out) → branches p ≡ branches_after o.branch out ++ o.waiting → IsLeft (left_by_line f o line) g p
@@ -72,7 +72,7 @@ module _ (f g : RefutationContext) (o : Open) (line : Line) where
       let are = all_are (Some out) h in
       let first = branch_stays f.table g.table o.branch h.kept (All-head (IsBranch (length f.table)) o.branch o.waiting are) in
       let rest = All-tail (IsBranch (length f.table)) o.branch o.waiting are in
-      let begun = all_begun (theory g) g.sub g.sup (concept_at g.shapes) g.table line out o.branch.nodes o.branch.facts h.children in
+      let begun = all_begun (question g) (concept_at g.shapes) g.table line out o.branch.nodes o.branch.facts h.children h.fit in
       let new = children_are (length g.table) o.branch out first h.fit begun in
       let waiting = ap (λ (l : List Known). map (known_of g.table) (branches_after o.branch out) ++ l) (sym (all_known f.table g.table o.waiting h.kept rest)) in
       let both = sym (map-append (known_of g.table) (branches_after o.branch out) o.waiting) in
@@ -93,4 +93,4 @@ module _ (f g : RefutationContext) (o : Open) (line : Line) where
   ready out h = ready_if (length g.table) o out (branch_stays f.table g.table o.branch h.kept (All-head (IsBranch (length f.table)) o.branch o.waiting (all_are out h))) h.fit
 
 pub none_left : (f : RefutationContext) (o : Open) (line : Line) → o.closed ≡ true → left_by_line f o line ≡ None
-none_left f o line h = ap (λ (b : Bool). open_after (theory f) f.sub f.sup (concept_at f.shapes) (are_known f.table (branches_of b o.branch o.waiting)) line) h
+none_left f o line h = ap (λ (b : Bool). open_after (question f) (concept_at f.shapes) (are_known f.table (branches_of b o.branch o.waiting)) line) h

@@ -56,7 +56,7 @@ waiting_with o f = record { branch = o.branch; waiting = branch_with_facts o.bra
 -- new
 abbrev pub IsReady : Branch → Outcome → Type 0
 IsReady k Closed = Unit {0}
-IsReady k (Started c d) = (k.nodes ≡ []) × (k.facts ≡ [])
+IsReady k (Started n) = (k.nodes ≡ []) × (k.facts ≡ []) × (n.count ≤ 2 ^ 32)
 IsReady k (More fs) = Unit {0}
 IsReady k (Nodes n) = (n.first + n.count ≤ 2 ^ 32) × (list_any (has_node k) (range_with_len n.first n.count) ≡ false)
 IsReady k (Branches fs) = Unit {0}

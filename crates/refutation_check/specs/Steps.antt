@@ -5,17 +5,17 @@ use Rattle.calculus_specs.specs.Rules.{Known, nothing_known}
 use Rattle.calculus_specs.specs.Valid.{concept_at, open_after, open_after_all, IsBrokenAt}
 use Rattle.refutation_rules.specs.declared.outcome.Outcome.{Outcome}
 use Rattle.refutation_rules.specs.Outcomes.{branches_after}
-use Rattle.refutation_rules.specs.RefutationContext.{RefutationContext, theory}
+use Rattle.refutation_rules.specs.RefutationContext.{RefutationContext, question}
 use Rattle.refutation_check.specs.declared.checking.Verdict.{Verdict}
 use Rattle.refutation_check.specs.declared.checking.Verdict.TheVariants.{Accepted, Rejected}
 use Rattle.refutation_check.specs.Open.{Open, branches, are_known, AreNumberedBranches, IsReady}
 
 -- the branches that a line leaves of those that are open, and several lines of the one that knows nothing
 abbrev pub left_by_line : RefutationContext → Open → Line → Option (List Known)
-left_by_line f o line = open_after (theory f) f.sub f.sup (concept_at f.shapes) (are_known f.table (branches o)) line
+left_by_line f o line = open_after (question f) (concept_at f.shapes) (are_known f.table (branches o)) line
 
 abbrev pub left_by_lines : RefutationContext → List Line → Option (List Known)
-left_by_lines f lines = open_after_all (theory f) f.sub f.sup (concept_at f.shapes) (nothing_known ∷ []) lines
+left_by_lines f lines = open_after_all (question f) (concept_at f.shapes) (nothing_known ∷ []) lines
 
 -- what a line leaves is open now, and its concepts are numbers of the table
 pub record IsLeft (left : Option (List Known)) (f : RefutationContext) (o : Open) : Type 0 where
@@ -43,7 +43,7 @@ IsPutIf o (Some outcome) put p = (put ≡ true) × (branches p ≡ branches_afte
 -- lines are accepted where they leave no branch open, and rejected where they break the rules
 abbrev pub IsReadAs : RefutationContext → List Line → Verdict → Type 0
 IsReadAs f lines Accepted = left_by_lines f lines ≡ Some []
-IsReadAs f lines (Rejected place) = IsBrokenAt (theory f) f.sub f.sup (concept_at f.shapes) lines place
+IsReadAs f lines (Rejected place) = IsBrokenAt (question f) (concept_at f.shapes) lines place
 
 -- after so many lines, all of which could be read
 abbrev pub IsEnd : Open → ℕ → Verdict → Type 0

@@ -41,7 +41,7 @@ pub fn check(
     requires set { set.now.limit ≡ length ontology.now.axioms }
     requires limits { IsInLimit ontology.now query.now }
     requires lines { length refutation.now.lines ≤ 4294967293 }
-    ensures { IfOk result (IsJudgedAs ontology.now.axioms set.now query.now refutation.now) }
+    ensures { IfOk result (IsJudgedAs ontology.now set.now query.now refutation.now) }
 {
     let _limit = set.limit();
     if !are_in(refutation.axioms_used(), set) {

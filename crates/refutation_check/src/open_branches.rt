@@ -8,7 +8,7 @@ ghost use Rattle.refutation_check.specs.Open.{branches, branches_for, waiting_wi
 
 use crate::NoMemory;
 use branch_facts::{BranchFacts, Fact, Mark};
-use refutation_rules::{NewNodes, Outcome};
+use refutation_rules::{FirstNodes, NewNodes, Outcome};
 use std::alloc::Global;
 use std::marker::Model;
 
@@ -78,7 +78,7 @@ impl OpenBranches {
     {
         match outcome {
             Outcome::Closed => self.close(),
-            Outcome::Started(sub, not_sup) => self.start(*sub, *not_sup),
+            Outcome::Started(nodes) => self.start(nodes),
             Outcome::More(facts) => self.add_all(facts),
             Outcome::Nodes(nodes) => self.add_nodes(nodes),
             Outcome::Branches(facts) => self.branch_out(facts),
@@ -153,15 +153,16 @@ impl OpenBranches {
         Ok(())
     }
 
-    // Knows node 0 alone, in these two concepts.
-    fn start(&mut self, sub: u32, not_sup: u32) -> Result<(), NoMemory>
+    // Knows the first nodes alone, and the concepts of the one in question.
+    fn start(&mut self, nodes: &FirstNodes) -> Result<(), NoMemory>
         requires nodes { self.old.branch.nodes ≡ [] }
         requires facts { self.old.branch.facts ≡ [] }
-        ensures { OnOk result (self.new ≡ record self.old { branch = started_branch sub not_sup }) }
+        requires small { nodes.now.count ≤ 2 ^ 32 }
+        ensures { OnOk result (self.new ≡ record self.old { branch = started_branch nodes.now }) }
     {
-        self.add_node(0)?;
-        self.add(Fact::Has(0, sub))?;
-        self.add(Fact::Has(0, not_sup))
+        self.know_all(0, nodes.count)?;
+        self.add(Fact::Has(nodes.asked, nodes.sub))?;
+        self.add(Fact::Has(nodes.asked, nodes.not_sup))
     }
 
     // Knows new nodes and what is said of them.

@@ -33,6 +33,6 @@ returns c =
     let are = c.in_ok-rules.ensures in
     let part = c.are_in.ensures.0 c.if-not-are_in.false in
     let named : IsPart r.axioms.members set.members = subst (λ (s : Limited). IsPart s.members set.members) c.axioms_used.ensures part in
-    judged_ok c.args.ontology.now.axioms set c.args.query.now r named f (map line_of c.lines.result.now) c.read.result
-    (record { axioms_are = are.axioms; named_are = are.named; sub_is = are.sub; sup_is = are.sup; shapes_are = are.shapes })
+    judged_ok c.args.ontology.now set c.args.query.now r named f (map line_of c.lines.result.now) c.read.result
+    (record { individuals_are = are.individuals; axioms_are = are.axioms; named_are = are.named; query_is = are.query; shapes_are = are.shapes })
     c.lines.ensures.lines c.read.ensures
