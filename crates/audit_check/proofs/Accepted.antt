@@ -29,7 +29,7 @@ ordered_both js rs up more = record { justifications = up; repairs = more }
 
 module _ (o : Listed) (q : Query) (a : AuditLists) where
   -- where all places hold and the lists fit each other, the audit is sound
-  pub sound_from : JustificationsHold o.axioms q a.justifications (length a.justifications) → RepairsHold o.axioms q a.repairs (length a.repairs)
+  pub sound_from : JustificationsHold o q a.justifications (length a.justifications) → RepairsHold o.axioms q a.repairs (length a.repairs)
       → AreTransversals (length o.axioms) (justified_sets a.justifications) (repaired_sets a.repairs) → IsSound o q a
   sound_from js rs fit = record {
     antichain = none_contains (justified_sets a.justifications) (λ place lt. (js place (omega (arith, lt, length-map a.justifications (λ (j : Justification). j.set)))).contains_none);
@@ -50,7 +50,7 @@ module _ (o : Listed) (q : Query) (a : AuditLists) where
         | inr more ↦ not_before_itself (get_or sets place d) (subst (λ (x : Limited). list_cmp (get_or sets place d) x ≡ Less) same (up place j d (omega (arith, more, found.2.0)) found.1))
       ]
 
-  holds_where_sound : IsOrdered a.justifications a.repairs → IsSound o q a → (place : ℕ) → place < length a.justifications → JustificationHolds o.axioms q a.justifications place
+  holds_where_sound : IsOrdered a.justifications a.repairs → IsSound o q a → (place : ℕ) → place < length a.justifications → JustificationHolds o q a.justifications place
   holds_where_sound order sound place lt = record {
     contains_none = none_contained (justified_sets a.justifications) order.justifications sound.antichain place (omega (arith, lt, length-map a.justifications (λ (j : Justification). j.set)));
     shown = λ j is. sound.shown j (of_place a.justifications place j is);
@@ -75,7 +75,7 @@ module _ (o : Listed) (q : Query) (a : AuditLists) where
   same_verdict Accepted (FirstRepair n) order p r = absurd (r.1.2.fails (repair_where_sound p r.1.0))
   same_verdict Accepted Transversal order p r = absurd (r.2 p.transversals)
   same_verdict (FirstJustification m) Accepted order p r = absurd (p.2.fails (holds_where_sound order r p.0 p.2.within))
-  same_verdict (FirstJustification m) (FirstJustification n) order p r = ap (λ (k : ℕ). FirstJustification k) (one_number (JustificationHolds o.axioms q a.justifications) (length a.justifications) m n p r)
+  same_verdict (FirstJustification m) (FirstJustification n) order p r = ap (λ (k : ℕ). FirstJustification k) (one_number (JustificationHolds o q a.justifications) (length a.justifications) m n p r)
   same_verdict (FirstJustification m) (FirstRepair n) order p r = absurd (p.2.fails (r.0 p.0 p.2.within))
   same_verdict (FirstJustification m) Transversal order p r = absurd (p.2.fails (r.0 p.0 p.2.within))
   same_verdict (FirstRepair m) Accepted order p r = absurd (p.1.2.fails (repair_where_sound r p.1.0))

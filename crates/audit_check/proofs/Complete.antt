@@ -25,7 +25,7 @@ module _ (o : Listed) (q : Query) (a : AuditLists) (over : AreOfAxioms o a) (wit
       let j = from_map (λ (x : Justification). x.set) a.justifications s listed in
       let inside = all_has (λ (x : Limited). IsWithin x.limit x.members) (justified_sets a.justifications) s within listed in
       subst (λ (x : Limited). FollowsFrom o.axioms q x.members) j.2
-      (follows_over o.axioms j.0.set q j.0.refutation (subst (λ (x : Limited). IsWithin x.limit x.members) (sym j.2) inside) (sound.shown j.0 j.1))
+      (follows_over o j.0.set q j.0.refutation (subst (λ (x : Limited). IsWithin x.limit x.members) (sym j.2) inside) (sound.shown j.0 j.1))
 
   end : (s : Limited) → Contains (repaired_sets a.repairs) s → FollowsFrom o.axioms q (rest s) → ⊥
   end s listed follows =

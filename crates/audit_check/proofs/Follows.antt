@@ -12,6 +12,7 @@ use Rattle.pinpointing_specs.specs.Smallest.{rest}
 use Rattle.pinpointing_specs.specs.LocalModule.{axioms_from, axioms_in_set, FollowsFrom}
 use Rattle.pinpointing_specs.proofs.Choices.{in_rest}
 use Rattle.pinpointing_specs.proofs.InSet.{to_set}
+use Rattle.shq_terms.specs.Listed.{Listed}
 use Rattle.shq_terms.specs.declared.axioms.Numbered.{Numbered}
 use Rattle.shq_terms.specs.declared.axioms.Query.{Query}
 use Rattle.shq_meaning.specs.Truth.{Interpretation, meets, meets_all, refutes_at}
@@ -41,11 +42,11 @@ module _ (axioms : List Numbered) (s : NumberSet) (i : Interpretation) (met : me
       ∙ and_from (list_all (meets i) (axioms_in (slice_get axioms (k - 1)))) (list_all (meets i) (named_axioms axioms ks)) (one_met k first.0 first.1 (slice_get axioms (k - 1)) refl) (named_met ks (λ j lt. members (suc j) (omega (arith, lt))))
 
 -- a query with a valid refutation over a set follows from the set
-pub follows_over : (axioms : List Numbered) (s : Limited) (q : Query) (r : RefutationLists) → IsWithin s.limit s.members → IsValid axioms s q r → FollowsFrom axioms q s.members
-follows_over axioms s q r within valid i some placed met x lt =
+pub follows_over : (o : Listed) (s : Limited) (q : Query) (r : RefutationLists) → IsWithin s.limit s.members → IsValid o s q r → FollowsFrom o.axioms q s.members
+follows_over o s q r within valid i some placed met x lt =
     let listed : (j : ℕ) → j < length (member_list r.axioms) → (1 ≤ get_or (member_list r.axioms) j 0) × (set.contains s.members (get_or (member_list r.axioms) j 0) ≡ true) =
     (λ j less. let member = valid.named (get_or (member_list r.axioms) j 0) (member_list-at r.axioms j less).0 in ((within (get_or (member_list r.axioms) j 0) member).0, member)) in
-    entailed axioms (member_list r.axioms) q.sub q.sup q.on r.shapes r.lines valid.refutes i some placed (named_met axioms s.members i met (member_list r.axioms) listed) x lt
+    entailed (length o.individuals) o.axioms (member_list r.axioms) q r.shapes r.lines valid.refutes i some placed (named_met o.axioms s.members i met (member_list r.axioms) listed) x lt
 
 -- ---- from a model
 

@@ -45,14 +45,14 @@ below_more P n before here k lt = elim (cases_eq k n) [ inl e ↦ subst P (sym e
 pub fails_here : (P : ℕ → Type 0) (n count : ℕ) → n < count → ((k : ℕ) → k < n → P k) → (b : Bool) → (IsTrue b ↔ P n) → b ≡ false → FailsFirst P count n
 fails_here P n count lt before b is out = record { within = lt; before = before; fails = λ holds. true≢false (sym (is.1 holds) ∙ out) }
 
-module _ (axioms : List Numbered) (q : Query) (js : List Justification) (place : ℕ) (j : Justification) (at : slice_get js place ≡ Some j) where
-  holds_if : ¬ ContainsAnother (justified_sets js) place → (b : Bool) → (IsTrue b ↔ IsShown axioms q j) → (IsTrue b ↔ JustificationHolds axioms q js place)
+module _ (o : Listed) (q : Query) (js : List Justification) (place : ℕ) (j : Justification) (at : slice_get js place ≡ Some j) where
+  holds_if : ¬ ContainsAnother (justified_sets js) place → (b : Bool) → (IsTrue b ↔ IsShown o q j) → (IsTrue b ↔ JustificationHolds o q js place)
   holds_if alone b is = (
-    λ h. record { contains_none = alone; shown = λ x x_at. subst (IsShown axioms q) (cc (sym at ∙ x_at)) (is.0 h) },
+    λ h. record { contains_none = alone; shown = λ x x_at. subst (IsShown o q) (cc (sym at ∙ x_at)) (is.0 h) },
     λ holds. is.1 (holds.shown j at),
   )
 
-  pub holds_ok : ¬ ContainsAnother (justified_sets js) place → (r : Result Bool NoMemory) → IfOk r (λ b. IsTrue b ↔ IsShown axioms q j) → IfOk r (λ b. IsTrue b ↔ JustificationHolds axioms q js place)
+  pub holds_ok : ¬ ContainsAnother (justified_sets js) place → (r : Result Bool NoMemory) → IfOk r (λ b. IsTrue b ↔ IsShown o q j) → IfOk r (λ b. IsTrue b ↔ JustificationHolds o q js place)
   holds_ok alone (Ok b) h = holds_if alone b h
   holds_ok alone (Err e) h = tt
 

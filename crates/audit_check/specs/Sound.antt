@@ -18,8 +18,8 @@ use Rattle.audit_file.specs.declared.entries.Justification.{Justification}
 use Rattle.audit_file.specs.declared.entries.Repair.{Repair}
 
 -- the refutation is valid over the set
-abbrev pub IsShown : List Numbered → Query → Justification → Type 0
-IsShown axioms q j = IsValid axioms j.set q j.refutation
+abbrev pub IsShown : Listed → Query → Justification → Type 0
+IsShown o q j = IsValid o j.set q j.refutation
 
 -- each axiom is met, of those numbered from k on, whose number is not in the set
 abbrev pub meets_rest : Interpretation → ℕ → NumberSet → List Numbered → Bool
@@ -37,7 +37,7 @@ pub record IsCounterModel (axioms : List Numbered) (q : Query) (r : Repair) : Ty
 -- its repair, and refutes the query; the repairs are exactly the smallest sets that meet each justification.
 pub record IsSound (o : Listed) (q : Query) (a : AuditLists) : Type 0 where
   pub antichain : IsAntichain (justified_sets a.justifications)
-  pub shown : (j : Justification) → Contains a.justifications j → IsShown o.axioms q j
+  pub shown : (j : Justification) → Contains a.justifications j → IsShown o q j
   pub modelled : (r : Repair) → Contains a.repairs r → IsCounterModel o.axioms q r
   pub transversals : AreTransversals (length o.axioms) (justified_sets a.justifications) (repaired_sets a.repairs)
 

@@ -14,16 +14,16 @@ use Rattle.audit_check.specs.declared.verdict.AuditVerdict.{AuditVerdict}
 use Rattle.audit_check.specs.declared.verdict.AuditVerdict.TheVariants as verdict
 
 -- the justification of a place contains no other one, and its refutation is valid over its set
-pub record JustificationHolds (axioms : List Numbered) (q : Query) (js : List Justification) (place : ℕ) : Type 0 where
+pub record JustificationHolds (o : Listed) (q : Query) (js : List Justification) (place : ℕ) : Type 0 where
   pub contains_none : ¬ ContainsAnother (justified_sets js) place
-  pub shown : (j : Justification) → slice_get js place ≡ Some j → IsShown axioms q j
+  pub shown : (j : Justification) → slice_get js place ≡ Some j → IsShown o q j
 
 -- the model of the repair of a place shows that the query does not follow without it
 abbrev pub RepairHolds : List Numbered → Query → List Repair → ℕ → Type 0
 RepairHolds axioms q rs place = (r : Repair) → slice_get rs place ≡ Some r → IsCounterModel axioms q r
 
-abbrev pub JustificationsHold : List Numbered → Query → List Justification → ℕ → Type 0
-JustificationsHold axioms q js count = (place : ℕ) → place < count → JustificationHolds axioms q js place
+abbrev pub JustificationsHold : Listed → Query → List Justification → ℕ → Type 0
+JustificationsHold o q js count = (place : ℕ) → place < count → JustificationHolds o q js place
 
 abbrev pub RepairsHold : List Numbered → Query → List Repair → ℕ → Type 0
 RepairsHold axioms q rs count = (place : ℕ) → place < count → RepairHolds axioms q rs place
@@ -42,8 +42,8 @@ IsFirstFailing holds count n = (place : ℕ) × (n ≡ clamped_line (place + 1))
 -- does either, and the repairs are not the smallest sets that meet each justification.
 abbrev pub IsVerdict : Listed → Query → AuditLists → AuditVerdict → Type 0
 IsVerdict o q a verdict.Accepted = IsSound o q a
-IsVerdict o q a (verdict.Justification n) = IsFirstFailing (JustificationHolds o.axioms q a.justifications) (length a.justifications) n
-IsVerdict o q a (verdict.Repair n) = JustificationsHold o.axioms q a.justifications (length a.justifications) × IsFirstFailing (RepairHolds o.axioms q a.repairs) (length a.repairs) n
+IsVerdict o q a (verdict.Justification n) = IsFirstFailing (JustificationHolds o q a.justifications) (length a.justifications) n
+IsVerdict o q a (verdict.Repair n) = JustificationsHold o q a.justifications (length a.justifications) × IsFirstFailing (RepairHolds o.axioms q a.repairs) (length a.repairs) n
 IsVerdict o q a verdict.Transversal =
-    JustificationsHold o.axioms q a.justifications (length a.justifications) × RepairsHold o.axioms q a.repairs (length a.repairs)
+    JustificationsHold o q a.justifications (length a.justifications) × RepairsHold o.axioms q a.repairs (length a.repairs)
     × (¬ AreTransversals (length o.axioms) (justified_sets a.justifications) (repaired_sets a.repairs))

@@ -29,8 +29,8 @@ pub(crate) fn first_failing_justification(
     requires limits { IsInLimit ontology.now query.now }
     requires lines { All (λ j. length j.refutation.lines ≤ 4294967293) list.now }
     ensures { IfOk result (λ p. MatchOption p
-        (JustificationsHold ontology.now.axioms query.now list.now (length list.now))
-        (FailsFirst (JustificationHolds ontology.now.axioms query.now list.now) (length list.now))) }
+        (JustificationsHold ontology.now query.now list.now (length list.now))
+        (FailsFirst (JustificationHolds ontology.now query.now list.now) (length list.now))) }
 {
     for place in 0..list.len() {
         let holds = justification_holds(alloc, ontology, query, list, sets, place)?;
@@ -54,7 +54,7 @@ fn justification_holds(
     requires of_axioms { All (λ j. IsOfAxioms ontology.now j.set) list.now }
     requires limits { IsInLimit ontology.now query.now }
     requires lines { All (λ j. length j.refutation.lines ≤ 4294967293) list.now }
-    ensures { IfOk result (λ b. IsTrue b ↔ JustificationHolds ontology.now.axioms query.now list.now place) }
+    ensures { IfOk result (λ b. IsTrue b ↔ JustificationHolds ontology.now query.now list.now place) }
 {
     if contains_another(sets, place) {
         return Ok(false);
@@ -73,7 +73,7 @@ fn is_shown(
     requires of_axioms { IsOfAxioms ontology.now justification.now.set }
     requires limits { IsInLimit ontology.now query.now }
     requires lines { length justification.now.refutation.lines ≤ 4294967293 }
-    ensures { IfOk result (λ b. IsTrue b ↔ IsShown ontology.now.axioms query.now justification.now) }
+    ensures { IfOk result (λ b. IsTrue b ↔ IsShown ontology.now query.now justification.now) }
 {
     let Justification { set, refutation } = justification;
     match check(alloc, ontology, set, query, refutation)? {

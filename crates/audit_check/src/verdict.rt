@@ -72,7 +72,7 @@ fn verify_repairs(
     requires of_axioms { AreOfAxioms ontology.now audit.now }
     requires sets { sets.now ≡ justified_sets audit.now.justifications }
     requires within { All (λ s. IsWithin s.limit s.members) sets.now }
-    requires hold { JustificationsHold ontology.now.axioms query.now audit.now.justifications
+    requires hold { JustificationsHold ontology.now query.now audit.now.justifications
         (length audit.now.justifications) }
     ensures verdict { IfOk result (IsVerdict ontology.now query.now audit.now) }
     ensures all { IfOk result (λ v. v ≡ verdict.Accepted → ListsAll ontology.now query.now audit.now) }

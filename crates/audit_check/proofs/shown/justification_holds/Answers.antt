@@ -21,5 +21,5 @@ pub returns : goal.returns
 returns c =
     let js = c.args.list.now in
     let j = c.index-list-place.result in
-    holds_ok c.args.ontology.now.axioms c.args.query.now js c.args.place j (slice_get_read js (length js) c.args.place j (λ i. length js) c.requires.place c.index-list-place.is)
+    holds_ok c.args.ontology.now c.args.query.now js c.args.place j (slice_get_read js (length js) c.args.place j (λ i. length js) c.requires.place c.index-list-place.is)
     (λ found. true≢false (sym (c.contains_another.ensures.1 (subst (λ (xs : List Limited). ContainsAnother xs c.args.place) (sym c.requires.sets) found)) ∙ c.if-contains_another.false)) c.is_shown.result c.is_shown.ensures
