@@ -1,5 +1,5 @@
 -- What verdicts say of axioms and query.
-use Rattle.std.proofs.Common.{◌≡◌, ℕ, ◌+◌, List, [], ◌∷◌, map, Bool, true, false, Some, None, refl, sym, ◌∙◌, arith}
+use Rattle.std.proofs.Common.{◌≡◌, ℕ, ◌+◌, List, [], ◌∷◌, map, length, Bool, true, false, Some, None, refl, sym, ◌∙◌, arith}
 use Rattle.axiom_sets.specs.Sets.{member_list}
 use Rattle.shq_terms.specs.Listed.{Listed}
 use Rattle.shq_terms.specs.declared.axioms.Numbered.{Numbered}
@@ -35,4 +35,4 @@ not_followed o q (C.Refutation r) accepted follows = absurd accepted
 -- what is refuted over the named axioms follows from all
 pub followed : (o : Listed) (q : Asked) (c : Certificate) → IsVerdictOn o q c Entailed → Entails (map (λ n. n.axiom) o.axioms) q
 followed o q (C.Model m) accepted = absurd accepted
-followed o q (C.Refutation r) accepted = entailed_by_all o.axioms (member_list r.axioms) q.sub q.sup q.on r.shapes r.lines accepted
+followed o q (C.Refutation r) accepted = entailed_by_all (length o.individuals) o.axioms (member_list r.axioms) q r.shapes r.lines accepted

@@ -9,7 +9,7 @@ use Rattle.refutation_check.specs.Limits.{IsInLimit}
 use Rattle.finite_model.specs.ModelLists.{ModelLists as Model, meaning}
 use Rattle.calculus_specs.specs.Valid.{concept_at, IsBrokenAt, IsRefutation}
 use Rattle.refutation_tree.specs.RefutationLists.{RefutationLists as Refutation}
-use Rattle.refutation_check.specs.Verdicts.{named_theory}
+use Rattle.refutation_check.specs.Verdicts.{named_question}
 use Rattle.refutation_check.specs.declared.checking.Verdict.{Verdict as CheckerVerdict}
 use Rattle.refutation_check.specs.declared.checking.Verdict.TheVariants.{Accepted, Rejected}
 use Rattle.ofn_expressions.specs.Counts.{Counts}
@@ -76,8 +76,8 @@ line_of_place r place = 3 + length r.shapes + place
 -- The verdict on a refutation: its lines refute the query over the axioms that it names, and then the query follows; or
 -- they break the rules first at some place.
 abbrev pub IsOfRefutation : Listed → Asked → Refutation → Verdict → Type 0
-IsOfRefutation o q r Entailed = IsRefutation (named_theory o.axioms r) q.sub q.sup r.shapes r.lines
-IsOfRefutation o q r (Line n) = (place : ℕ) × IsBrokenAt (named_theory o.axioms r) q.sub q.sup (concept_at r.shapes) r.lines place × (n ≡ line_of_place r place)
+IsOfRefutation o q r Entailed = IsRefutation (named_question o q r) r.shapes r.lines
+IsOfRefutation o q r (Line n) = (place : ℕ) × IsBrokenAt (named_question o q r) (concept_at r.shapes) r.lines place × (n ≡ line_of_place r place)
 IsOfRefutation o q r v = ⊥
 
 -- the verdict on a certificate that is a refutation, from that of the checker
