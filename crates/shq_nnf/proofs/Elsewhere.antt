@@ -1,5 +1,5 @@
 -- Which numbers the individuals are bears on nothing but assertions.
-use Rattle.std.proofs.Common.{◌≡◌, ℕ, Bool, true, false, not, ◌&&◌, ◌||◌, leb, eqb, nat_le, List, refl, ap, sym, ◌∙◌}
+use Rattle.std.proofs.Common.{◌≡◌, ℕ, false, not, ◌&&◌, ◌||◌, leb, eqb, nat_le, refl, ap, sym, ◌∙◌}
 use Rattle.std.specs.List.{count_by}
 use Rattle.shq_meaning.specs.Concept.{Concept, top, bottom, name, complement, intersection, union, some_of, all_of, at_least, at_most, exactly, Parts, no_parts, part, parts_of}
 use Rattle.shq_meaning.specs.Axiom.{Axiom}
