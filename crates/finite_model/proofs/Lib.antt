@@ -17,3 +17,4 @@ pub mod TextLines
 pub mod TextRead
 pub mod Entries
 pub mod TextBack
+pub mod Unplaced

@@ -6,3 +6,4 @@ pub mod Malformed
 pub mod BodyRead
 pub mod Written
 pub mod ReadBack
+pub mod Unplaced

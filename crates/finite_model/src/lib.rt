@@ -20,6 +20,6 @@ mod writing;
 /// Why lines are not the text of a model, whose line `model N` has the number 2.
 pub use certificate_lines::LineFault as ModelFault;
 pub use interp::Interp;
-pub use laws::{malformed_line_is_the_first, models_are_read_back};
+pub use laws::{malformed_line_is_the_first, models_are_read_back, old_models_are_read_alike};
 pub use reading::read_text;
 pub use shq_terms::NoMemory;

@@ -43,7 +43,20 @@ fn read_query_group(
             read_pair(alloc, &items[0], &items[1], prefixes, state)
         }
         AxiomKeyword::Excluded(construct) => Err(Refusal::Outside(line, construct)),
-        _ => Err(Refusal::BadShape(line)),
+        AxiomKeyword::Numbered(
+            AxiomKind::EquivalentClasses
+            | AxiomKind::DisjointClasses
+            | AxiomKind::DisjointUnion
+            | AxiomKind::SubRole
+            | AxiomKind::EquivalentRoles
+            | AxiomKind::Domain
+            | AxiomKind::Range
+            | AxiomKind::Functional
+            | AxiomKind::Transitive,
+        )
+        | AxiomKeyword::Declaration
+        | AxiomKeyword::Annotation
+        | AxiomKeyword::Unknown => Err(Refusal::BadShape(line)),
     }
 }
 

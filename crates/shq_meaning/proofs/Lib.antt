@@ -1,3 +1,4 @@
+pub mod Asserted
 pub mod Below
 pub mod Implied
 pub mod Members

@@ -8,3 +8,5 @@ pub use Rattle.shq_terms.specs.Depth
 pub use Rattle.shq_terms.specs.Node
 pub use Rattle.shq_terms.specs.declared.axioms.Axiom
 pub use Rattle.shq_terms.specs.declared.axioms.Numbered
+pub use Rattle.shq_terms.specs.declared.axioms.On
+pub use Rattle.shq_terms.specs.declared.axioms.Query

@@ -40,6 +40,7 @@ pub fn examples_hold()
     ensures other_elements { IsFalse (meets path (axioms.SameAll (0 ∷ 3 ∷ 1 ∷ []))) }
     ensures different { IsTrue (meets path (axioms.Different (2 ∷ 0 ∷ 1 ∷ []))) }
     ensures the_last_is_the_first { IsFalse (meets path (axioms.Different (0 ∷ 1 ∷ 3 ∷ []))) }
+    ensures the_last_two_are_one { IsFalse (meets path (axioms.Different (1 ∷ 0 ∷ 3 ∷ []))) }
     ensures none_differs_from_itself { IsFalse (meets path (axioms.Different (1 ∷ 1 ∷ []))) }
     ensures the_individual_is_outside { IsTrue (refutes_at path (is_in (name 2) 1) 1) }
     ensures another_element_does_not_count { IsFalse (refutes_at path (is_in (name 2) 2) 1) }

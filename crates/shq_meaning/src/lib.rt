@@ -12,5 +12,7 @@ mod examples;
 mod laws;
 
 pub use examples::examples_hold;
-pub use laws::{counter_models_refute, entailment_is_monotone};
+pub use laws::{
+    assertions_follow, counter_models_refute, empty_classes_have_no_member, entailment_is_monotone,
+};
 pub use shq_terms::{Axiom, Concept, NoMemory, Node, NumberList};

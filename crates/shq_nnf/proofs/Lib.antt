@@ -10,5 +10,6 @@ pub mod Truth
 pub mod Pairs
 pub mod Meeting
 pub mod Facts
+pub mod Elsewhere
 pub use Rattle.shq_meaning.proofs.Implied
 pub use Rattle.shq_meaning.proofs.Bools

@@ -3,13 +3,15 @@ use Rattle.std.specs.Prelude.{◌≡◌, ℕ, ◌<◌, not, true, false, List, l
 use Rattle.std.specs.List.{list_all}
 use Rattle.shq_meaning.specs.Concept.{Concept}
 use Rattle.shq_meaning.specs.Axiom.{Axiom}
+use Rattle.shq_meaning.specs.Query.{Query}
+use Rattle.shq_meaning.specs.On.TheVariants.{Any}
 use Rattle.calculus_specs.specs.Normal.{normal_form, negated_form}
 use Rattle.calculus_specs.specs.Shape.{Shape, IsTable}
 use Rattle.calculus_specs.specs.Tree.{tree_of}
-use Rattle.shq_meaning.specs.Truth.{Interpretation, holds, meets}
+use Rattle.shq_meaning.specs.Truth.{Interpretation, holds, meets, refutes_at}
 use Rattle.shq_nnf.specs.Parts.{axiom_parts}
 use Rattle.shq_nnf.specs.Facts.{facts_of}
-use Rattle.shq_nnf.specs.Meeting.{meets_parts, is_true, is_role_axiom, is_assertion}
+use Rattle.shq_nnf.specs.Meeting.{meets_parts, is_true, is_role_axiom, is_assertion, placed_elsewhere}
 
 -- in each finite interpretation, at each element, the normal form of a class expression has its truth, and the normal
 -- form of its complement the opposite truth
@@ -25,6 +27,14 @@ AxiomsAreTheirParts = (i : Interpretation) (a : Axiom) → is_role_axiom a ≡ f
 abbrev pub AssertionsAreTheirFacts : Type 0
 AssertionsAreTheirFacts = (i : Interpretation) (a : Axiom) → is_assertion a ≡ true
     → meets i a ≡ list_all (is_true i i.individual) (facts_of a)
+
+-- Whichever numbers the individuals are, what asserts nothing of them is met all the same, and a query on any has the
+-- same counter-elements. So where nothing is asserted of individuals, a model that was a counter-model before there were
+-- any is one still.
+abbrev pub IndividualsBearOnAssertionsAlone : Type 0
+IndividualsBearOnAssertionsAlone = (i : Interpretation) (place : ℕ → ℕ)
+    → ((a : Axiom) → is_assertion a ≡ false → meets (placed_elsewhere i place) a ≡ meets i a)
+    × ((q : Query) (x : ℕ) → q.on ≡ Any → refutes_at (placed_elsewhere i place) q x ≡ refutes_at i q x)
 
 -- what a number of a table stands for is its own normal form
 abbrev pub NumbersAreNormal : Type 0

@@ -59,3 +59,7 @@ is_assertion (Member c a) = true
 is_assertion (Pair r a b) = true
 is_assertion (SameAll as_) = true
 is_assertion (Different as_) = true
+
+-- the interpretation, but for its individuals, which are other numbers
+abbrev pub placed_elsewhere : Interpretation → (ℕ → ℕ) → Interpretation
+placed_elsewhere i place = record i { individual = place }

@@ -26,7 +26,8 @@ mod shapes;
 
 pub use concepts::Concepts;
 pub use laws::{
-    assertions_are_their_facts, axioms_are_their_parts, normal_forms_keep_truth, numbers_are_normal,
+    assertions_are_their_facts, axioms_are_their_parts, individuals_bear_on_assertions_alone,
+    normal_forms_keep_truth, numbers_are_normal,
 };
 pub use parts::{Part, part_count};
 pub use shapes::{OwnedShape, Shape};

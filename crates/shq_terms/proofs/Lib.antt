@@ -1,3 +1,4 @@
+mod Parts
 pub mod Position
 pub mod Cut
 pub mod Uses

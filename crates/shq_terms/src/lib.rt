@@ -12,6 +12,7 @@
 mod add_fault;
 mod axioms;
 mod concept;
+mod equality;
 mod lists;
 mod name_list;
 mod ontology;
