@@ -1,11 +1,11 @@
 -- The evidence of tests, as it is kept.
-use Rattle.std.specs.Prelude.{◌≡◌, ℕ, ◌<◌, List, [], ◌∷◌, ◌++◌, length, Contains, vec_len}
+use Rattle.std.specs.Prelude.{◌≡◌, ℕ, ◌<◌, List, [], ◌∷◌, ◌++◌, Contains, vec_len}
 use Rattle.std.specs.Vec.{vec_capacity}
 use Rattle.axiom_sets.specs.Sets.{Limited, member_list}
 use Rattle.shq_terms.specs.Listed.{Listed}
 use Rattle.shq_terms.specs.declared.axioms.Query.{Query as Asked}
 use Rattle.calculus_specs.specs.Valid.{IsRefutation}
-use Rattle.refutation_truth.specs.Theory.{question_of}
+use Rattle.refutation_truth.specs.Theory.{question_in}
 use Rattle.refutation_tree.specs.RefutationLists.{RefutationLists}
 use Rattle.refutation_tree.specs.ReadBack.{IsWritable}
 use Rattle.run_log.specs.declared.entry.Entry.{Entry}
@@ -22,7 +22,7 @@ use Rattle.audit_jobs.specs.declared.evidence.Evidence.{Evidence}
 
 -- a refutation of the query over just the axioms that it names, which can be written
 pub record IsRefuted (o : Listed) (q : Asked) (r : RefutationLists) : Type 0 where
-  pub refutes : IsRefutation (question_of (length o.individuals) o.axioms (member_list r.axioms) q) r.shapes r.lines
+  pub refutes : IsRefutation (question_in o (member_list r.axioms) q) r.shapes r.lines
   pub writable : IsWritable o r
 
 -- an interpretation of the axioms of its set that refutes the query, which can be written

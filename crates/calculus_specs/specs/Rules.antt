@@ -130,12 +130,13 @@ differ_children k y z =
 abbrev pub nothing_known : Known
 nothing_known = record { nodes = []; facts = [] }
 
+-- node x is in `sub` and not in `sup`
+abbrev pub asked_facts : ℕ → Concept → Concept → List (Fact Concept)
+asked_facts x sub sup = Has x (normal_form sub) ∷ Has x (negated_form sup) ∷ []
+
 -- the first nodes, of which the one in question is in `sub` and not in `sup`
 abbrev pub started : Question → Known
-started q = record {
-  nodes = range_with_len 0 q.first;
-  facts = Has q.at (normal_form q.sub) ∷ Has q.at (negated_form q.sup) ∷ [];
-}
+started q = record { nodes = range_with_len 0 q.first; facts = asked_facts q.at q.sub q.sup }
 
 -- by the nodes that are known: nothing stands before `start`, and the node in question has to be a first one
 abbrev pub start_children : Question → List ℕ → Option (List Known)

@@ -1,19 +1,19 @@
 -- When a refutation is valid over a set of axioms, and where it breaks the rules.
-use Rattle.std.specs.Prelude.{ℕ, zero, suc, length}
+use Rattle.std.specs.Prelude.{ℕ, zero, suc}
 use Rattle.lane_sieve.specs.Sets.{IsPart}
 use Rattle.axiom_sets.specs.Sets.{Limited, member_list}
 use Rattle.shq_terms.specs.Listed.{Listed}
 use Rattle.shq_terms.specs.declared.axioms.Query.{Query}
 use Rattle.calculus_specs.specs.Rules.{Question}
 use Rattle.calculus_specs.specs.Valid.{concept_at, IsBrokenAt, IsRefutation}
-use Rattle.refutation_rules.specs.Theory.{question_of}
+use Rattle.refutation_rules.specs.Theory.{question_in}
 use Rattle.refutation_tree.specs.RefutationLists.{RefutationLists}
 use Rattle.refutation_check.specs.declared.checking.Verdict.{Verdict}
 use Rattle.refutation_check.specs.declared.checking.Verdict.TheVariants.{Accepted, Rejected}
 
 -- what the refutation is of: the query, over the individuals of the ontology and the axioms that it names
 abbrev pub named_question : Listed → Query → RefutationLists → Question
-named_question o query r = question_of (length o.individuals) o.axioms (member_list r.axioms) query
+named_question o query r = question_in o (member_list r.axioms) query
 
 -- the axioms that the refutation names are in the set, and its lines refute the query over these
 pub record IsValid (o : Listed) (set : Limited) (query : Query) (r : RefutationLists) : Type 0 where

@@ -8,7 +8,7 @@ use Rattle.shq_terms.specs.Concept.{Concept}
 use Rattle.calculus_specs.specs.declared.facts.Fact.{Fact}
 use Rattle.calculus_specs.specs.declared.facts.Fact.TheVariants.{Apart, Same}
 use Rattle.shq_nnf.specs.Facts.{same_facts, apart_facts}
-use Rattle.refutation_rules.specs.Assertions.{nth_fact}
+use Rattle.shq_nnf.specs.Facts.{nth_fact}
 
 -- places count from 1
 pub first_place : (fs : List (Fact Concept)) (place : ℕ) → 0 < place → slice_get fs (place - 1) ≡ nth_fact fs place

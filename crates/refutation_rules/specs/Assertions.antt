@@ -1,5 +1,5 @@
 -- The facts of assertions, by their places and over concepts by number.
-use Rattle.std.specs.Prelude.{◌≡◌, ℕ, ◌-◌, ◌==◌, nat_lt, Bool, true, IsTrue, List, length, slice_get, Option, Some, None, if◌then◌else◌}
+use Rattle.std.specs.Prelude.{◌≡◌, ℕ, nat_lt, Bool, true, IsTrue, List, length, Option, Some, None}
 use denote.Ref.{Bor}
 use Rattle.shq_terms.specs.Concept.{Concept}
 use Rattle.calculus_specs.specs.Normal.{normal_form}
@@ -25,10 +25,6 @@ HasCountsWithin (Same x y) = Unit {0}
 -- whether the nodes of the fact are among the first ones
 abbrev pub is_of_first : ℕ → Fact (Bor Concept) → Bool
 is_of_first count f = nodes_pass (λ x. nat_lt x count) (read_fact form_behind f)
-
--- the fact at a place of a list, from 1
-abbrev pub nth_fact : List (Fact Concept) → ℕ → Option (Fact Concept)
-nth_fact fs place = if place == 0 then None else slice_get fs (place - 1)
 
 abbrev pub same_pair : ℕ × ℕ → Fact Concept
 same_pair p = Same p.0 p.1

@@ -1,9 +1,9 @@
 // The facts of assertions, each by its place.
 ghost use Rattle.std.specs.Prelude.{◌≡◌, IsTrue, IfSome, option_map};
 ghost use Rattle.shq_nnf.specs.Parts.{axiom_has_counts_within};
-ghost use Rattle.shq_nnf.specs.Facts.{fact_at, same_facts, apart_facts};
+ghost use Rattle.shq_nnf.specs.Facts.{nth_fact, fact_at, same_facts, apart_facts};
 ghost use Rattle.calculus_specs.specs.Reading.{read_fact};
-ghost use Rattle.refutation_rules.specs.Assertions.{form_behind, HasCountsWithin, nth_fact, same_pair, apart_pair};
+ghost use Rattle.refutation_rules.specs.Assertions.{form_behind, HasCountsWithin, same_pair, apart_pair};
 
 use calculus_specs::Fact;
 use shq_terms::{Axiom, Concept};

@@ -6,6 +6,7 @@ use Rattle.shq_nnf.specs.Numbered.{Numbered}
 use Rattle.role_box.specs.On.{On}
 use Rattle.role_box.specs.On.TheVariants.{Any, Individual}
 use Rattle.role_box.specs.Query.{Query}
+use Rattle.role_box.specs.Listed.{Listed}
 use Rattle.calculus_specs.specs.Rows.{Part, NumberedPart, Theory, is_among}
 use Rattle.calculus_specs.specs.declared.facts.Fact.{Fact}
 use Rattle.calculus_specs.specs.declared.facts.Fact.TheVariants.{Has, Edge, Apart, Same}
@@ -80,8 +81,9 @@ abbrev pub fact_in : Option Numbered → ℕ → Option (Fact Concept)
 fact_in None place = None
 fact_in (Some n) place = fact_at n.axiom place
 
--- The fact of the axiom of a number that has a place, where the axiom is among those of the numbers and names the first
--- k individuals alone. Any other node may be that of a new element, of which the axiom says nothing.
+-- The fact of the axiom of a number that has a place, where the axiom is among those of the numbers and the fact is of the
+-- first k individuals alone: any other node may be that of a new element, of which the axiom says nothing. Here k is any
+-- number; the axioms of an ontology name its individuals alone, so that each fact of theirs is one.
 abbrev pub fact_of_axiom : ℕ → List Numbered → List ℕ → ℕ → ℕ → Option (Fact Concept)
 fact_of_axiom k axioms ks a place =
     if is_among ks a then listed_fact k (fact_in (slice_get axioms (a - 1)) place) else None
@@ -102,3 +104,7 @@ question_of k axioms ks q = record {
   at = node_in_question k q.on;
   fact_of = fact_of_axiom k axioms ks;
 }
+
+-- the same of the axioms and the individuals of an ontology
+abbrev pub question_in : Listed → List ℕ → Query → Question
+question_in o ks q = question_of (length o.individuals) o.axioms ks q

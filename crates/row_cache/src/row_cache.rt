@@ -1,5 +1,5 @@
 // A table of concepts with the rows that were made of its numbers.
-ghost use Rattle.std.specs.Prelude.{◌≡◌, ◌<◌, IsTrue, IfOk, OnOk, Some, length};
+ghost use Rattle.std.specs.Prelude.{◌≡◌, ◌<◌, IsTrue, IfOk, OnOk, OnErr, Some, length};
 ghost use Rattle.calculus_specs.specs.Normal.{normal_form, negated_form};
 ghost use Rattle.calculus_specs.specs.Shape.{IsTable, has_parts_below, is_normal};
 ghost use Rattle.calculus_specs.specs.Tree.{tree_of};
@@ -78,7 +78,8 @@ impl<'a> RowCache<'a> {
         &self.concepts
     }
 
-    /// The axiom of a number, from 1, whose cardinalities are at most 100. `None` where it is not named.
+    /// The named axiom of a number, from 1; its cardinalities are at most 100. `None` where no axiom of that number is
+    /// named.
     pub fn named_axiom(&self, number: u32) -> Option<&'a Numbered>
         ensures { IsNamedAxiom self.now.axioms self.now.named number result }
     {
@@ -93,13 +94,14 @@ impl<'a> RowCache<'a> {
     ///
     /// # Errors
     ///
-    /// Out of memory.
+    /// Out of memory. The table is as it was.
     pub fn intern(&mut self, concept: &Concept) -> Result<u32, NoMemory>
         requires { IsTrue (has_counts_within 100 concept.now) }
         ensures number { IfOk result (λ n. IsNumber self.new.table n (normal_form concept.now)) }
         ensures kept { Extends self.old.table self.new.table }
         ensures axioms { HasSameAxioms self.old self.new }
         ensures rows { KeepsEntries self.old self.new }
+        ensures unchanged { OnErr result (self.new.table ≡ self.old.table) }
     {
         self.concepts.intern(concept)
     }

@@ -4,13 +4,11 @@ use Rattle.std.specs.List.{list_any, list_all, range_with_len}
 use Rattle.std.specs.FinSet as sets
 use Rattle.calculus_specs.specs.Concept.{Concept}
 use Rattle.lane_sieve.specs.Sets.{NumberSet}
-use Rattle.calculus_specs.specs.Normal.{normal_form, negated_form}
 use Rattle.calculus_specs.specs.Rows.{Theory}
 use Rattle.calculus_specs.specs.declared.facts.Fact.{Fact}
-use Rattle.calculus_specs.specs.declared.facts.Fact.TheVariants.{Has}
 use Rattle.calculus_specs.specs.State.{fresh_facts}
 use Rattle.calculus_specs.specs.Line.{Line}
-use Rattle.calculus_specs.specs.Rules.{Known, when}
+use Rattle.calculus_specs.specs.Rules.{Known, asked_facts, when}
 use Rattle.search_trace.specs.Premises.{Added, more_facts, more_nodes, Rule, rule_of, holds, is_new, is_branching, is_single}
 
 -- a thing that rests on marks
@@ -73,7 +71,7 @@ module _ (theory : Theory) (concept : ℕ → Option Concept) where
 abbrev pub noted_start : Concept → Concept → Noted
 noted_start sub sup = record {
   nodes = marked sets.empty 0 ∷ [];
-  facts = marked sets.empty (Has 0 (normal_form sub)) ∷ marked sets.empty (Has 0 (negated_form sup)) ∷ [];
+  facts = map (marked sets.empty) (asked_facts 0 sub sup);
 }
 
 -- ---- taking out what rests on a mark

@@ -1,4 +1,6 @@
--- The facts that an assertion gives, in order. The individual of a number is the node of that number.
+-- The facts that an assertion gives (OWL 2 Structural Specification, section 9.6: `ClassAssertion`,
+-- `ObjectPropertyAssertion`, `SameIndividual`, `DifferentIndividuals`), in order. The individual of a number is the node
+-- of that number.
 use Rattle.std.specs.Prelude.{ℕ, ◌-◌, ◌==◌, List, [], ◌∷◌, ◌++◌, map, slice_get, Option, None, if◌then◌else◌}
 use Rattle.shq_meaning.specs.Concept.{Concept}
 use Rattle.shq_meaning.specs.Axiom.{Axiom}
@@ -35,6 +37,10 @@ facts_of (Pair r a b) = Edge r a b ∷ []
 facts_of (SameAll as_) = same_facts as_
 facts_of (Different as_) = apart_facts as_
 
--- the fact at a place, from 1; none stands at the place 0
+-- the fact at a place of a list, from 1; none stands at the place 0
+abbrev pub nth_fact : List (Fact Concept) → ℕ → Option (Fact Concept)
+nth_fact fs place = if place == 0 then None else slice_get fs (place - 1)
+
+-- the fact of an axiom at a place
 abbrev pub fact_at : Axiom → ℕ → Option (Fact Concept)
-fact_at a place = if place == 0 then None else slice_get (facts_of a) (place - 1)
+fact_at a place = nth_fact (facts_of a) place

@@ -1,11 +1,11 @@
 -- What the answer to a question is, and what the log says of it.
-use Rattle.std.specs.Prelude.{◌≡◌, ℕ, ◌≤◌, ◌<◌, Bool, true, false, IsTrue, List, [], ◌∷◌, ◌++◌, length, IfSome}
+use Rattle.std.specs.Prelude.{◌≡◌, ℕ, ◌≤◌, ◌<◌, Bool, true, false, IsTrue, List, [], ◌∷◌, ◌++◌, IfSome}
 use Rattle.lane_sieve.specs.Sets.{IsPart}
 use Rattle.axiom_sets.specs.Sets.{Limited, member_list}
 use Rattle.shq_terms.specs.Listed.{Listed}
 use Rattle.shq_terms.specs.declared.axioms.Query.{Query}
 use Rattle.calculus_specs.specs.Valid.{IsRefutation}
-use Rattle.run_log.specs.Theory.{question_of}
+use Rattle.run_log.specs.Theory.{question_in}
 use Rattle.tableau.specs.Named.{NamesAxioms}
 use Rattle.tableau.specs.RefutationLists.{RefutationLists}
 use Rattle.tableau.specs.ReadBack.{IsWritable}
@@ -39,7 +39,7 @@ use Rattle.shq_oracle.specs.ApartLists.{ApartLists, AreApart, IsAbout, entry_of}
 pub record IsProof (o : Listed) (s : Limited) (q : Query) (r : RefutationLists) : Type 0 where
   pub named : IsPart r.axioms.members s.members
   pub standing : NamesAxioms o.axioms s r.lines r.axioms
-  pub refutes : IsRefutation (question_of (length o.individuals) o.axioms (member_list r.axioms) q) r.shapes r.lines
+  pub refutes : IsRefutation (question_in o (member_list r.axioms) q) r.shapes r.lines
   pub writable : IsWritable o r
 
 -- a counter-model of the set and the query, which can be written

@@ -1,7 +1,7 @@
 use Rattle.std.proofs.Common.{◌≡◌, drop}
 use Rattle.std.specs.Prelude.{slice_get}
 use Rattle.shq_nnf.specs.Facts.{apart_facts}
-use Rattle.refutation_rules.specs.Assertions.{nth_fact}
+use Rattle.shq_nnf.specs.Facts.{nth_fact}
 use Rattle.refutation_rules.proofs.assertions.pair_at.Given as goal
 
 -- the pair is at this place among those of the individuals from here on
