@@ -81,9 +81,9 @@ abbrev pub fact_in : Option Numbered → ℕ → Option (Fact Concept)
 fact_in None place = None
 fact_in (Some n) place = fact_at n.axiom place
 
--- The fact of the axiom of a number that has a place, where the axiom is among those of the numbers and the fact is of the
--- first k individuals alone: any other node may be that of a new element, of which the axiom says nothing. Here k is any
--- number; the axioms of an ontology name its individuals alone, so that each fact of theirs is one.
+-- The fact of the axiom of a number that has a place, where the axiom is among those of the numbers and the fact is of
+-- the first k individuals alone: any other node may be that of a new element, of which the axiom says nothing. Here k
+-- is any number; the axioms of an ontology name its individuals alone, so that each fact of theirs is one.
 abbrev pub fact_of_axiom : ℕ → List Numbered → List ℕ → ℕ → ℕ → Option (Fact Concept)
 fact_of_axiom k axioms ks a place =
     if is_among ks a then listed_fact k (fact_in (slice_get axioms (a - 1)) place) else None

@@ -17,7 +17,8 @@ abbrev pub CounterModelsRefute : Type 0
 CounterModelsRefute =
     (i : Interpretation) (as_ : List Axiom) (q : Query) (x : ℕ) → 1 ≤ i.size → PlacesIndividuals i → IsTrue (meets_all i as_) → x < i.size → IsTrue (refutes_at i q x) → Entails as_ q → ⊥
 
--- an individual of a class that has no element leaves no model, since each individual is an element: every query follows
+-- an individual of a class that has no element leaves no model, since each individual is an element: every query
+-- follows
 abbrev pub EmptyClassesHaveNoMember : Type 0
 EmptyClassesHaveNoMember = (c : Concept) (a : ℕ) (q : Query) → Entails (Member c a ∷ SubClassOf c bottom ∷ []) q
 

@@ -1,6 +1,6 @@
 -- The facts that an assertion gives (OWL 2 Structural Specification, section 9.6: `ClassAssertion`,
--- `ObjectPropertyAssertion`, `SameIndividual`, `DifferentIndividuals`), in order. The individual of a number is the node
--- of that number.
+-- `ObjectPropertyAssertion`, `SameIndividual`, `DifferentIndividuals`), in order. The individual of a number is the
+-- node of that number.
 use Rattle.std.specs.Prelude.{ℕ, ◌-◌, ◌==◌, List, [], ◌∷◌, ◌++◌, map, slice_get, Option, None, if◌then◌else◌}
 use Rattle.shq_meaning.specs.Concept.{Concept}
 use Rattle.shq_meaning.specs.Axiom.{Axiom}

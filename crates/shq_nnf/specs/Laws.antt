@@ -29,8 +29,8 @@ AssertionsAreTheirFacts = (i : Interpretation) (a : Axiom) → is_assertion a �
     → meets i a ≡ list_all (is_true i i.individual) (facts_of a)
 
 -- Whichever numbers the individuals are, what asserts nothing of them is met all the same, and a query on any has the
--- same counter-elements. So where nothing is asserted of individuals, a model that was a counter-model before there were
--- any is one still.
+-- same counter-elements. So where nothing is asserted of individuals, a model that was a counter-model before there
+-- were any is one still.
 abbrev pub IndividualsBearOnAssertionsAlone : Type 0
 IndividualsBearOnAssertionsAlone = (i : Interpretation) (place : ℕ → ℕ)
     → ((a : Axiom) → is_assertion a ≡ false → meets (placed_elsewhere i place) a ≡ meets i a)

@@ -20,9 +20,9 @@ pub fn assertions_are_their_facts()
     ensures { AssertionsAreTheirFacts }
 {}
 
-/// Which elements the individuals are decides of assertions alone: any other axiom is met all the same, and a query that
-/// speaks of each element is refuted at the same ones. So a counter-model from before there were individuals still is
-/// one.
+/// Which elements the individuals are decides of assertions alone: any other axiom is met all the same, and a query
+/// that speaks of each element is refuted at the same ones. So a counter-model from before there were individuals still
+/// is one.
 pub fn individuals_bear_on_assertions_alone()
     ensures { IndividualsBearOnAssertionsAlone }
 {}
