@@ -75,7 +75,7 @@ impl On {
             (On::Any, On::Any) => true,
             (On::Individual(individual), On::Individual(other_individual)) => {
                 individual == other_individual
-            },
+            }
             (On::Any, On::Individual(_)) | (On::Individual(_), On::Any) => false,
         }
     }
