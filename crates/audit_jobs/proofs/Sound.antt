@@ -37,7 +37,7 @@ use Rattle.audit_check.proofs.Hits.{told_by_hits, smallest_hits_alone}
 use Rattle.pinpointing_jobs.specs.Searched.{IsLeaf}
 use Rattle.pinpointing_jobs.specs.Wanted.{IsRepairSet}
 use Rattle.pinpointing_jobs.specs.Written.{AreFoundRepairs}
-use Rattle.pinpointing_jobs.proofs.Repairs.{alone_is_repair, from_repair}
+use Rattle.pinpointing_jobs.proofs.RepairSets.{alone_is_repair, from_repair}
 use Rattle.audit_jobs.specs.declared.evidence.CounterModel.{CounterModel}
 use Rattle.audit_jobs.specs.declared.evidence.Evidence.{Evidence}
 use Rattle.audit_jobs.specs.Kept.{IsModelled}

@@ -36,7 +36,7 @@ use Rattle.pinpointing_jobs.specs.Listings.{end_status}
 use Rattle.pinpointing_jobs.specs.Counts.{counts_text, IsCount, AreCounted}
 use Rattle.pinpointing_jobs.specs.WorkloadSets.{HasOneOf, HasOneOfEach, OfWorkloads, one_of_each, three_pairs, sets_of, HasEightAndThree, WorkloadsCountEightAndThree}
 use Rattle.pinpointing_jobs.proofs.Asked.{workload_question}
-use Rattle.pinpointing_jobs.proofs.Repairs.{to_justification, from_justification, to_repair, from_repair}
+use Rattle.pinpointing_jobs.proofs.RepairSets.{to_justification, from_justification, to_repair, from_repair}
 use Rattle.pinpointing_jobs.proofs.Searched.{whole_part}
 use Rattle.pinpointing_jobs.proofs.Unique.{same_lists}
 use Rattle.pinpointing_jobs.proofs.WorkloadSets.{by_pairs}

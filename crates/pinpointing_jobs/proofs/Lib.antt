@@ -5,7 +5,7 @@ pub mod EightAndThree
 pub mod Lengths
 pub mod Unique
 pub mod Whole
-pub mod Repairs
+pub mod RepairSets
 pub mod Listed
 mod Union
 pub use Rattle.query_asker.proofs.Tested

@@ -25,7 +25,7 @@ use Rattle.pinpointing_jobs.specs.Begun.{HasSearched}
 use Rattle.pinpointing_jobs.specs.Known.{AreKnown}
 use Rattle.pinpointing_jobs.specs.Searched.{IsSearched}
 use Rattle.pinpointing_jobs.specs.Written.{AreOfAxioms, AreFoundRepairs, AreFound, IsWritten, IsCountOf, IsToldCount}
-use Rattle.pinpointing_jobs.proofs.Repairs.{from_justification, from_repair, alone_is_repair, has_repairs, holds}
+use Rattle.pinpointing_jobs.proofs.RepairSets.{from_justification, from_repair, alone_is_repair, has_repairs, holds}
 
 pub found_limits : (o : Listed) (f : Found) (sets : List Limited) → AreOfAxioms o f → AreFoundRepairs f sets → All (λ (s : Limited). s.limit ≡ length o.axioms) sets
 found_limits o f sets are found k d lt = are.leaves (get_or sets k d) ((found.repairs (get_or sets k d)).0 (Contains-get_or sets k d lt)).0

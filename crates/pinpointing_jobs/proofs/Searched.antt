@@ -37,7 +37,7 @@ use Rattle.query_asker.proofs.Answering.{yes_by_log, no_by_log}
 use Rattle.pinpointing_jobs.specs.Begun.{HasSearched}
 use Rattle.pinpointing_jobs.specs.Known.{IsShownJustification, HasAllShown, LeavesSomeOpen}
 use Rattle.pinpointing_jobs.specs.Searched.{IsLeaf, IsSearched}
-use Rattle.pinpointing_jobs.proofs.Repairs.{to_justification}
+use Rattle.pinpointing_jobs.proofs.RepairSets.{to_justification}
 
 -- ---- counts
 
