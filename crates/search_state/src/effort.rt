@@ -4,8 +4,8 @@ use search_trace::Trace;
 use step_agenda::BlockEffort;
 
 /// How often a search looked for a step at a fact and in its whole state, how often it went back, how many choices and
-/// lines of its trace it lost by that, and how many blocks of nodes it found. No contract speaks of these counts, and no
-/// answer rests on them: they tell whether a next step is looked for in the right place, and blocks not too often.
+/// lines of its trace it lost by that, and how many blocks of nodes it found. No contract speaks of these counts, and
+/// no answer rests on them: they tell whether a next step is looked for in the right place, and blocks not too often.
 #[derive(Clone, Copy, Debug, PartialEq, Eq)]
 pub struct Effort {
     /// Looks at a fact for a step of one kind.

@@ -40,8 +40,8 @@ pub enum End {
     Spent,
 }
 
-/// A search whether a query follows from the axioms of a set. At the end of each call the blocks of all nodes are known,
-/// unless memory was refused.
+/// A search whether a query follows from the axioms of a set. At the end of each call the blocks of all nodes are
+/// known, unless memory was refused.
 #[derive(Drop)]
 pub struct Search<'b, A: Allocator> {
     walker: Walker<'b, A>,
