@@ -1,7 +1,8 @@
 -- What is kept of facts that speak of nodes: as many nodes as there are, and links to their representatives.
 use Rattle.std.proofs.Common.{◌≡◌, ℕ, zero, suc, ◌+◌, ◌<◌, ◌≤◌, min, max, Bool, true, false, List, [], ◌∷◌, ◌++◌, length, get_or, refl, ap, sym, subst, ◌∙◌, arith, inl, inr}
 use Rattle.std.specs.Prelude.{◌==◌, ◌&&◌, ◌||◌, nat_lt, if◌then◌else◌}
-use Rattle.std.proofs.lemmas.Bool.{cases_eq, cases_lt, eq-eqb, ne_eqb, eqb-true, lt-ltb, or_cases}
+use Rattle.std.specs.List.{list_all}
+use Rattle.std.proofs.lemmas.Bool.{and_parts, and_from, cases_eq, cases_lt, eq-eqb, ne_eqb, eqb-true, lt-ltb, or_cases}
 use Rattle.std.proofs.lemmas.Bool.Decides.{nat_tests}
 use Rattle.std.proofs.lemmas.List.{length-set, length-append}
 use Rattle.calculus_specs.specs.declared.facts.Fact.{Fact}
@@ -88,25 +89,66 @@ root_is fs k x at fit is linked beyond =
       | inr ge ↦ beyond ge ∙ sym (links.beyond x (omega (arith, ge, same, links.equal)))
     ]
 
--- a representative that is its only member
-pub alone_is : (fs : List (Fact ℕ)) (x : ℕ) → AreFit fs → x < node_count fs → length (lists_at (kept_of fs) (rep fs x)).members ≡ 1 → IsAlone fs x
-alone_is fs x fit lt one y same =
+-- ---- nodes that are alone
+
+-- the members of a representative are all that are one with it
+own_member : (fs : List (Fact ℕ)) (x y : ℕ) → AreFit fs → x < node_count fs → y < length (kept_of fs).nodes → rep fs y ≡ rep fs x → is_in y (lists_at (kept_of fs) (rep fs x)).members ≡ true
+own_member fs x y fit lt before same =
     let links = kept_linked fs fit in
     let r = rep fs x in
-    let ms = (lists_at (kept_of fs) r).members in
     let within : r < length (kept_of fs).nodes = omega (arith, lt, links.below x, count_is fs fit) in
+    links.members r y within (links.twice x) ∙ (λ i. lt-ltb y (length (kept_of fs).nodes) before i && eq-eqb (rep fs y) r same i)
+
+-- a representative that is its only member
+pub alone_is : (fs : List (Fact ℕ)) (x : ℕ) → AreFit fs → x < node_count fs → list_all (λ v. v == rep fs x) (lists_at (kept_of fs) (rep fs x)).members ≡ true → IsAlone fs x
+alone_is fs x fit lt own y same =
+    let r = rep fs x in
     elim (cases_lt y (length (kept_of fs).nodes)) [
-      | inl before ↦
-          only_one ms y r one (links.members r y within (links.twice x) ∙ (λ i. lt-ltb y (length (kept_of fs).nodes) before i && eq-eqb (rep fs y) r same i)) ∙ links.heads r 0 within
-      | inr behind ↦ sym (links.beyond y behind) ∙ same
+      | inl before ↦ only_one (lists_at (kept_of fs) r).members y r own (own_member fs x y fit lt before same)
+      | inr behind ↦ sym ((kept_linked fs fit).beyond y behind) ∙ same
     ]
   where
-    only_one : (ms : List ℕ) (y r : ℕ) → length ms ≡ 1 → is_in y ms ≡ true → y ≡ get_or ms 0 0
-    only_one [] y r one there = cc
-    only_one (v ∷ w ∷ ms) y r one there = absurd (omega (arith, one))
-    only_one (v ∷ []) y r one there = elim (or_cases (v == y) false there) [
-      | inl e ↦ sym (eqb-true v y e)
-      | inr e ↦ cc
+    only_one : (ms : List ℕ) (y r : ℕ) → list_all (λ v. v == r) ms ≡ true → is_in y ms ≡ true → y ≡ r
+    only_one [] y r own there = cc
+    only_one (v ∷ ms) y r own there =
+        let parts = and_parts (v == r) (list_all (λ u. u == r) ms) own in
+        elim (or_cases (v == y) (is_in y ms) there) [
+          | inl e ↦ sym (eqb-true v y e) ∙ eqb-true v r parts.0
+          | inr more ↦ only_one ms y r parts.1 more
+        ]
+
+-- and the other way round
+pub alone_has_no_other : (fs : List (Fact ℕ)) (x : ℕ) → AreFit fs → x < node_count fs → IsAlone fs x → list_all (λ v. v == rep fs x) (lists_at (kept_of fs) (rep fs x)).members ≡ true
+alone_has_no_other fs x fit lt alone = each (lists_at (kept_of fs) (rep fs x)).members (λ y there. alone y (one_with y there))
+  where
+    r : ℕ
+    r = rep fs x
+
+    one_with : (y : ℕ) → is_in y (lists_at (kept_of fs) r).members ≡ true → rep fs y ≡ r
+    one_with y there =
+        let links = kept_linked fs fit in
+        let within : r < length (kept_of fs).nodes = omega (arith, lt, links.below x, count_is fs fit) in
+        let parts = and_parts (nat_lt y (length (kept_of fs).nodes)) (rep fs y == r) (sym (links.members r y within (links.twice x)) ∙ there) in
+        eqb-true (rep fs y) r parts.1
+
+    each : (ms : List ℕ) → ((y : ℕ) → is_in y ms ≡ true → y ≡ r) → list_all (λ v. v == r) ms ≡ true
+    each [] h = refl
+    each (v ∷ ms) h =
+        and_from (v == r) (list_all (λ u. u == r) ms) (eq-eqb v r (h v (ap (λ (b : Bool). b || is_in v ms) (eq-eqb v v refl))))
+        (each ms (λ y there. h y (by_rest (v == y) (is_in y ms) there)))
+      where
+        by_rest : (a b : Bool) → b ≡ true → (a || b) ≡ true
+        by_rest true b there = refl
+        by_rest false b there = there
+
+-- a number that is no node's is its own representative, and no other's
+pub beyond_is_alone : (fs : List (Fact ℕ)) (x : ℕ) → AreFit fs → node_count fs ≤ x → IsAlone fs x
+beyond_is_alone fs x fit ge y same =
+    let links = kept_linked fs fit in
+    let own : rep fs x ≡ x = links.beyond x (omega (arith, ge, count_is fs fit)) in
+    elim (cases_lt y (length (kept_of fs).nodes)) [
+      | inl before ↦ absurd (omega (arith, ge, count_is fs fit, before, links.below y, same, own))
+      | inr behind ↦ sym (links.beyond y behind) ∙ same
     ]
 
 -- ---- the nodes of a fact

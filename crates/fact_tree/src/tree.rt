@@ -1,5 +1,6 @@
 // Facts, and what they say.
 ghost use Rattle.std.specs.Prelude.{◌≡◌, ℕ, ◌==◌, true, false, get_or, ◌+◌, ◌-◌, ◌<◌, ◌≤◌, ◌^◌, [], ◌∷◌, ◌++◌, OnOk, OnErr, IfOk, length, take, slice_get, Some, IsNone, IfSome};
+ghost use Rattle.std.specs.List.{list_all};
 ghost use Rattle.calculus_specs.specs.Joins.{rep};
 ghost use Rattle.calculus_specs.specs.State.{node_count, has, are_apart, gives_concept, gives_edge, gives_apart, parent as parent_of, new_nodes, apart_from, pairwise_apart, fresh_facts, HasParentsBefore};
 ghost use Rattle.calculus_specs.specs.declared.facts.Fact.TheVariants.{Has, Edge};
@@ -185,15 +186,17 @@ impl<A: Allocator + Copy> FactTree<A> {
         is_met
     }
 
-    /// Whether no other node is one with a node's representative. It may not tell.
+    /// Whether no other node is one with a node's representative.
     pub fn is_alone(&self, node: u32) -> bool
-        ensures { result ≡ true → IsAlone self.now node }
+        ensures alone { result ≡ true → IsAlone self.now node }
+        ensures joined { result ≡ false → ¬ IsAlone self.now node }
     {
         let _ = &self.entries;
         if node >= self.nodes() {
-            return false;
+            return true;
         }
-        self.store.node(self.store.root(node)).members().len() == 1
+        let root = self.store.root(node);
+        has_no_other(self.store.node(root).members(), root)
     }
 
     /// The place of a fact that alone says what is asked; none where there is none. That two nodes are one is said by
@@ -519,6 +522,13 @@ fn are_one<A: Allocator + Copy>(facts: &FactTree<A>, first: u32, second: u32) ->
     ensures { result ≡ (rep facts.now first == rep facts.now second) }
 {
     facts.representative(first) == facts.representative(second)
+}
+
+// Whether a list has no other node than this one.
+fn has_no_other(nodes: &[u32], node: u32) -> bool
+    ensures { result ≡ list_all (λ x. x == node) nodes.now }
+{
+    nodes.iter().all(|other| *other == node)
 }
 
 // Keeps one entry more.
