@@ -5,6 +5,8 @@
 #[cfg(test)]
 mod branch_tests;
 #[cfg(test)]
+mod individual_tests;
+#[cfg(test)]
 mod normal_form_tests;
 #[cfg(test)]
 mod role_tests;

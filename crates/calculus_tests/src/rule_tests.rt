@@ -10,7 +10,7 @@ ghost use Rattle.refutation_rules.specs.Outcomes.{IsBranch};
 use crate::small_axioms::{add_classes, class};
 use branch_facts::BranchFacts;
 use calculus_specs::Fact;
-use refutation_rules::{NewNodes, NoMemory, Outcome, Rules};
+use refutation_rules::{FirstNodes, NewNodes, NoMemory, Outcome, Rules};
 use refutation_tree::{CertFault, Line, Refutation, read_text};
 use shq_terms::{AddFault, Axiom, Concept, Node, On, Ontology, Query};
 use std::alloc::Global;
@@ -136,8 +136,8 @@ fn learn(branch: &mut BranchFacts, len: u32, fact: Fact<u32>) -> Result<(), NoMe
     branch.add(fact)
 }
 
-// Knows one node more, if it is new.
-fn know(branch: &mut BranchFacts, len: u32, node: u32) -> Result<(), NoMemory>
+/// Knows one node more, if it is new.
+pub(crate) fn know(branch: &mut BranchFacts, len: u32, node: u32) -> Result<(), NoMemory>
     requires { IsBranch len branch.old }
     ensures { OnOk result (IsBranch len branch.new) }
 {
@@ -147,8 +147,12 @@ fn know(branch: &mut BranchFacts, len: u32, node: u32) -> Result<(), NoMemory>
     branch.add_node(node)
 }
 
-// Knows several facts more.
-fn learn_all(branch: &mut BranchFacts, len: u32, facts: &[Fact<u32>]) -> Result<(), NoMemory>
+/// Knows several facts more.
+pub(crate) fn learn_all(
+    branch: &mut BranchFacts,
+    len: u32,
+    facts: &[Fact<u32>],
+) -> Result<(), NoMemory>
     requires { IsBranch len branch.old }
     ensures { OnOk result (IsBranch len branch.new) }
 {
@@ -223,19 +227,26 @@ fn told_of_facts(alloc: Global, word: &str, facts: &[Fact<u32>]) -> Result<Strin
     Ok(format!(in alloc; "{word} {facts:?}")?)
 }
 
-fn told_of_start(alloc: Global, sub: u32, not_sup: u32) -> Result<String, NoMemory> {
-    Ok(format!(in alloc; "started {sub} {not_sup}")?)
+fn told_of_start(alloc: Global, nodes: FirstNodes) -> Result<String, NoMemory> {
+    let FirstNodes {
+        count,
+        asked,
+        sub,
+        not_sup,
+    } = nodes;
+    Ok(format!(in alloc; "{count} first, {asked} in {sub} and {not_sup}")?)
 }
 
 fn told_word(alloc: Global, word: &str) -> Result<String, NoMemory> {
     Ok(String::from_str(alloc, word)?)
 }
 
-fn told(alloc: Global, outcome: &Option<Outcome>) -> Result<String, NoMemory> {
+/// What an outcome is, as text.
+pub(crate) fn told(alloc: Global, outcome: &Option<Outcome>) -> Result<String, NoMemory> {
     match outcome {
         None => told_word(alloc, "refused"),
         Some(Outcome::Closed) => told_word(alloc, "closed"),
-        Some(Outcome::Started(sub, not_sup)) => told_of_start(alloc, *sub, *not_sup),
+        Some(Outcome::Started(nodes)) => told_of_start(alloc, *nodes),
         Some(Outcome::More(facts)) => told_of_facts(alloc, "more", facts.as_slice()),
         Some(Outcome::Nodes(nodes)) => told_of_nodes(alloc, *nodes),
         Some(Outcome::Branches(facts)) => told_of_facts(alloc, "branches", facts.as_slice()),
@@ -316,7 +327,7 @@ fn read_lines(alloc: Global, rule: &str, ontology: &Ontology) -> Result<Refutati
 type Case = (bool, &'static str, &'static str);
 
 const CASES: &[Case] = &[
-    (false, "start", "started 1 11"),
+    (false, "start", "1 first, 0 in 1 and 11"),
     (false, "bottom 0", "refused"),
     (true, "start", "refused"),
     (true, "and 0 3", "more [Has(0, 1), Has(0, 2)]"),
@@ -346,6 +357,9 @@ const CASES: &[Case] = &[
     (true, "least 0 4294967295 7", "refused"),
     (true, "most 0 8 1 2", "closed"),
     (true, "most 0 8 1 1", "refused"),
+    (true, "fact 3 1", "refused"),
+    (true, "differ 0 0", "refused"),
+    (true, "differ 1 2", "refused"),
 ];
 
 fn is_left(
