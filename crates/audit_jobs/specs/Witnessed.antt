@@ -6,7 +6,7 @@ use Rattle.pinpointing_specs.specs.LocalModule.{FollowsFrom}
 use Rattle.pinpointing_specs.specs.Order.{IsAscending}
 use Rattle.pinpointing_specs.specs.Smallest.{rest, IsExplored}
 use Rattle.set_questions.specs.InOrder.{HaveOneLimit}
-use Rattle.pinpointing_jobs.specs.Found.{Found}
+use Rattle.pinpointing_jobs.specs.TreeFound.{Found}
 use Rattle.shq_terms.specs.Listed.{Listed}
 use Rattle.shq_terms.specs.declared.axioms.Query.{Query as Asked}
 use Rattle.refutation_tree.specs.RefutationLists.{RefutationLists}
