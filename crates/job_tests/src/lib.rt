@@ -10,6 +10,8 @@ mod audit_tests;
 #[cfg(test)]
 mod budget_tests;
 #[cfg(test)]
+mod individual_tests;
+#[cfg(test)]
 mod reading;
 #[cfg(test)]
 mod relation;
