@@ -78,7 +78,7 @@ fn put(ontology: &mut Ontology, axiom: Axiom) -> Result<(), AddFault>
 }
 
 /// Tells whether an ontology of such axioms is within the limits, and lists a class and no individual.
-#[tactic(auto, using(crate::proofs::Limits::in_limit, crate::proofs::Limits::without_individuals))]
+#[tactic(auto, using(crate::proofs::Limits::in_limit))]
 fn check(alloc: Global, ontology: &Ontology) -> Result<(), AddFault>
     requires { AreSmall ontology.now.axioms }
     ensures in_limit { OnOk result (IsInLimit ontology.now asked) }
