@@ -60,12 +60,15 @@ class Taxonomy:
 
 @dataclass
 class Model:
-    """A finite world: its verdict, how many things there are, the members of each class and the pairs of each role."""
+    """A finite world: its verdict, how many things there are, the members of each class, the pairs of each role, and
+    which thing each individual is.
+    """
 
     verdict: str
     size: int
     classes: dict
     roles: dict
+    individuals: dict = field(default_factory=dict)
 
 
 @dataclass
@@ -159,16 +162,18 @@ def model(lines):
     if lines[-1] != "end":
         raise Unread("the model is not whole")
     size = number_of(lines[1].removeprefix("model "))
-    classes, roles = {}, {}
+    classes, roles, individuals = {}, {}, {}
     for line in lines[2:-1]:
         head, name, *members = line.split(" ")
         if head == "class":
             classes[iri_of(name)] = list(map(number_of, members))
         elif head == "role":
             roles[iri_of(name)] = [tuple(map(number_of, it.split(","))) for it in members]
+        elif head == "individual":
+            (individuals[iri_of(name)],) = map(number_of, members)
         else:
             raise Unread(f"no line of a model: {line}")
-    return Model(lines[0], size, classes, roles)
+    return Model(lines[0], size, classes, roles, individuals)
 
 
 def concept(words, concepts):

@@ -66,12 +66,20 @@ def refuse_not_simple(axioms):
             raise Refused("outside", NOT_SIMPLE, axiom.line)
 
 
-def axioms_of(read):
-    """The numbered axioms of a document. Raises `Refused` where the reasoner refuses it."""
-    walk = Walk(read.prefixes, Limits())
+def ontology_of(read):
+    """The numbered axioms of a document, and its individuals in the order in which they are met. Raises `Refused`
+    where the reasoner refuses it.
+    """
+    limits = Limits()
+    walk = Walk(read.prefixes, limits)
     axioms = numbered([walk.axiom(it) for it in read.axiom_items])
     refuse_not_simple(axioms)
-    return axioms
+    return axioms, list(limits.names["individuals"])
+
+
+def axioms_of(read):
+    """The numbered axioms of a document. Raises `Refused` where the reasoner refuses it."""
+    return ontology_of(read)[0]
 
 
 def first_stray(text, place):

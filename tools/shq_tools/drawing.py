@@ -45,10 +45,10 @@ def node(name, text, style=""):
 
 def model_graph(reading):
     """A node for each thing with its classes, and an arrow for each pair of some roles."""
-    shown, lines, arrows = reading.exceptions(), [], {}
+    shown, called, lines, arrows = reading.exceptions(), reading.called(), [], {}
     for thing, classes, roles in things(reading.answer, reading.names):
         style = GREEN if thing in shown else ""
-        lines.append(node(f"thing{thing}", "\n".join([f"thing {thing}", *classes]), style))
+        lines.append(node(f"thing{thing}", "\n".join([called[thing], *classes]), style))
         for role, others in roles.items():
             for other in others:
                 arrows.setdefault((thing, other), []).append(role)

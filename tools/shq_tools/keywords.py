@@ -25,6 +25,10 @@ NUMBERED = {
     "ObjectPropertyRange": (2, 2),
     "FunctionalObjectProperty": (1, 1),
     "TransitiveObjectProperty": (1, 1),
+    "ClassAssertion": (2, 2),
+    "ObjectPropertyAssertion": (3, 3),
+    "SameIndividual": (2, MANY),
+    "DifferentIndividuals": (2, MANY),
 }
 ANNOTATIONS = {
     "Annotation",
@@ -65,10 +69,6 @@ OUTSIDE_AXIOMS = {
     "FunctionalDataProperty",
     "DatatypeDefinition",
     "HasKey",
-    "SameIndividual",
-    "DifferentIndividuals",
-    "ClassAssertion",
-    "ObjectPropertyAssertion",
     "NegativeObjectPropertyAssertion",
     "DataPropertyAssertion",
     "NegativeDataPropertyAssertion",
@@ -89,5 +89,7 @@ OUTSIDE_ROLE_NAMES = {
     OWL + "topObjectProperty": "owl:topObjectProperty",
     OWL + "bottomObjectProperty": "owl:bottomObjectProperty",
 }
+# How the reasoner names an individual without a name of its own, and how such a one begins.
+ANONYMOUS = "_:"
 # A number restriction over a role that is not simple, as the reasoner names it.
 NOT_SIMPLE = "not-simple"

@@ -10,7 +10,7 @@ BOUNDS = {"least": "min", "most": "max", "exactly": "exactly"}
 
 
 def name_text(iri, names):
-    """The name of a class or role, in quotation marks where it is not one word."""
+    """The name of a class, role or individual, in quotation marks where it is not one word."""
     name = names.of(iri)
     is_plain = PLAIN_NAME.fullmatch(name) and name not in RESERVED
     return name if is_plain else "'" + name.replace("'", "\\'") + "'"
@@ -45,7 +45,7 @@ def part_text(expression, names):
 
 
 def term_text(term, names):
-    """A class expression, or a role."""
+    """A class expression, or a role or an individual."""
     return class_text(term, names) if isinstance(term, tuple) else name_text(term, names)
 
 
@@ -54,17 +54,21 @@ def axiom_text(axiom, names):
     terms = [term_text(it, names) for it in axiom.items]
     return {
         "SubClassOf": lambda: f"{terms[0]} SubClassOf {terms[1]}",
-        "EquivalentClasses": lambda: equivalent_text(terms, "EquivalentClasses"),
+        "EquivalentClasses": lambda: related_text(terms, "EquivalentTo", "EquivalentClasses"),
         "DisjointClasses": lambda: f"DisjointClasses: {', '.join(terms)}",
         "DisjointUnion": lambda: f"{terms[0]} DisjointUnionOf {', '.join(terms[1:])}",
         "SubObjectPropertyOf": lambda: f"{terms[0]} SubPropertyOf {terms[1]}",
-        "EquivalentObjectProperties": lambda: equivalent_text(terms, "EquivalentProperties"),
+        "EquivalentObjectProperties": lambda: related_text(terms, "EquivalentTo", "EquivalentProperties"),
         "ObjectPropertyDomain": lambda: f"{terms[0]} Domain {terms[1]}",
         "ObjectPropertyRange": lambda: f"{terms[0]} Range {terms[1]}",
         "FunctionalObjectProperty": lambda: f"Functional: {terms[0]}",
         "TransitiveObjectProperty": lambda: f"Transitive: {terms[0]}",
+        "ClassAssertion": lambda: f"{terms[1]} Type {terms[0]}",
+        "ObjectPropertyAssertion": lambda: f"{terms[1]} {terms[0]} {terms[2]}",
+        "SameIndividual": lambda: related_text(terms, "SameAs", "SameIndividual"),
+        "DifferentIndividuals": lambda: related_text(terms, "DifferentFrom", "DifferentIndividuals"),
     }[axiom.keyword]()
 
 
-def equivalent_text(terms, keyword):
-    return f"{terms[0]} EquivalentTo {terms[1]}" if len(terms) == 2 else f"{keyword}: {', '.join(terms)}"
+def related_text(terms, relation, keyword):
+    return f"{terms[0]} {relation} {terms[1]}" if len(terms) == 2 else f"{keyword}: {', '.join(terms)}"

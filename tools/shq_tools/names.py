@@ -1,4 +1,4 @@
-"""Names for people: the label of a class or role, or the end of its IRI."""
+"""Names for people: the label of a class, role or individual, or the end of its IRI."""
 from shq_tools.keywords import LABEL
 from shq_tools.prefixes import Prefixes
 from shq_tools.tokens import Refused, end_line, tokens
@@ -61,7 +61,7 @@ def end_of_iri(iri):
 
 
 class Names:
-    """The name of each class and role. Two things never have the same name."""
+    """The name of each class, role and individual. Two things never have the same name."""
 
     def __init__(self, labels=None, language=""):
         self.labels = labels or {}
@@ -83,7 +83,7 @@ class Names:
         return iri
 
     def of(self, iri):
-        """The name of a class or role."""
+        """The name of a class, role or individual."""
         if iri not in self.given:
             self.given[iri] = self.distinct(iri)
         return self.given[iri]

@@ -104,3 +104,15 @@ def row(axiom, part, positions):
     return needed, joined("or", [*rest, normal(right)])
 
 
+def facts(axiom):
+    """The facts of an assertion, in order: a kind (`is`, `leads`, `same` or `apart`) and its operands."""
+    items, keyword = axiom.items, axiom.keyword
+    if keyword == "ClassAssertion":
+        return [("is", items[1], normal(items[0]))]
+    if keyword == "ObjectPropertyAssertion":
+        return [("leads", *items)]
+    if keyword == "SameIndividual":
+        return [("same", *it) for it in zip(items, items[1:])]
+    if keyword == "DifferentIndividuals":
+        return [("apart", one, other) for at, one in enumerate(items) for other in items[at + 1 :]]
+    return []

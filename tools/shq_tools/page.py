@@ -83,9 +83,9 @@ def picture(reading, size):
     return [f"<figure>{svg}</figure>"] if svg else []
 
 
-def thing_row(thing, classes, roles, is_shown):
+def thing_row(called, classes, roles, is_shown):
     led = "; ".join(f"{role} {', '.join(map(str, others))}" for role, others in sorted(roles.items()))
-    first = element("td", str(thing), "good" if is_shown else "")
+    first = element("td", called.removeprefix("thing "), "good" if is_shown else "")
     return f"<tr>{first}{element('td', ', '.join(classes))}{element('td', led)}</tr>"
 
 
@@ -95,7 +95,8 @@ def model_body(reading):
     if shown:
         parts.append(element("p", f"The statement fails for thing {', '.join(map(str, shown))}.", "good"))
     parts.append("<table><tr><th>thing</th><th>is</th><th>roles lead to</th></tr>")
-    parts += [thing_row(*it, it[0] in shown) for it in things(reading.answer, reading.names)]
+    called = reading.called()
+    parts += [thing_row(called[it[0]], *it[1:], it[0] in shown) for it in things(reading.answer, reading.names)]
     return [*parts, "</table>"]
 
 

@@ -3,7 +3,7 @@ import sys
 
 from shq_tools.documents import refusal
 from shq_tools.input_files import READ_FAULT, STATUSES, data_of
-from shq_tools.keywords import ANNOTATIONS, NOT_SIMPLE
+from shq_tools.keywords import ANNOTATIONS, ANONYMOUS, NOT_SIMPLE
 from shq_tools.survey import by_keyword, survey
 from shq_tools.tokens import Refused
 
@@ -11,6 +11,7 @@ FIRST_LINES = 8
 USAGE = "usage: ./shq profile [FILE]"
 NOTES = {
     "Import": "nothing is fetched",
+    ANONYMOUS: "an individual without a name of its own",
     NOT_SIMPLE: "a number, or 'functional', over a role that has a transitive role below it",
 }
 

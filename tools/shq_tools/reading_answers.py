@@ -3,14 +3,14 @@ import argparse
 import sys
 
 from shq_tools.answers import Unread, answer
-from shq_tools.documents import axioms_of, document
+from shq_tools.documents import document, ontology_of
 from shq_tools.drawing import graph_of
 from shq_tools.input_files import READ_FAULT, data_of, say
 from shq_tools.names import Names, labels_in
 from shq_tools.page import page_of
 from shq_tools.prefixes import Prefixes
 from shq_tools.reading import Reading
-from shq_tools.terms import BOTTOM
+from shq_tools.terms import BOTTOM, TOP
 from shq_tools.text_view import lines_of
 from shq_tools.tokens import Refused, end_line, tokens
 from shq_tools.trees import trees
@@ -43,33 +43,41 @@ def labels_from(data):
 
 
 def ontology_from(data):
-    """The prefixes and the axioms, by number, of a file that the reasoner reads too, or none."""
+    """The prefixes, the axioms by number, and the individuals of a file that the reasoner reads too, or none."""
     try:
         read = document(data)
-        return read.prefixes, {it.number: it for it in axioms_of(read)}
+        axioms, individuals = ontology_of(read)
+        return read.prefixes, {it.number: it for it in axioms}, individuals
     except Refused:
-        return Prefixes(), {}
+        return Prefixes(), {}, []
 
 
 def query_of(text, prefixes):
-    """The classes of the statement that was asked about: those of an inclusion, or a class and `owl:Nothing`."""
+    """The statement that was asked about: its two classes, and the individual asked about or None. A class alone asks
+    whether it has a member.
+    """
     data = text.encode("utf-8")
     items = trees(tokens(data)[0], end_line(data))
     walk = Walk(prefixes, NoLimits())
     if len(items) == 1 and items[0].is_group("SubClassOf"):
-        return walk.axiom(items[0]).items
+        return *walk.axiom(items[0]).items, None
+    if len(items) == 1 and items[0].is_group("ClassAssertion"):
+        of, individual = walk.axiom(items[0]).items
+        return TOP, of, individual
     if len(items) == 1:
-        return walk.class_of(items[0]), BOTTOM
+        return walk.class_of(items[0]), BOTTOM, None
     raise Refused("bad text", "shape", 1)
 
 
 def reading_of(given, text, label_data):
     """The answer with what is known of its ontology. Raises `Unread` and `Refused`."""
     found = answer(text)
-    prefixes, axioms = ontology_from(label_data)
+    prefixes, axioms, individuals = ontology_from(label_data)
     names = Names(labels_from(label_data) if label_data else {}, given.language)
     query = query_of(given.query, prefixes) if given.query else None
-    return Reading(found, names, axioms, query)
+    if query and query[2] is not None and query[2] not in individuals:
+        individuals = [*individuals, query[2]]
+    return Reading(found, names, axioms, query, individuals=individuals)
 
 
 def shown(given, reading):

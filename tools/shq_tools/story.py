@@ -1,14 +1,15 @@
 """A refutation, told step by step.
 
-The lines are followed with the facts of each branch, so that each sentence says what a line adds. What is supposed of
-the first thing is told by what the lines need and no line adds, since the certificate itself does not have it. Only
-the steps that lead to a contradiction are told: a search makes others too.
+The lines are followed with the facts of each branch, so that each sentence says what a line adds. Each individual of
+the ontology is a thing, in the order in which they are listed. What is supposed of the thing in question is told by
+what the lines need and no line adds, since the certificate itself does not have it. Only the steps that lead to a
+contradiction are told: a search makes others too.
 """
 from dataclasses import dataclass, field
 
 from shq_tools.answers import Unread, number_of
 from shq_tools.manchester import class_text, name_text
-from shq_tools.normal_forms import complement, normal, row
+from shq_tools.normal_forms import complement, facts, normal, row
 from shq_tools.terms import BOTTOM, TOP
 
 
@@ -24,8 +25,8 @@ class Case:
 class Step:
     """A sentence, by the line of the certificate, and the cases behind it. The last one of a case is a contradiction.
 
-    `because` has the steps that it stands on, `supposes` what it needs of thing 0 that no step adds, `axiom` the axiom
-    that it uses, `roles` those along which it goes, and `carried` the one that is transitive. A step that takes an
+    `because` has the steps that it stands on, `supposes` what it needs of one thing that no step adds, `axiom` the
+    axiom that it uses, `roles` those along which it goes, and `carried` the one that is transitive. A step that takes an
     intersection apart `is_silent`: it says the same once more.
     """
 
@@ -43,10 +44,10 @@ class Step:
 
 @dataclass
 class Story:
-    """What is supposed of thing 0, the steps that are told, and how many are not.
+    """What is supposed, the steps that are told, and how many are not.
 
     Then the axioms that the told steps use, the roles along which they go, those that are transitive there, and whether
-    every line had what it needs.
+    every line had what it needs. Last, the things one of which is in question, where something is supposed of one.
     """
 
     supposed: list
@@ -56,25 +57,35 @@ class Story:
     roles: set
     carried: set
     is_sound: bool
+    asked: tuple = ()
 
 
 class Branch:
-    """What is known in a branch: which things are in which classes by which steps, and which things are the same."""
+    """What is known in a branch: which things are in which classes by which steps, and which things are the same.
+
+    `made` has the steps that made things, and `told` those by which two things are the same or different, or a role
+    leads from one to the other.
+    """
 
     def __init__(self):
         self.classes = {0: {TOP: None}}
         self.leader = {0: 0}
         self.made = {}
+        self.told = []
 
     def copy(self):
         new = Branch()
         new.classes = {thing: dict(them) for thing, them in self.classes.items()}
-        new.leader, new.made = dict(self.leader), dict(self.made)
+        new.leader, new.made, new.told = dict(self.leader), dict(self.made), list(self.told)
         return new
 
     def of(self, thing):
         """The least thing that is the same as this one."""
         return self.leader.setdefault(thing, thing)
+
+    def same_as(self, thing):
+        """All things that are the same as this one."""
+        return {it for it in self.leader if self.of(it) == self.of(thing)}
 
     def has(self, thing, expression):
         return expression == TOP or expression in self.classes.get(self.of(thing), ())
@@ -85,6 +96,11 @@ class Branch:
 
     def put(self, thing, expression, step):
         self.classes.setdefault(self.of(thing), {}).setdefault(expression, step)
+
+    def tells_of(self, *things):
+        """The steps that tell how these things are related, among themselves or with what is the same as one."""
+        leaders = {self.of(it) for it in things}
+        return [step for one, other, step in self.told if {self.of(one), self.of(other)} <= leaders]
 
     def join(self, one, other):
         low, high = sorted((self.of(one), self.of(other)))
@@ -141,11 +157,13 @@ def keep(steps, needed):
 class Teller:
     """Follows the lines of a refutation."""
 
-    def __init__(self, refutation, axioms, names):
+    def __init__(self, refutation, axioms, names, individuals=()):
         self.refutation = refutation
         self.axioms = axioms
         self.names = names
+        self.individuals = list(individuals)
         self.is_sound = True
+        self.asked = None
 
     def concept(self, word):
         number = number_of(word)
@@ -159,25 +177,34 @@ class Teller:
         texts = [(it, class_text(it, self.names)) for it in members]
         return list_text(text if is_plain(it) else f"in ({text})" for it, text in texts)
 
+    def thing(self, number):
+        """What a thing is called: an individual by its name."""
+        number = int(number)
+        return name_text(self.individuals[number], self.names) if number < len(self.individuals) else f"thing {number}"
+
     def is_text(self, thing, *expressions):
-        return f"thing {thing} is {self.being(*expressions)}"
+        return f"{self.thing(thing)} is {self.being(*expressions)}"
 
     def which_is(self, expression, how):
         """A clause that says in which class something is; none where every thing is in it."""
         return "" if expression == TOP else f", {how} {self.being(expression)}"
 
     def need(self, branch, step, thing, expression):
-        """Notes on what a step stands, and what it supposes of thing 0 where no step before it adds that."""
+        """Notes on what a step stands, and what it supposes of the thing in question where no step before it adds
+        that.
+        """
+        step.because += branch.tells_of(thing)
         if not branch.has(thing, expression):
-            if branch.of(thing) != 0:
-                self.is_sound = False
+            same = branch.same_as(thing)
+            self.asked = same if self.asked is None else self.asked & same
+            self.is_sound = self.is_sound and bool(self.asked)
             step.supposes.append(expression)
             return
         step.because += filter(None, [branch.origin(thing, expression)])
 
     def know(self, branch, step, *things):
-        """Notes that a step speaks of these things, which other steps made."""
-        step.because += [branch.made[it] for it in things if it in branch.made]
+        """Notes that a step speaks of these things, which other steps made, and of how they are related."""
+        step.because += [branch.made[it] for it in things if it in branch.made] + branch.tells_of(*things)
 
     def steps(self):
         """All steps of the refutation."""
@@ -202,7 +229,7 @@ class Teller:
         """The story, without the steps that are not needed."""
         steps = self.steps()
         found = list(all_steps(steps))
-        # the line start puts thing 0 into two classes: the left one of the statement, and what the right one leaves
+        # the line start puts one thing into two classes: the left one of the statement, and what the right one leaves
         self.is_sound = self.is_sound and len({it for step in found for it in step.supposes}) <= 2
         needed = needed_steps(steps)
         keep(steps, needed)
@@ -212,7 +239,8 @@ class Teller:
         axioms = {step.axiom for step in told if step.axiom is not None}
         roles = {it for step in told for it in step.roles}
         carried = {it for step in told for it in step.carried}
-        return Story(supposed, steps, len(found) - len(told), axioms, roles, carried, self.is_sound)
+        left_out, asked = len(found) - len(told), tuple(sorted(self.asked or ()))
+        return Story(supposed, steps, left_out, axioms, roles, carried, self.is_sound, asked)
 
     def step(self, line, branch, step):
         """Tells a line, and returns the branches behind it."""
@@ -238,6 +266,7 @@ class Teller:
         return branches
 
     def closes(self, step, text):
+        text = f"T{text[1:]}" if text.startswith("thing") else text
         step.text, step.is_contradiction = f"{text}: a contradiction.", True
         return []
 
@@ -259,22 +288,22 @@ class Teller:
     def tell_all(self, branch, step, thing, other, concept):
         whole = self.concept(concept)
         self.need(branch, step, int(thing), whole)
-        self.know(branch, step, int(other))
+        self.know(branch, step, int(thing), int(other))
         step.roles = (whole[1],)
-        why = f"Since {self.is_text(thing, whole)}, and thing {other} is one of these"
+        why = f"Since {self.is_text(thing, whole)}, and {self.thing(other)} is one of these"
         return self.adds(branch, step, f"{why}, {self.is_text(other, whole[2])}.", [(int(other), whole[2])])
 
     def tell_carry(self, branch, step, thing, other, role, concept):
         whole, role = self.concept(concept), role[1:-1]
         self.need(branch, step, int(thing), whole)
-        self.know(branch, step, int(other))
+        self.know(branch, step, int(thing), int(other))
         step.roles, step.carried = (whole[1], role), (role,)
         carried = ("all", role, whole[2])
         why = f"Since {self.is_text(thing, whole)}, and {name_text(role, self.names)} is transitive"
         return self.adds(branch, step, f"{why}, {self.is_text(other, carried)}.", [(int(other), carried)])
 
     def unknown_axiom(self, branch, step, axiom, thing):
-        step.text = f"Axiom {axiom} says more of thing {thing}."
+        step.text = f"Axiom {axiom} says more of {self.thing(thing)}."
         return [branch]
 
     def tell_row(self, branch, step, thing, axiom, part, *positions):
@@ -285,17 +314,17 @@ class Teller:
         self.know(branch, step, int(thing))
         for expression in needed:
             self.need(branch, step, int(thing), expression)
-        since = f"{self.is_text(thing, *needed)}, so it" if needed else f"thing {thing}"
+        since = f"{self.is_text(thing, *needed)}, so it" if needed else self.thing(thing)
         return self.adds(branch, step, f"By axiom {axiom}: {since} is {self.being(added)}.", [(int(thing), added)])
 
     def tell_range(self, branch, step, thing, other, axiom):
         step.axiom = int(axiom)
         if step.axiom not in self.axioms:
             return self.unknown_axiom(branch, step, axiom, other)
-        self.know(branch, step, int(other))
+        self.know(branch, step, int(thing), int(other))
         role, filler = self.axioms[step.axiom].items
         step.roles, filler = (role,), normal(filler)
-        leads = f"{name_text(role, self.names)} leads from thing {thing} to thing {other}"
+        leads = f"{name_text(role, self.names)} leads from {self.thing(thing)} to {self.thing(other)}"
         text = f"By axiom {axiom}: {leads}, so {self.is_text(other, filler)}."
         return self.adds(branch, step, text, [(int(other), filler)])
 
@@ -326,32 +355,89 @@ class Teller:
 
     def tell_pair(self, branch, step, one, other):
         self.know(branch, step, int(one), int(other))
+        both = self.both(one, other)
         cases = [
-            (f"things {one} and {other} are the same", lambda inner: inner.join(int(one), int(other))),
-            (f"things {one} and {other} are different", lambda inner: None),
+            (f"{both} are the same", lambda inner: inner.join(int(one), int(other))),
+            (f"{both} are different", lambda inner: None),
         ]
-        return self.splits(branch, step, f"Either things {one} and {other} are the same, or they are different.", cases)
+        return self.splits(branch, step, f"Either {both} are the same, or they are different.", cases)
+
+    def both(self, one, other):
+        """Two things by their names, or by their numbers where neither has one."""
+        if min(int(one), int(other)) >= len(self.individuals):
+            return f"things {one} and {other}"
+        return f"{self.thing(one)} and {self.thing(other)}"
+
+    def tell_fact(self, branch, step, axiom, place):
+        step.axiom = int(axiom)
+        if step.axiom not in self.axioms:
+            step.text = f"Axiom {axiom} says something of individuals."
+            return [branch]
+        kind, *operands = facts(self.axioms[step.axiom])[int(place) - 1]
+        return getattr(self, f"tell_{kind}_fact")(branch, step, *operands)
+
+    def number(self, individual):
+        """The thing that an individual is."""
+        if individual not in self.individuals:
+            raise Unread(f"{individual} is no individual of the ontology")
+        return self.individuals.index(individual)
+
+    def tell_is_fact(self, branch, step, individual, expression):
+        thing = self.number(individual)
+        text = f"By axiom {step.axiom}: {self.is_text(thing, expression)}."
+        return self.adds(branch, step, text, [(thing, expression)])
+
+    def tell_leads_fact(self, branch, step, role, one, other):
+        step.roles = (role,)
+        one, other = self.number(one), self.number(other)
+        leads = f"{name_text(role, self.names)} leads from {self.thing(one)} to {self.thing(other)}"
+        step.text = f"By axiom {step.axiom}: {leads}."
+        branch.told.append((one, other, step))
+        return [branch]
+
+    def tell_same_fact(self, branch, step, one, other):
+        one, other = self.number(one), self.number(other)
+        step.text = f"By axiom {step.axiom}: {self.both(one, other)} are the same."
+        branch.join(one, other)
+        branch.told.append((one, other, step))
+        return [branch]
+
+    def tell_apart_fact(self, branch, step, one, other):
+        one, other = self.number(one), self.number(other)
+        step.text = f"By axiom {step.axiom}: {self.both(one, other)} are different."
+        branch.told.append((one, other, step))
+        return [branch]
+
+    def tell_differ(self, branch, step, one, other):
+        self.know(branch, step, int(one), int(other))
+        return self.closes(step, f"{self.both(one, other)} are the same, and are different")
 
     def tell_bottom(self, branch, step, thing):
         self.need(branch, step, int(thing), BOTTOM)
-        return self.closes(step, f"T{self.is_text(thing, BOTTOM)[1:]}")
+        return self.closes(step, self.is_text(thing, BOTTOM))
 
     def tell_clash(self, branch, step, thing, concept):
         name = self.concept(concept)
         self.need(branch, step, int(thing), name)
         self.need(branch, step, int(thing), complement(name))
         text = class_text(name, self.names)
-        return self.closes(step, f"Thing {thing} is {text}, and is not {text}")
+        return self.closes(step, f"{self.thing(thing)} is {text}, and is not {text}")
 
     def tell_most(self, branch, step, thing, concept, *others):
         whole = self.concept(concept)
         self.need(branch, step, int(thing), whole)
         for other in map(int, others):
             self.need(branch, step, other, whole[3])
-        self.know(branch, step, *map(int, others))
+        self.know(branch, step, int(thing), *map(int, others))
         step.roles = (whole[2],)
-        found = f"things {list_text(others)} are {len(others)} different ones"
-        return self.closes(step, f"T{self.is_text(thing, whole)[1:]}, but {found}")
+        found = f"{self.all_of(others)} are {len(others)} different ones"
+        return self.closes(step, f"{self.is_text(thing, whole)}, but {found}")
+
+    def all_of(self, numbers):
+        """Some things by their names, or by their numbers where none has one."""
+        if min(map(int, numbers)) >= len(self.individuals):
+            return f"things {list_text(numbers)}"
+        return list_text(map(self.thing, numbers))
 
 
 def damage_as_unread(call):
@@ -362,9 +448,11 @@ def damage_as_unread(call):
         raise Unread("the refutation is damaged") from fault
 
 
-def story_of(refutation, axioms, names):
-    """The story of a refutation over these axioms, by their numbers. Raises `Unread` where a line is no rule line."""
-    return damage_as_unread(Teller(refutation, axioms, names).tell)
+def story_of(refutation, axioms, names, individuals=()):
+    """The story of a refutation over these axioms, by their numbers, and the individuals of their ontology in order.
+    Raises `Unread` where a line is no rule line.
+    """
+    return damage_as_unread(Teller(refutation, axioms, names, individuals).tell)
 
 
 def all_told(refutation, names):

@@ -4,6 +4,7 @@ from dataclasses import dataclass, field
 from shq_tools.documents import document
 from shq_tools.keywords import (
     ANNOTATIONS,
+    ANONYMOUS,
     NOT_SIMPLE,
     OUTSIDE_AXIOMS,
     OUTSIDE_CLASSES,
@@ -66,7 +67,8 @@ def everything_outside(item, outside, prefixes):
         return []
     own = [(item.text, item.line)] if item.text in OUTSIDE_AXIOMS else []
     behind = [it for it in item.items if not it.is_group("Annotation")]
-    return own + outside_within(behind, prefixes)
+    nameless = [it for it in outside if it[0] == ANONYMOUS]
+    return own + outside_within(behind, prefixes) + nameless
 
 
 def look_at(item, prefixes):

@@ -2,7 +2,8 @@
 
 A class expression is a tuple that begins with its kind: `("top",)`, `("bottom",)`, `("name", iri)`, `("not", class)`,
 `("and", classes)`, `("or", classes)`, `("some", role, class)`, `("all", role, class)`, and with a number `("least",
-n, role, class)`, `("most", n, role, class)`, `("exactly", n, role, class)`. Roles are IRIs, and `classes` is a tuple.
+n, role, class)`, `("most", n, role, class)`, `("exactly", n, role, class)`. Roles and individuals are IRIs, and `classes`
+is a tuple.
 """
 from dataclasses import dataclass
 
@@ -12,7 +13,9 @@ BOTTOM = ("bottom",)
 
 @dataclass(frozen=True)
 class Axiom:
-    """A numbered axiom: its keyword, its classes and roles in order, its line, and its number where it has one."""
+    """A numbered axiom: its keyword, its classes, roles and individuals in order, its line, and its number where it
+    has one.
+    """
 
     keyword: str
     items: tuple

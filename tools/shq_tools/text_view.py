@@ -34,16 +34,18 @@ def taxonomy_lines(reading):
     return lines + ["", SHOWN_BEFORE] * any(it.is_shown_before for it in in_order(branches))
 
 
-def role_lines(roles):
-    return [f"{INDENT}{INDENT}{role} thing {', '.join(map(str, others))}" for role, others in sorted(roles.items())]
+def role_lines(roles, called):
+    told = {role: ", ".join(called[it] for it in others) for role, others in sorted(roles.items())}
+    return [f"{INDENT}{INDENT}{role} {others}" for role, others in told.items()]
 
 
 def model_lines(reading):
     """Each thing of a world, its classes, and where its roles lead."""
-    lines, shown = [ending(reading.answer)], reading.exceptions()
+    lines, shown, called = [ending(reading.answer)], reading.exceptions(), reading.called()
     for thing, classes, roles in things(reading.answer, reading.names):
         mark = " (it shows that the statement fails)" if thing in shown else ""
-        lines += [f"{INDENT}thing {thing}: {', '.join(classes) or 'in no named class'}{mark}", *role_lines(roles)]
+        lines.append(f"{INDENT}{called[thing]}: {', '.join(classes) or 'in no named class'}{mark}")
+        lines += role_lines(roles, called)
     return lines
 
 

@@ -1,6 +1,7 @@
 """The walk of tests over an ontology, in the order of the proved reader."""
 from shq_tools.keywords import (
     ANNOTATIONS,
+    ANONYMOUS,
     CARDINALITIES,
     CLASSES,
     ENTITIES,
@@ -16,17 +17,33 @@ from shq_tools.terms import BOTTOM, TOP, Axiom
 from shq_tools.tokens import Refused, bad_text
 
 MOST_NUMBER = 100
+ONE_PART = {
+    "SubClassOf",
+    "ObjectPropertyDomain",
+    "ObjectPropertyRange",
+    "FunctionalObjectProperty",
+    "ClassAssertion",
+    "ObjectPropertyAssertion",
+}
 DIGITS = set("0123456789")
 
 
 class Limits:
     """The limits of a document that count over all of it. Each call raises `Refused` where its limit is passed."""
 
-    MOST = {"axioms": 20_000, "parts": 500_000, "nodes": 262_144, "classes": 20_000, "roles": 1_000}
+    MOST = {
+        "axioms": 20_000,
+        "parts": 500_000,
+        "nodes": 262_144,
+        "classes": 20_000,
+        "roles": 1_000,
+        "individuals": 20_000,
+    }
 
     def __init__(self):
         self.counts = dict.fromkeys(self.MOST, 0)
-        self.names = {"classes": set(), "roles": set()}
+        # The names in the order in which they were met.
+        self.names = {"classes": {}, "roles": {}, "individuals": {}}
 
     def count(self, what, line, number=1):
         if self.counts[what] + number > self.MOST[what]:
@@ -36,7 +53,7 @@ class Limits:
     def name(self, what, iri, line):
         if iri not in self.names[what]:
             self.count(what, line)
-            self.names[what].add(iri)
+            self.names[what][iri] = None
 
 
 class NoLimits:
@@ -54,13 +71,15 @@ def pairs(count):
 
 
 def part_count(keyword, count):
-    """How many parts an axiom with so many items has."""
-    if keyword in ("SubClassOf", "ObjectPropertyDomain", "ObjectPropertyRange", "FunctionalObjectProperty"):
+    """How many parts an axiom with so many items has, or how many facts it is."""
+    if keyword in ONE_PART:
         return 1
     if keyword == "EquivalentClasses":
         return count
-    if keyword == "DisjointClasses":
+    if keyword in ("DisjointClasses", "DifferentIndividuals"):
         return pairs(count)
+    if keyword == "SameIndividual":
+        return count - 1
     return count + pairs(count - 1) if keyword == "DisjointUnion" else 0
 
 
@@ -122,6 +141,12 @@ class Walk:
             return [self.class_name(items[0])] + [self.class_of(it) for it in items[1:]]
         if keyword in ("ObjectPropertyDomain", "ObjectPropertyRange"):
             return [self.role(items[0]), self.class_of(items[1])]
+        if keyword == "ClassAssertion":
+            return [self.class_of(items[0]), self.individual(items[1])]
+        if keyword == "ObjectPropertyAssertion":
+            return [self.role(items[0]), self.individual(items[1]), self.individual(items[2])]
+        if keyword in ("SameIndividual", "DifferentIndividuals"):
+            return [self.individual(it) for it in items]
         return [self.role(it) for it in items]
 
     def declaration(self, items, line):
@@ -134,6 +159,8 @@ class Walk:
             self.list_class(self.prefixes.iri(entity.items[0]), entity.items[0].line)
         if entity.text == "ObjectProperty":
             self.declare_role(entity.items[0])
+        if entity.text == "NamedIndividual":
+            self.individual(entity.items[0])
 
     def declare_role(self, item):
         iri = self.prefixes.iri(item)
@@ -143,6 +170,15 @@ class Walk:
     def list_class(self, iri, line):
         if iri not in (THING, NOTHING):
             self.limits.name("classes", iri, line)
+
+    def individual(self, item):
+        """The individual that an item names."""
+        if item.kind == "name" and item.text.startswith(ANONYMOUS):
+            self.meets_outside(ANONYMOUS, item.line)
+            return ""
+        iri = self.prefixes.iri(item)
+        self.limits.name("individuals", iri, item.line)
+        return iri
 
     def class_name(self, item):
         """The class that an item names."""

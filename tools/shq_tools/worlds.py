@@ -6,6 +6,7 @@ class World:
 
     def __init__(self, model):
         self.size = model.size
+        self.individuals = model.individuals
         self.classes = {name: set(members) for name, members in model.classes.items()}
         self.after = {}
         for role, pairs in model.roles.items():
@@ -35,9 +36,18 @@ class World:
         number = expression[1]
         return {"least": count >= number, "most": count <= number, "exactly": count == number}[kind]
 
-    def exceptions(self, sub, sup):
-        """The things that are in one class and not in the other."""
-        return [it for it in range(self.size) if self.holds(sub, it) and not self.holds(sup, it)]
+    def exceptions(self, sub, sup, individual=None):
+        """The things that are in one class and not in the other; of an individual, where one is asked about, alone."""
+        asked = range(self.size) if individual is None else [self.individuals.get(individual, 0)]
+        return [it for it in asked if self.holds(sub, it) and not self.holds(sup, it)]
+
+
+def called(model, names):
+    """What each thing of a model is called: its number, and the individuals that it is."""
+    found = {it: [] for it in range(model.size)}
+    for individual, thing in model.individuals.items():
+        found[thing].append(names.of(individual))
+    return {it: f"thing {it}" + f" ({', '.join(those)})" * bool(those) for it, those in found.items()}
 
 
 def things(model, names):

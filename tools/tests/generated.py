@@ -14,6 +14,7 @@ AXIOMS_WITH_CLASS = [
     "DisjointUnion(:A :B {})",
     "ObjectPropertyDomain(:r {})",
     "ObjectPropertyRange(:r {})",
+    "ClassAssertion({} :i)",
 ]
 CLASSES_WITH_CLASS = [
     "ObjectIntersectionOf(:A {})",
@@ -34,6 +35,16 @@ AXIOMS_WITH_ROLE = [
     "ObjectPropertyRange({} :A)",
     "FunctionalObjectProperty({})",
     "TransitiveObjectProperty({})",
+    "ObjectPropertyAssertion({} :i :j)",
+]
+# The same for an individual.
+AXIOMS_WITH_INDIVIDUAL = [
+    "ClassAssertion(:A {})",
+    "ObjectPropertyAssertion(:r {} :i)",
+    "ObjectPropertyAssertion(:r :i {})",
+    "SameIndividual(:i {})",
+    "DifferentIndividuals({} :i :j)",
+    'ClassAssertion(Annotation(:note "of it") :B {})',
 ]
 CLASSES_WITH_ROLE = [
     "ObjectSomeValuesFrom({} :A)",
@@ -86,6 +97,7 @@ def outside_axioms(chooser):
         found += [it.format(one) for it in AXIOMS_WITH_CLASS]
         found += [f"SubClassOf(:A {it.format(one)})" for it in CLASSES_WITH_CLASS]
         found.append(f"SubClassOf({nested(one, 5, chooser)} :A)")
+    found += [it.format("_:x") for it in AXIOMS_WITH_INDIVIDUAL]
     for one in roles:
         found += [it.format(one) for it in AXIOMS_WITH_ROLE]
         found += [f"SubClassOf(:A {it.format(one)})" for it in CLASSES_WITH_ROLE]
@@ -102,6 +114,9 @@ def inside_axioms(chooser, count):
         if chooser.random() < 0.3:
             base = chooser.choice(CLASSES_WITH_ROLE).format(chooser.choice([":s", "<http://e.org/t>"]))
         found.append(chooser.choice(AXIOMS_WITH_CLASS).format(nested(base, chooser.randrange(4), chooser)))
+        if chooser.random() < 0.3:
+            individual = chooser.choice([":i", ":k", "<http://e.org/l>"])
+            found.append(chooser.choice(AXIOMS_WITH_INDIVIDUAL).format(individual))
     return found
 
 
@@ -122,7 +137,7 @@ def mixed_document(seed, count=60):
     chooser = random.Random(seed)
     axioms = chooser.sample(outside_axioms(chooser), count // 2) + inside_axioms(chooser, count // 2)
     axioms += chooser.sample(COUNTED_AXIOMS, 2) + chooser.sample(ROLE_BOX, chooser.randrange(4))
-    axioms += ["Declaration(Class(:A))", "Declaration(DataProperty(:d))"]
+    axioms += ["Declaration(Class(:A))", "Declaration(DataProperty(:d))", "Declaration(NamedIndividual(:n))"]
     axioms.append('AnnotationAssertion(rdfs:label :A "a \\" b"@en)')
     chooser.shuffle(axioms)
     return document([spaced(it, chooser) for it in axioms])

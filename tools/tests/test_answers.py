@@ -10,7 +10,7 @@ from shq_tools.answers import Model, Plain, Refutation, SetList, Taxonomy, Unrea
 from shq_tools.drawing import quoted, wrapped
 from shq_tools.manchester import axiom_text, class_text
 from shq_tools.names import Names, labels_in
-from shq_tools.normal_forms import complement, normal, row
+from shq_tools.normal_forms import complement, facts, normal, row
 from shq_tools.places import EXAMPLES, TOOLS
 from shq_tools.reading_answers import ontology_from, query_of, read, reading_of, words_of
 from shq_tools.terms import TOP, Axiom
@@ -54,6 +54,45 @@ SubClassOf(:A ObjectMinCardinality(2 :r :B))
 SubClassOf(:A ObjectMaxCardinality(1 :r))
 )
 """
+# Axioms 1 to 4 say that whatever r leads to from i is one thing, that r leads from it to j and to k, and that j is B.
+FACTS_ONTOLOGY = b"""Prefix(:=<http://e.org/>)
+Ontology(
+ClassAssertion(ObjectMaxCardinality(1 :r) :i)
+ObjectPropertyAssertion(:r :i :j)
+ObjectPropertyAssertion(:r :i :k)
+ClassAssertion(:B :j)
+DifferentIndividuals(:j :k)
+)
+"""
+FACTS = """entailed
+refutation
+axioms 1 2 3 4
+concept 1 top
+concept 2 most 1 <http://e.org/r> 1
+concept 3 name <http://e.org/B>
+start
+fact 1 1
+fact 2 1
+fact 3 1
+fact 4 1
+pair 1 2
+clash 1 3
+most 0 2 1 2
+end
+"""
+FACTS_TOLD = [
+    "Suppose k is not B.",
+    "  By axiom 1: i is in (r max 1).",
+    "  By axiom 2: r leads from i to j.",
+    "  By axiom 3: r leads from i to k.",
+    "  By axiom 4: j is B.",
+    "  Either j and k are the same, or they are different.",
+    "    Case 1: j and k are the same.",
+    "      j is B, and is not B: a contradiction.",
+    "    Case 2: j and k are different.",
+    "      i is in (r max 1), but j and k are 2 different ones: a contradiction.",
+    "So there is no such thing.",
+]
 CASES = """entailed
 refutation
 axioms 1 2 3
@@ -201,6 +240,10 @@ class Manchester(unittest.TestCase):
             ("ObjectPropertyRange", ("r", a)): "r Range A",
             ("FunctionalObjectProperty", ("r",)): "Functional: r",
             ("TransitiveObjectProperty", ("r",)): "Transitive: r",
+            ("ClassAssertion", (("not", a), "i")): "i Type not A",
+            ("ObjectPropertyAssertion", ("r", "i", "j")): "i r j",
+            ("SameIndividual", ("i", "j")): "i SameAs j",
+            ("DifferentIndividuals", ("i", "j", "k")): "DifferentIndividuals: i, j, k",
         }
         for (keyword, items), text in cases.items():
             self.assertEqual(axiom_text(Axiom(keyword, items, 1), Names()), text)
@@ -233,7 +276,24 @@ class NormalForms(unittest.TestCase):
         self.assertEqual(row(Axiom("EquivalentClasses", (a, b), 1), 2, [1]), ([b], a))
 
 
+    def test_facts(self):
+        a = ("name", "A")
+        self.assertEqual(facts(Axiom("ClassAssertion", (("not", ("not", a)), "i"), 1)), [("is", "i", a)])
+        self.assertEqual(facts(Axiom("ObjectPropertyAssertion", ("r", "i", "j"), 1)), [("leads", "r", "i", "j")])
+        same = facts(Axiom("SameIndividual", ("i", "j", "k"), 1))
+        self.assertEqual(same, [("same", "i", "j"), ("same", "j", "k")])
+        apart = facts(Axiom("DifferentIndividuals", ("i", "j", "k"), 1))
+        self.assertEqual(apart, [("apart", "i", "j"), ("apart", "i", "k"), ("apart", "j", "k")])
+        self.assertEqual(facts(Axiom("SubClassOf", (a, a), 1)), [])
+
+
 class Worlds(unittest.TestCase):
+    def test_one_individual_is_asked_about(self):
+        world = World(answer(MODEL.replace("end", f"individual <{E}i> 1\nindividual <{E}j> 0\nend")))
+        a = ("name", E + "A")
+        self.assertEqual(world.exceptions(TOP, a, E + "i"), [1])
+        self.assertEqual(world.exceptions(TOP, a, E + "j"), [])
+
     def test_exceptions(self):
         world = World(answer(MODEL))
         a, b = ("name", E + "A"), ("name", E + "B")
@@ -295,6 +355,30 @@ class Shown(unittest.TestCase):
     def test_what_is_supposed_is_found(self):
         said = shown(HEART, ANATOMY)[0]
         self.assertIn("Suppose there is a thing 0 that is 'heart (\"cor\")' and not Organ.", said)
+
+    def test_facts_of_individuals(self):
+        asked = ("--query", "ClassAssertion(:B :k)")
+        said, complaint, status = shown(FACTS, FACTS_ONTOLOGY, *asked)
+        self.assertEqual((complaint, status), ("", 0))
+        lines = said.splitlines()
+        self.assertEqual(lines[0], "The statement follows. (k Type B)")
+        self.assertEqual(lines[lines.index("Suppose k is not B.") :], FACTS_TOLD)
+        self.assertIn("Suppose one of j and k is not B.", shown(FACTS, FACTS_ONTOLOGY)[0])
+        self.assertIn("Suppose there is a thing", shown(FACTS)[0])
+
+    def test_individuals_of_a_world(self):
+        model = MODEL.replace("end", f"individual <{E}i> 1\nindividual <{E}j> 1\nend")
+        said = shown(model, b"", "--query", f"ClassAssertion(<{E}A> <{E}j>)")[0]
+        self.assertIn("  thing 1 (i, j): B (it shows that the statement fails)\n    r thing 1 (i, j)\n", said)
+        self.assertIn("<td>0</td>", shown(model, b"", "--html")[0])
+
+    def test_two_that_are_one_and_different(self):
+        ontology = b"Prefix(:=<http://e.org/>)\nOntology(\nSameIndividual(:i :j :k)\nDifferentIndividuals(:k :i)\n)\n"
+        lines = ["entailed", "refutation", "axioms 1 2", "start", "fact 1 1", "fact 1 2", "fact 2 1", "differ 2 0", "end"]
+        said = shown("\n".join([*lines, ""]), ontology, "--query", "SubClassOf(owl:Thing owl:Nothing)")[0]
+        self.assertIn("By axiom 2: k and i are different.\n", said)
+        self.assertIn("k and i are the same, and are different: a contradiction.\n", said)
+        self.assertIn("Suppose there is a thing 3", said)
 
     def test_cases(self):
         lines = shown(CASES, CASES_ONTOLOGY)[0].splitlines()
@@ -393,8 +477,8 @@ class WithProgram(unittest.TestCase):
             said, _ = run_program(["entails", statement], ANATOMY)
             reading = reading_of(words_of(["--query", statement]), said, ANATOMY)
             self.assertTrue(reading.story().is_sound)
-            prefixes, _ = ontology_from(ANATOMY)
-            sub, sup = query_of(statement, prefixes)
+            prefixes, _, _ = ontology_from(ANATOMY)
+            sub, sup, _ = query_of(statement, prefixes)
             allowed = {normal(sub), complement(sup), *normal(sub)[1:]}
             self.assertLessEqual(set(reading.story().supposed), allowed)
 

@@ -70,12 +70,12 @@ class Cut(unittest.TestCase):
 
 class Profile(unittest.TestCase):
     def test_lists_every_construct(self):
-        axioms = ["SubClassOf(:A ObjectOneOf(:i))", "ClassAssertion(ObjectHasSelf(ObjectInverseOf(:r)) :i)"]
+        axioms = ["SubClassOf(:A ObjectOneOf(:i))", "ClassAssertion(ObjectHasSelf(ObjectInverseOf(:r)) _:i)"]
         axioms.append("SubClassOf(:A :B)")
         lines = profile_text(generated.document(axioms).encode("utf-8"))
         self.assertEqual(lines[0], "3 axioms, 1 of them inside of the language")
         found = [it.split()[0] for it in lines[3:-1]]
-        self.assertEqual(found, ["ClassAssertion", "ObjectHasSelf", "ObjectInverseOf", "ObjectOneOf"])
+        self.assertEqual(found, ["ObjectHasSelf", "ObjectInverseOf", "ObjectOneOf", "_:"])
         self.assertEqual(lines[-1], "the reasoner's answer: outside ObjectOneOf line 3")
 
     def test_agrees_with_the_first_refusal(self):

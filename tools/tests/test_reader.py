@@ -2,7 +2,7 @@
 import random
 import unittest
 
-from shq_tools.documents import axioms_of, document, refusal
+from shq_tools.documents import axioms_of, document, ontology_of, refusal
 from shq_tools.tokens import Refused, tokens
 from tests import generated
 from tests.program import needs_program, refusal_by_program
@@ -80,6 +80,20 @@ class Documents(unittest.TestCase):
             of("SubClassOf(:A ObjectInverseOf(:r))"): "bad text shape line 3",
             of("SubClassOf(:A ObjectSomeValuesFrom(ObjectInverseOf(:r) :B))"): "outside ObjectInverseOf line 3",
             of("Import(<http://e.org/x>)"): "outside Import line 3",
+            of("ClassAssertion(:A :a)", "ObjectPropertyAssertion(:r :a :b)", "SameIndividual(:a :b :c)"): None,
+            of("DifferentIndividuals(:a :a)", "Declaration(NamedIndividual(:d))"): None,
+            of("ClassAssertion(:A)"): "bad text shape line 3",
+            of("ClassAssertion(:A ObjectOneOf(:a))"): "bad text shape line 3",
+            of("ClassAssertion(:A \"a\")"): "bad text shape line 3",
+            of("ClassAssertion(:A _:a)"): "outside _: line 3",
+            of("ObjectPropertyAssertion(:r :a x:b)"): "bad text prefix line 3",
+            of("SameIndividual(:a)"): "bad text shape line 3",
+            of("Declaration(NamedIndividual(_:a))"): "outside _: line 3",
+            of("NegativeObjectPropertyAssertion(:r :a :b)"): "outside NegativeObjectPropertyAssertion line 3",
+            of("DifferentIndividuals(" + " ".join(f":a{i}" for i in range(1000)) + ")"): None,
+            of("DifferentIndividuals(" + " ".join(f":a{i}" for i in range(1001)) + ")"): "limit parts line 3",
+            of(*(f"Declaration(NamedIndividual(:a{i}))" for i in range(20_000))): None,
+            of(*(f"Declaration(NamedIndividual(:a{i}))" for i in range(20_001))): "limit individuals line 20003",
             of("Declaration(ObjectProperty(owl:topObjectProperty))"): None,
             of(transitive.format("R"), below, functional.format("S")): "outside not-simple line 5",
             of(functional.format("R"), below, transitive.format("S")): None,
@@ -98,6 +112,12 @@ class Documents(unittest.TestCase):
         (axiom,) = axioms_of(read)
         self.assertEqual((axiom.number, axiom.line), (1, 4))
         self.assertEqual(axiom.items, (("name", "http://e.org/A"), ("least", 2, "http://e.org/r", ("top",))))
+
+    def test_individuals_stand_in_the_order_in_which_they_are_met(self):
+        text = of("ObjectPropertyAssertion(:r :b :a)", "Declaration(NamedIndividual(:c))", "ClassAssertion(:A :b)")
+        axioms, individuals = ontology_of(document(text.encode("utf-8")))
+        self.assertEqual(axioms[0].items, ("http://e.org/r", "http://e.org/b", "http://e.org/a"))
+        self.assertEqual(individuals, ["http://e.org/b", "http://e.org/a", "http://e.org/c"])
 
 
 @needs_program

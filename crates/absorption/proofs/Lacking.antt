@@ -22,4 +22,4 @@ pub lack_nothing : ClosedTablesLackNothing
 lack_nothing w fs closed = (carried w fs closed, numbered w fs closed)
 
 pub no_step : NoStepIsAnEnd
-no_step w sub not_sup k trail reached closed none no_legal = (end_of_search w sub not_sup k trail reached).1 none (carried w (facts_of trail) closed) no_legal
+no_step w at sub not_sup k trail lt reached closed none no_legal = (end_of_search w at sub not_sup k trail lt reached).1 none (carried w (facts_of trail) closed) no_legal

@@ -1,5 +1,5 @@
 -- What a closed table is for.
-use Rattle.std.specs.Prelude.{ℕ, List}
+use Rattle.std.specs.Prelude.{ℕ, ◌<◌, List}
 use Rattle.calculus_specs.specs.declared.facts.Fact.{Fact}
 use Rattle.tableau_specs.specs.declared.Branch.{Branch}
 use Rattle.tableau_specs.specs.declared.Item.{Item}
@@ -19,5 +19,5 @@ ClosedTablesLackNothing = (w : SearchContext) (fs : List (Fact ℕ)) → IsClose
 
 -- where no step is legal and there is no plain clash, the trail is saturated
 abbrev pub NoStepIsAnEnd : Type 0
-NoStepIsAnEnd = (w : SearchContext) (sub not_sup k : ℕ) (trail : List Item) → Follows w (start sub not_sup) k trail → IsClosedFor w
+NoStepIsAnEnd = (w : SearchContext) (at sub not_sup k : ℕ) (trail : List Item) → at < w.first → Follows w (start at sub not_sup) k trail → IsClosedFor w
     → ¬ HasPlainClash w trail → ((new : List Item) → ¬ IsLegal w trail new) → IsSaturated w trail

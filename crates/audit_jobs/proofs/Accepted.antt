@@ -29,15 +29,15 @@ within_sets js all k d lt =
     let of = from_map (λ (j : Justification). j.set) js (get_or (justified_sets js) k d) (Contains-get_or (justified_sets js) k d lt) in
     subst (λ (s : Limited). IsWithin s.limit s.members) of.2 (all_has (λ (j : Justification). IsWithin j.set.limit j.set.members) js of.0 all of.1)
 
-module _ (inclusion bytes out : List ℕ) (o : Listed) (q : Asked) (is : IsQuestion (follows inclusion) bytes o q) (t : IsAuditText o q out) (short : length (lines out) ≤ 4294967293) where
-  asked : IsReadQuestion is.document is.kept (follows inclusion) o q
+module _ (statement bytes out : List ℕ) (o : Listed) (q : Asked) (is : IsQuestion (follows statement) bytes o q) (t : IsAuditText o q out) (short : length (lines out) ≤ 4294967293) where
+  asked : IsReadQuestion is.document is.kept (follows statement) o q
   asked = record { counts = is.counts; is_asked = is.is_asked; both_are = is.both_are }
 
   names : AreWritable o
-  names = question_writable bytes is.document is.kept (follows inclusion) o q is.is_document asked
+  names = question_writable bytes is.document is.kept (follows statement) o q is.is_document asked
 
   few_axioms : length o.axioms + 1 < 2 ^ 32
-  few_axioms = let few = (question_in_limit bytes is.document is.kept (follows inclusion) o q is.is_document asked).ontology.few_axioms in omega (arith, few)
+  few_axioms = let few = (question_in_limit bytes is.document is.kept (follows statement) o q is.is_document asked).ontology.few_axioms in omega (arith, few)
 
   few_lines : length (lines (audit_text o t.audit)) < 2 ^ 32
   few_lines = let same : length (lines out) ≡ length (lines (audit_text o t.audit)) = ap (λ (bs : List ℕ). length (lines bs)) t.text in omega (arith, same, short)
@@ -48,7 +48,7 @@ module _ (inclusion bytes out : List ℕ) (o : Listed) (q : Asked) (is : IsQuest
   pub all_listed : ListsAll o q t.audit
   all_listed = lists_all o q t.audit t.of_axioms (within_sets t.audit.justifications t.kept.justified) t.sound
 
-  text_accepted : IsAcceptedText inclusion bytes out
+  text_accepted : IsAcceptedText statement bytes out
   text_accepted = record {
     ontology = o;
     query = q;
@@ -60,8 +60,8 @@ module _ (inclusion bytes out : List ℕ) (o : Listed) (q : Asked) (is : IsQuest
   }
 
 pub evidence_accepted : EvidenceIsAccepted
-evidence_accepted inclusion budget bytes out log is short = by is.answer.finished is.answer.written.text is.answer.written.status
+evidence_accepted statement budget bytes out log is short = by is.answer.finished is.answer.written.text is.answer.written.status
   where
-    by : (b : Bool) → IsEvidenceText is.ontology is.query out b → Done ≡ end_status b → IsAcceptedText inclusion bytes out
-    by true t status = text_accepted inclusion bytes out is.ontology is.query is.is_question t short
+    by : (b : Bool) → IsEvidenceText is.ontology is.query out b → Done ≡ end_status b → IsAcceptedText statement bytes out
+    by true t status = text_accepted statement bytes out is.ontology is.query is.is_question t short
     by false t status = absurd (cc status)

@@ -50,14 +50,14 @@ no_want : (finished : Bool) → OutOfMemory ≡ end_status finished → ⊥
 no_want true is = cc is
 no_want false is = cc is
 
-pub evidenced_answers : (inclusion : List ℕ) (budget : ℕ) (bytes out : List ℕ) (s : Status) (log : List Entry) → IsEvidenced inclusion budget bytes out s log → AnswersEvidence inclusion budget bytes out s log
-evidenced_answers inclusion budget bytes out Done log is = inr is
-evidenced_answers inclusion budget bytes out Rejected log is = inr is
-evidenced_answers inclusion budget bytes out BadWords log is = inr is
-evidenced_answers inclusion budget bytes out BadText log is = inr is
-evidenced_answers inclusion budget bytes out Outside log is = inr is
-evidenced_answers inclusion budget bytes out Limit log is = inr is
-evidenced_answers inclusion budget bytes out ReadFault log is = inr is
-evidenced_answers inclusion budget bytes out WriteFault log is = inr is
-evidenced_answers inclusion budget bytes out Undecided log is = inr is
-evidenced_answers inclusion budget bytes out OutOfMemory log is = absurd (no_want is.answer.finished is.answer.written.status)
+pub evidenced_answers : (statement : List ℕ) (budget : ℕ) (bytes out : List ℕ) (s : Status) (log : List Entry) → IsEvidenced statement budget bytes out s log → AnswersEvidence statement budget bytes out s log
+evidenced_answers statement budget bytes out Done log is = inr is
+evidenced_answers statement budget bytes out Rejected log is = inr is
+evidenced_answers statement budget bytes out BadWords log is = inr is
+evidenced_answers statement budget bytes out BadText log is = inr is
+evidenced_answers statement budget bytes out Outside log is = inr is
+evidenced_answers statement budget bytes out Limit log is = inr is
+evidenced_answers statement budget bytes out ReadFault log is = inr is
+evidenced_answers statement budget bytes out WriteFault log is = inr is
+evidenced_answers statement budget bytes out Undecided log is = inr is
+evidenced_answers statement budget bytes out OutOfMemory log is = absurd (no_want is.answer.finished is.answer.written.status)

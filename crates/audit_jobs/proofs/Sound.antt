@@ -82,7 +82,7 @@ follows_not : (o : Listed) (q : Asked) (m : CounterModel) → IsModelled o q m �
 follows_not o q m is follows =
     let counter = is.refuting.refutes in
     let met : meets_all (meaning m.model) (axioms_in_set m.set.members o.axioms) ≡ true = ap (meets_all (meaning m.model)) (sym (axioms_are o m.set is.of_axioms)) ∙ counter.meets_axioms in
-    true≢false (sym counter.refutes ∙ follows (meaning m.model) counter.has_element counter.places met 0 counter.has_element)
+    true≢false (sym counter.refutes ∙ follows (meaning m.model) counter.has_element counter.places met counter.counter_example counter.is_element)
 
 -- a model of the axioms outside of a repair refutes the query without the repair
 counter_model : (o : Listed) (q : Asked) (r : Repair) → IsModelled o q (record { set = outside r.set; model = r.model }) → IsCounterModel o.axioms q r
@@ -92,7 +92,7 @@ counter_model o q r is =
     record {
       places = counter.places;
       meets_them = rest_met (meaning r.model) (rest r.set) r.set.members o.axioms 1 (λ n le lt lacks. to_rest r.set n le (omega (arith, lt, is.of_axioms.limit_is)) lacks) met;
-      refutes = (0, counter.has_element, counter.refutes);
+      refutes = (counter.counter_example, counter.is_element, counter.refutes);
     }
 
 -- ---- what was found

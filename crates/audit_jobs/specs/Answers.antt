@@ -50,14 +50,14 @@ pub record IsEvidenceAnswer (o : Listed) (q : Asked) (budget : ℕ) (log : List 
   pub honest : IsEvidenceLog o q budget log
   pub spent : finished ≡ false → spent_of log ≡ budget
 
--- the inclusion is a query on the document that the bytes are, and was searched
-pub record IsEvidenced (inclusion : List ℕ) (budget : ℕ) (bytes out : List ℕ) (s : Status) (log : List Entry) : Type 0 where
+-- the statement is a query on the document that the bytes are, and was searched
+pub record IsEvidenced (statement : List ℕ) (budget : ℕ) (bytes out : List ℕ) (s : Status) (log : List Entry) : Type 0 where
   pub ontology : Listed
   pub query : Asked
-  pub is_question : IsQuestion (follows inclusion) bytes ontology query
+  pub is_question : IsQuestion (follows statement) bytes ontology query
   pub answer : IsEvidenceAnswer ontology query budget log s out
 
--- the document or the inclusion is refused, or the inclusion was searched
+-- the document or the statement is refused, or the statement was searched
 abbrev pub AnswersEvidence : List ℕ → ℕ → List ℕ → List ℕ → Status → List Entry → Type 0
-AnswersEvidence inclusion budget bytes out s log =
-    UnlessNoMemory s out (HasBegun (follows inclusion) bytes log (λ o q. IsEvidenceLog o q budget log)) (IsRefused (follows inclusion) bytes out s log ⊎ IsEvidenced inclusion budget bytes out s log)
+AnswersEvidence statement budget bytes out s log =
+    UnlessNoMemory s out (HasBegun (follows statement) bytes log (λ o q. IsEvidenceLog o q budget log)) (IsRefused (follows statement) bytes out s log ⊎ IsEvidenced statement budget bytes out s log)

@@ -19,19 +19,19 @@ use Rattle.job_inputs.specs.Questions.{follows, IsQuestion}
 use Rattle.audit_jobs.specs.Answers.{IsEvidenced, AnswersEvidence}
 use Rattle.audit_jobs.specs.Audited.{Audited}
 
--- the text is an audit of the inclusion on the document, which lists all justifications and all repairs, and no
+-- the text is an audit of the statement on the document, which lists all justifications and all repairs, and no
 -- verdict on it is another one than that it is accepted
-pub record IsAcceptedText (inclusion bytes out : List ℕ) : Type 0 where
+pub record IsAcceptedText (statement bytes out : List ℕ) : Type 0 where
   pub ontology : Listed
   pub query : Asked
   pub audit : AuditLists
-  pub is_question : IsQuestion (follows inclusion) bytes ontology query
+  pub is_question : IsQuestion (follows statement) bytes ontology query
   pub is_read : audit_in ontology (lines out) ≡ Ok audit
   pub lists_all : ListsAll ontology query audit
   pub accepted : (v : AuditVerdict) → IsVerdict ontology query audit v → v ≡ verdict.Accepted
 
 abbrev pub EvidenceIsAccepted : Type 0
-EvidenceIsAccepted = (inclusion : List ℕ) (budget : ℕ) (bytes out : List ℕ) (log : List Entry) → IsEvidenced inclusion budget bytes out Done log → length (lines out) ≤ 4294967293 → IsAcceptedText inclusion bytes out
+EvidenceIsAccepted = (statement : List ℕ) (budget : ℕ) (bytes out : List ℕ) (log : List Entry) → IsEvidenced statement budget bytes out Done log → length (lines out) ≤ 4294967293 → IsAcceptedText statement bytes out
 
 -- ---- the same of what a check answers
 
@@ -46,7 +46,7 @@ pub record AreBlankLines (gap : List ℕ) : Type 0 where
 -- refused, is that the audit is accepted.
 abbrev pub PrintedEvidenceIsAccepted : Type 0
 PrintedEvidenceIsAccepted =
-    (inclusion : List ℕ) (budget : ℕ) (bytes out : List ℕ) (log : List Entry) → AnswersEvidence inclusion budget bytes out Done log
+    (statement : List ℕ) (budget : ℕ) (bytes out : List ℕ) (log : List Entry) → AnswersEvidence statement budget bytes out Done log
     → (o : Listed) (kept : DocumentContext) (end : ℕ) → IsDocument bytes o kept end
     → (gap : List ℕ) → AreBlankLines gap → length (take end bytes ++ (gap ++ out)) ≤ 4294967293
-    → (answer : List ℕ) (s : Status) → Audited inclusion (take end bytes ++ (gap ++ out)) answer s → s ≢ NoMemory → (s ≡ Done) × (answer ≡ line (codes "accepted audit"))
+    → (answer : List ℕ) (s : Status) → Audited statement (take end bytes ++ (gap ++ out)) answer s → s ≢ NoMemory → (s ≡ Done) × (answer ≡ line (codes "accepted audit"))

@@ -1,6 +1,6 @@
 // From the question and the bytes of a document to the audit.
 ghost use Rattle.std.specs.Prelude.{◌≡◌, ◌≤◌, true, false, [], IfOk, IfErr, OnOk, OnErr, IsTrue, length};
-ghost use Rattle.ontology_limits.specs.Limits.{IsInLimit, IsWithoutIndividuals};
+ghost use Rattle.ontology_limits.specs.Limits.{IsInLimit};
 ghost use Rattle.job_inputs.specs.Answer.{text_bytes, is_fault};
 ghost use Rattle.job_inputs.specs.Questions.{follows};
 ghost use Rattle.job_inputs.specs.Refusals.{IsUnanswered};
@@ -17,44 +17,44 @@ use run_log::RunLog;
 use shq_terms::{NoMemory, Ontology, Query};
 use std::alloc::Global;
 
-/// The audit of an inclusion on the document that the bytes are: all its justifications, each with a refutation over
-/// just these axioms, and all its repairs, each with a model of the other axioms in which the inclusion does not
+/// The audit of a statement on the document that the bytes are: all its justifications, each with a refutation over
+/// just these axioms, and all its repairs, each with a model of the other axioms in which the statement does not
 /// hold. The log gets what was asked.
 ///
-/// `inclusion` is the text of a `SubClassOf`, and `budget` the number of steps and nodes that the search may take.
-/// Where it does not suffice, the text is `undecided`, and the run ends `Undecided`.
+/// `statement` is the text of a `SubClassOf` or a `ClassAssertion`, and `budget` the number of steps and nodes that the
+/// search may take. Where it does not suffice, the text is `undecided`, and the run ends `Undecided`.
 pub fn find_evidence(
     alloc: Global,
-    inclusion: &str,
+    statement: &str,
     budget: u32,
     bytes: &[u8],
     log: &mut RunLog,
 ) -> (Status, Text)
     requires small { length bytes.now ≤ 4294967293 }
     requires unlogged { log.old ≡ [] }
-    ensures answer { AnswersEvidence inclusion.now budget bytes.now (text_bytes result.1) result.0 log.new }
+    ensures answer { AnswersEvidence statement.now budget bytes.now (text_bytes result.1) result.0 log.new }
     ensures no_fault { is_fault result.0 ≡ false }
 {
-    match evidenced(alloc, inclusion, budget, bytes, log) {
+    match evidenced(alloc, statement, budget, bytes, log) {
         Ok(answer) => answer,
         Err(unread) => unread_reply(alloc, unread),
     }
 }
 
-// The audit, unless the document or the inclusion is refused.
+// The audit, unless the document or the statement is refused.
 fn evidenced(
     alloc: Global,
-    inclusion: &str,
+    statement: &str,
     budget: u32,
     bytes: &[u8],
     log: &mut RunLog,
 ) -> Result<(Status, Text), Unread>
     requires small { length bytes.now ≤ 4294967293 }
     requires unlogged { log.old ≡ [] }
-    ensures answer { IfOk result (λ a. IsEvidenced inclusion.now budget bytes.now (text_bytes a.1) a.0 log.new) }
-    ensures unread { IfErr result (IsUnanswered (follows inclusion.now) bytes.now log.new (λ o q. IsEvidenceLog o q budget log.new)) }
+    ensures answer { IfOk result (λ a. IsEvidenced statement.now budget bytes.now (text_bytes a.1) a.0 log.new) }
+    ensures unread { IfErr result (IsUnanswered (follows statement.now) bytes.now log.new (λ o q. IsEvidenceLog o q budget log.new)) }
 {
-    let input = read_input(alloc, inclusion, bytes)?;
+    let input = read_input(alloc, statement, bytes)?;
     let answer = audited(alloc, budget, input, log)?;
     Ok(answer)
 }
@@ -67,7 +67,6 @@ fn audited(
     log: &mut RunLog,
 ) -> Result<(Status, Text), NoMemory>
     requires in_limit { IsInLimit input.ontology input.query }
-    requires without_individuals { IsWithoutIndividuals input.ontology input.query }
     requires unlogged { log.old ≡ [] }
     ensures answer { IfOk result (λ a. IsEvidenceAnswer input.ontology input.query budget log.new a.0 (text_bytes a.1)) }
     ensures begun { OnErr result (HasAsked input.ontology input.query budget log.new) }
@@ -86,7 +85,6 @@ fn audit(
     log: &mut RunLog,
 ) -> Result<(Status, Text), NoMemory>
     requires in_limit { IsInLimit ontology.now query.now }
-    requires without_individuals { IsWithoutIndividuals ontology.now query.now }
     requires unlogged { log.old ≡ [] }
     ensures answer { IfOk result (λ a. IsEvidenceAnswer ontology.now query.now budget log.new a.0 (text_bytes a.1)) }
     ensures begun { OnErr result (HasAsked ontology.now query.now budget log.new) }

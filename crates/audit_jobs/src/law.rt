@@ -9,7 +9,7 @@ pub fn evidence_is_accepted()
 
 /// What is printed with `Done` is accepted where it stands behind its document. The input of the check is the document
 /// up to its last bracket, whitespace that ends with a line feed, and the text that was printed, in at most
-/// 4,294,967,293 bytes. Whatever `verify_audit` answers to it over the same inclusion is `accepted audit`, with `Done`,
+/// 4,294,967,293 bytes. Whatever `verify_audit` answers to it over the same statement is `accepted audit`, with `Done`,
 /// unless memory was refused.
 pub fn printed_evidence_is_accepted()
     ensures { PrintedEvidenceIsAccepted }

@@ -1,7 +1,7 @@
 // The search for justifications and repairs, with the evidence of its tests.
 ghost use Rattle.std.specs.Prelude.{◌≡◌, [], IfOk, OnErr};
 ghost use Rattle.std.specs.Result.{result_map_both};
-ghost use Rattle.ontology_limits.specs.Limits.{IsInLimit, IsWithoutIndividuals};
+ghost use Rattle.ontology_limits.specs.Limits.{IsInLimit};
 ghost use Rattle.audit_jobs.specs.Witnessed.{IsSearched, HasAsked};
 
 use crate::evidence::Evidence;
@@ -33,7 +33,6 @@ pub(crate) fn search(
     log: &mut RunLog,
 ) -> Result<Searched, NoMemory>
     requires in_limit { IsInLimit ontology.now query.now }
-    requires without_individuals { IsWithoutIndividuals ontology.now query.now }
     requires unlogged { log.old ≡ [] }
     ensures searched { IfOk result (IsSearched ontology.now query.now budget log.new) }
     ensures begun { OnErr result (HasAsked ontology.now query.now budget log.new) }

@@ -3,7 +3,7 @@ ghost use Rattle.std.specs.Prelude.{◌≡◌, [], ◌++◌, false, length, IfOk
 ghost use Rattle.std.specs.List.{list_any, Contains};
 ghost use Rattle.lane_sieve.specs.Sets.{IsPart};
 ghost use Rattle.pinpointing_specs.specs.Smallest.{numbers_to};
-ghost use Rattle.ontology_limits.specs.Limits.{IsInLimit, IsWithoutIndividuals};
+ghost use Rattle.ontology_limits.specs.Limits.{IsInLimit};
 ghost use Rattle.set_questions.specs.Asked.{Answers, IsUnknownIf, ShowsNoOther, Takes};
 ghost use Rattle.set_questions.specs.Meaning.{Keeps, ShowsTheSame, one_more};
 ghost use Rattle.run_log.specs.Entries.{is_spent, IsAnswered};
@@ -51,7 +51,6 @@ impl<'a> Witness<'a> {
     /// of an equal query. The memory that it takes is `alloc`'s.
     pub(crate) fn new(alloc: Global, oracle: Oracle<'a>, query: &'a Query) -> Witness<'a>
         requires in_limit { IsInLimit oracle.ontology query.now }
-        requires without_individuals { IsWithoutIndividuals oracle.ontology query.now }
         requires goes_on { list_any is_spent oracle.log ≡ false }
         requires others { AreTestsOfOthers query.now oracle.log }
         ensures { result ≡ record {

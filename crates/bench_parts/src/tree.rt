@@ -360,7 +360,7 @@ fn time_facts<A: Allocator + Copy>(
     alloc: A,
     kind: Kind,
 ) -> io::Result<()> {
-    match FactTree::new_in(alloc) {
+    match FactTree::new_in(alloc, 1) {
         Ok(mut tree) => time_kind(rt, &mut tree, kind),
         Err(_) => Err(out_of_memory()),
     }
@@ -371,7 +371,7 @@ fn time_tree<A: Allocator + Copy>(
     heap: Global,
     alloc: A,
 ) -> io::Result<()> {
-    match Tree::new_in(alloc) {
+    match Tree::new_in(alloc, 1) {
         Ok(mut tree) => time_marks(rt, heap, &mut tree),
         Err(_) => Err(out_of_memory()),
     }

@@ -14,9 +14,10 @@ use Rattle.shq_terms.specs.declared.axioms.Numbered.{Numbered}
 use Rattle.role_box.specs.Simple.{counts_simple, all_role_axioms, first_not_simple, line_not_simple}
 use Rattle.role_box.specs.declared.role_axiom.RoleAxiom.{RoleAxiom}
 use Rattle.shq_nnf.specs.Counts.{has_counts_within, have_counts_within}
+use Rattle.shq_nnf.specs.Facts.{facts_of}
 use Rattle.shq_nnf.specs.Meeting.{is_assertion}
 use Rattle.shq_nnf.specs.Parts.{axiom_has_counts_within}
-use Rattle.ontology_limits.specs.Limits.{has_enough_parts, have_enough_parts, has_enough_items, part_count, IsInLimit, IsWithoutIndividuals}
+use Rattle.ontology_limits.specs.Limits.{has_enough_parts, have_enough_parts, has_enough_items, part_count, IsInLimit}
 use Rattle.bench_search.specs.Small.{fits, all_fit, axiom_fits, IsSmall, AreSmall, asked}
 
 -- ---- what fits is within the limits
@@ -111,9 +112,25 @@ one_more axioms more n classes roles small h e = subst AreSmall (sym e) (All-pus
 
 -- ---- the ontology
 
+no_facts : (a : Axiom) → is_assertion a ≡ false → length (facts_of a) ≡ 0
+no_facts (SubClassOf c d) h = refl
+no_facts (EquivalentClasses cs) h = refl
+no_facts (DisjointClasses cs) h = refl
+no_facts (DisjointUnion c cs) h = refl
+no_facts (SubRole r s) h = refl
+no_facts (EquivalentRoles rs) h = refl
+no_facts (Domain r c) h = refl
+no_facts (Range r c) h = refl
+no_facts (Functional r) h = refl
+no_facts (Transitive r) h = refl
+no_facts (Member c a) h = cc
+no_facts (Pair r a b) h = cc
+no_facts (SameAll as_) h = cc
+no_facts (Different as_) h = cc
+
 few : (axioms : List Numbered) → ByRecursion (λ n. IsSmall n.axiom) axioms → part_count axioms ≤ length axioms
 few [] small = omega arith
-few (a ∷ as_) small = omega (arith, small.0.few_parts, few as_ small.1)
+few (a ∷ as_) small = omega (arith, small.0.few_parts, no_facts a.axiom small.0.asserts_nothing, few as_ small.1)
 
 each_items : (axioms : List Numbered) → ByRecursion (λ n. IsSmall n.axiom) axioms → list_all (λ (a : Numbered). has_enough_items a.axiom) axioms ≡ true
 each_items [] small = refl
@@ -122,14 +139,6 @@ each_items (a ∷ as_) small = rw (small.0.items, each_items as_ small.1) refl
 each_counts : (axioms : List Numbered) → ByRecursion (λ n. IsSmall n.axiom) axioms → list_all (λ (a : Numbered). axiom_has_counts_within 100 a.axiom) axioms ≡ true
 each_counts [] small = refl
 each_counts (a ∷ as_) small = rw (small.0.counts, each_counts as_ small.1) refl
-
-each_plain : (axioms : List Numbered) → ByRecursion (λ n. IsSmall n.axiom) axioms → list_all (λ (a : Numbered). not (is_assertion a.axiom)) axioms ≡ true
-each_plain [] small = refl
-each_plain (a ∷ as_) small = rw (small.0.asserts_nothing, each_plain as_ small.1) refl
-
-none_listed : {A : Type 0} (xs : List A) → length xs ≡ 0 → xs ≡ []
-none_listed [] h = refl
-none_listed (x ∷ xs) h = absurd (omega (arith, h))
 
 each_simple : (roles : List RoleAxiom) (axioms : List Numbered) → first_not_simple roles axioms ≡ None → list_all (counts_simple roles) axioms ≡ true
 each_simple roles [] h = refl
@@ -163,9 +172,3 @@ in_limit o small simple listed axioms classes roles none one =
       simple = refl;
       on_listed = refl;
     }
-
-pub without_individuals : (o : Listed) → AreSmall o.axioms → length o.individuals ≡ 0 → IsWithoutIndividuals o asked
-without_individuals o small none = record {
-  ontology = record { none_listed = none_listed o.individuals none; no_assertions = each_plain o.axioms (recursion_from_All (λ (n : Numbered). IsSmall n.axiom) o.axioms small) };
-  on_any = refl;
-}

@@ -1,7 +1,7 @@
 // The ontologies of families.
 ghost use Rattle.std.specs.Prelude.{◌≡◌, None, IfOk, OnOk, IsTrue};
 ghost use Rattle.role_box.specs.Simple.{line_not_simple};
-ghost use Rattle.ontology_limits.specs.Limits.{IsInLimit, IsWithoutIndividuals};
+ghost use Rattle.ontology_limits.specs.Limits.{IsInLimit};
 ghost use Rattle.bench_search.specs.Small.{asked, AreSmall};
 
 use crate::family::Family;
@@ -18,7 +18,6 @@ use std::alloc::Global;
 /// `Full` where it is not within the limits; `NoMemory`.
 pub(crate) fn ontology_of(alloc: Global, family: Family, size: u32) -> Result<Ontology, AddFault>
     ensures in_limit { IfOk result (λ o. IsInLimit o asked) }
-    ensures without_individuals { IfOk result (λ o. IsWithoutIndividuals o asked) }
 {
     let mut ontology = Ontology::new(alloc);
     fill(alloc, &mut ontology, family, size)?;
@@ -28,7 +27,6 @@ pub(crate) fn ontology_of(alloc: Global, family: Family, size: u32) -> Result<On
 fn fill(alloc: Global, ontology: &mut Ontology, family: Family, size: u32) -> Result<(), AddFault>
     requires { AreSmall ontology.old.axioms }
     ensures in_limit { OnOk result (IsInLimit ontology.new asked) }
-    ensures without_individuals { OnOk result (IsWithoutIndividuals ontology.new asked) }
 {
     let statements = family.statements(alloc, size)?;
     list_names(alloc, ontology, family.class_count(size))?;
@@ -82,7 +80,6 @@ fn put(ontology: &mut Ontology, axiom: Axiom) -> Result<(), AddFault>
 fn check(alloc: Global, ontology: &Ontology) -> Result<(), AddFault>
     requires { AreSmall ontology.now.axioms }
     ensures in_limit { OnOk result (IsInLimit ontology.now asked) }
-    ensures without_individuals { OnOk result (IsWithoutIndividuals ontology.now asked) }
 {
     let _axioms = ontology.axioms();
     let _roles = ontology.role_count();

@@ -1,6 +1,6 @@
 // What a search did, and how long it took.
 ghost use Rattle.std.specs.Prelude.{◌≡◌, IfOk, length};
-ghost use Rattle.ontology_limits.specs.Limits.{IsInLimit, IsWithoutIndividuals};
+ghost use Rattle.ontology_limits.specs.Limits.{IsInLimit};
 ghost use Rattle.search_rules.specs.RuleLists.{AreNumbersOf};
 ghost use Rattle.bench_search.specs.Small.{asked};
 
@@ -56,7 +56,6 @@ fn report_rules(
     fuel: u64,
 ) -> io::Result<()>
     requires in_limit { IsInLimit ontology.now asked }
-    requires without_individuals { IsWithoutIndividuals ontology.now asked }
 {
     let query = query();
     match ask(alloc, ontology, &query) {
@@ -75,7 +74,6 @@ fn report_search(
     requires numbers { AreNumbersOf asked.now.rules query.now asked.now.sub asked.now.not_sup }
     requires set { asked.now.rules.set.limit ≡ length asked.now.rules.ontology.axioms }
     requires in_limit { IsInLimit asked.now.rules.ontology query.now }
-    requires without_individuals { IsWithoutIndividuals asked.now.rules.ontology query.now }
 {
     let start = Instant::now(rt)?;
     let found = search(alloc, asked, query, fuel);
@@ -144,7 +142,6 @@ fn search(alloc: Global, asked: &Asked<'_>, query: &Query, fuel: u64) -> Result<
     requires numbers { AreNumbersOf asked.now.rules query.now asked.now.sub asked.now.not_sup }
     requires set { asked.now.rules.set.limit ≡ length asked.now.rules.ontology.axioms }
     requires in_limit { IsInLimit asked.now.rules.ontology query.now }
-    requires without_individuals { IsWithoutIndividuals asked.now.rules.ontology query.now }
 {
     let arena = Bump::new(alloc);
     search_in(&arena, alloc, asked, query, fuel)
@@ -160,7 +157,6 @@ fn search_in<A: Allocator + Copy>(
     requires numbers { AreNumbersOf asked.now.rules query.now asked.now.sub asked.now.not_sup }
     requires set { asked.now.rules.set.limit ≡ length asked.now.rules.ontology.axioms }
     requires in_limit { IsInLimit asked.now.rules.ontology query.now }
-    requires without_individuals { IsWithoutIndividuals asked.now.rules.ontology query.now }
 {
     let mut search = Search::new_in(arena, alloc, &asked.rules, query, asked.sub, asked.not_sup)?;
     let end = search.run(fuel)?;

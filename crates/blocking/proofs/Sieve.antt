@@ -1,11 +1,11 @@
 -- The nodes that a sieve finds are enough.
-use Rattle.std.proofs.Common.{◌≡◌, ℕ, suc, ◌+◌, ◌<◌, ◌^◌, ◌&&◌, cond, eqb, Bool, true, false, List, [], ◌∷◌, length, get_or, refl, ap, sym, ◌∙◌, arith, inl, inr}
-use Rattle.std.proofs.lemmas.Bool.{cases_Bool, and_parts, eqb-true, ne_eqb}
+use Rattle.std.proofs.Common.{◌≡◌, ℕ, suc, ◌+◌, ◌<◌, ◌≤◌, ◌^◌, ◌&&◌, cond, eqb, Bool, true, false, List, [], ◌∷◌, length, get_or, refl, ap, sym, ◌∙◌, arith, inl, inr}
+use Rattle.std.proofs.lemmas.Bool.{cases_Bool, and_parts, eqb-true, le-ltb}
 use Rattle.lane_sieve.specs.Words.{is_subset, places}
 use Rattle.lane_sieve.proofs.Kernels.{subset_from}
 use Rattle.calculus_specs.specs.declared.facts.Fact.{Fact}
 use Rattle.calculus_specs.specs.Joins.{rep}
-use Rattle.calculus_specs.specs.State.{parent, has, label, is_label_part}
+use Rattle.calculus_specs.specs.State.{parent_from, has, label, is_label_part}
 use Rattle.tableau_specs.specs.declared.Block.{Block}
 use Rattle.tableau_specs.specs.declared.Block.TheVariants.{Clear, By, Under}
 use Rattle.tableau_specs.specs.Blocked.{is_clear, is_parent_clear, may_block, blocked_from, blocks_to, block_of}
@@ -39,15 +39,15 @@ clear_is Clear h = refl
 clear_is (By z) h = cc
 clear_is Under h = cc
 
-module _ (fs : List (Fact ℕ)) (x : ℕ) (p : Printed) (followed : IsFollowed fs x p) (print : List ℕ) (shows : IsPrintWithin (label fs x) print) (four : length print ≡ 4)
+module _ (first : ℕ) (fs : List (Fact ℕ)) (x : ℕ) (p : Printed) (followed : IsFollowed first fs x p) (print : List ℕ) (shows : IsPrintWithin (label fs x) print) (four : length print ≡ 4)
     (fits : (i : ℕ) → get_or print i 0 < 2 ^ 64) where
   kept : (z : ℕ) → z < x → may_block fs p.blocks x z ≡ true → is_subset print (get_or p.prints z []) ≡ true
   kept z lt may =
       let outer = and_parts (eqb (rep fs z) z && is_clear (get_or p.blocks z Under)) (is_label_part fs x z) may in
       let inner = and_parts (eqb (rep fs z) z) (is_clear (get_or p.blocks z Under)) outer.0 in
       let own : rep fs z ≡ z = eqb-true (rep fs z) z inner.0 in
-      let at : get_or p.blocks z Under ≡ block_of fs z = ap (λ (bs : List Block). get_or bs z Under) followed.all_blocks ∙ get-blocks_to fs x z Under lt in
-      let clear : block_of fs z ≡ Clear = sym at ∙ clear_is (get_or p.blocks z Under) inner.1 in
+      let at : get_or p.blocks z Under ≡ block_of first fs z = ap (λ (bs : List Block). get_or bs z Under) followed.all_blocks ∙ get-blocks_to first fs x z Under lt in
+      let clear : block_of first fs z ≡ Clear = sym at ∙ clear_is (get_or p.blocks z Under) inner.1 in
       let s = followed.sound.each z lt in
       subset_from print (get_or p.prints z []) (four ∙ sym s.words) fits
       (all_shown (has fs z) (label fs x) print (get_or p.prints z []) shows outer.1 (s.shows own clear))
@@ -60,11 +60,11 @@ module _ (fs : List (Fact ℕ)) (x : ℕ) (p : Printed) (followed : IsFollowed f
       let same : v ≡ k = omega arith in
       kept k (omega (arith, lt, followed.all_prints)) (ap (may_block fs p.blocks x) (sym same) ∙ may))
 
-  pub block_found : (blocks : List Block) (zs : List ℕ) → blocks ≡ p.blocks → zs ≡ places 0 print p.prints → ¬ (x ≡ 0) → is_parent_clear fs blocks (parent fs x) ≡ true
-      → blocked_among fs blocks x zs ≡ block_of fs x
+  pub block_found : (blocks : List Block) (zs : List ℕ) → blocks ≡ p.blocks → zs ≡ places 0 print p.prints → first ≤ x → is_parent_clear fs blocks (parent_from first fs x) ≡ true
+      → blocked_among fs blocks x zs ≡ block_of first fs x
   block_found blocks zs same found some clear =
-      let all : blocks ≡ blocks_to fs x = same ∙ followed.all_blocks in
-      let up : is_parent_clear fs (blocks_to fs x) (parent fs x) ≡ true = ap (λ (bs : List Block). is_parent_clear fs bs (parent fs x)) (sym all) ∙ clear in
+      let all : blocks ≡ blocks_to first fs x = same ∙ followed.all_blocks in
+      let up : is_parent_clear fs (blocks_to first fs x) (parent_from first fs x) ≡ true = ap (λ (bs : List Block). is_parent_clear fs bs (parent_from first fs x)) (sym all) ∙ clear in
       (λ i. blocked_among fs (same i) x (found i)) ∙ sym all_sieved ∙ ap (λ (bs : List Block). blocked_from fs bs x 0 x) followed.all_blocks
-      ∙ sym (ap (λ (b : Bool). cond b Clear (cond (is_parent_clear fs (blocks_to fs x) (parent fs x)) (blocked_from fs (blocks_to fs x) x 0 x) Under)) (ne_eqb x 0 some)
-      ∙ ap (λ (b : Bool). cond b (blocked_from fs (blocks_to fs x) x 0 x) Under) up)
+      ∙ sym (ap (λ (b : Bool). cond b Clear (cond (is_parent_clear fs (blocks_to first fs x) (parent_from first fs x)) (blocked_from fs (blocks_to first fs x) x 0 x) Under)) (le-ltb x first some)
+      ∙ ap (λ (b : Bool). cond b (blocked_from fs (blocks_to first fs x) x 0 x) Under) up)

@@ -2,7 +2,7 @@
 ghost use Rattle.std.specs.Prelude.{◌≡◌, ℕ, ◌+◌, ◌^◌, ◌<◌, ◌≤◌, length, take, slice_index, slice_index_or, false, ◌↔◌, IsTrue, OnOk, OnErr};
 ghost use Rattle.std.specs.List.{list_all};
 ghost use Rattle.lane_sieve.specs.Words.{places};
-ghost use Rattle.calculus_specs.specs.State.{node_count, has as has_concept, label as label_of, is_label_part, parent as parent_of};
+ghost use Rattle.calculus_specs.specs.State.{node_count_from, has as has_concept, label as label_of, is_label_part, parent_from};
 ghost use Rattle.tableau_specs.specs.declared.Block.TheVariants.{Clear, By, Under};
 ghost use Rattle.tableau_specs.specs.Blocked.{is_parent_clear, may_block, is_clear as is_clear_of, block_of};
 ghost use Rattle.completion_tree.specs.Trail.{facts_in};
@@ -59,9 +59,9 @@ impl Blocks {
     ///
     /// Want of memory. The blocks of the nodes below `from` are as before.
     pub fn follow<A: Allocator + Copy>(&mut self, tree: &Tree<A>, from: u32) -> Result<(), NoMemory>
-        requires { AreBlocksBelow (facts_in tree.now) from self.old }
-        ensures followed { OnOk result (IsCurrent (facts_in tree.now) self.new) }
-        ensures kept { OnErr result (AreBlocksBelow (facts_in tree.now) from self.new) }
+        requires { AreBlocksBelow tree.now.first (facts_in tree.now.entries) from self.old }
+        ensures followed { OnOk result (IsCurrent tree.now.first (facts_in tree.now.entries) self.new) }
+        ensures kept { OnErr result (AreBlocksBelow tree.now.first (facts_in tree.now.entries) from self.new) }
     {
         self.cut(from);
         for node in from..tree.nodes() {
@@ -82,11 +82,11 @@ impl Blocks {
         self.effort
     }
 
-    /// Keeps the blocks of the first `len` nodes, which are so in the tree, and no others.
+    /// Keeps the blocks of the nodes below `len`, which are so in the tree, and no others.
     pub fn keep<A: Allocator + Copy>(&mut self, tree: &Tree<A>, len: u32)
-        requires { AreBlocksBelow (facts_in tree.now) len self.old }
+        requires { AreBlocksBelow tree.now.first (facts_in tree.now.entries) len self.old }
         ensures kept { self.new ≡ printed_first len self.old }
-        ensures first { AreFirstBlocks (facts_in tree.now) self.new }
+        ensures first { AreFirstBlocks tree.now.first (facts_in tree.now.entries) self.new }
     {
         let _ = tree;
         self.cut(len);
@@ -98,15 +98,15 @@ impl Blocks {
     ///
     /// Want of memory.
     pub fn complete<A: Allocator + Copy>(&mut self, tree: &Tree<A>) -> Result<(), NoMemory>
-        requires { AreFirstBlocks (facts_in tree.now) self.old }
-        ensures current { OnOk result (IsCurrent (facts_in tree.now) self.new) }
-        ensures first { OnOk result (AreFirstBlocks (facts_in tree.now) self.new) }
+        requires { AreFirstBlocks tree.now.first (facts_in tree.now.entries) self.old }
+        ensures current { OnOk result (IsCurrent tree.now.first (facts_in tree.now.entries) self.new) }
+        ensures first { OnOk result (AreFirstBlocks tree.now.first (facts_in tree.now.entries) self.new) }
     {
         let len = self.len();
         self.follow(tree, len)
     }
 
-    // Keeps what there is of the first nodes alone.
+    // Keeps what there is of the nodes below `len` alone.
     fn cut(&mut self, len: u32)
         requires blocks { len ≤ length self.old.blocks }
         requires prints { len ≤ length self.old.prints }
@@ -122,9 +122,9 @@ impl Blocks {
         tree: &Tree<A>,
         node: u32,
     ) -> Result<(), NoMemory>
-        requires node { node < node_count (facts_in tree.now) }
-        requires followed { IsFollowed (facts_in tree.now) node self.old }
-        ensures followed { OnOk result (IsFollowed (facts_in tree.now) (node + 1) self.new) }
+        requires node { node < node_count_from tree.now.first (facts_in tree.now.entries) }
+        requires followed { IsFollowed tree.now.first (facts_in tree.now.entries) node self.old }
+        ensures followed { OnOk result (IsFollowed tree.now.first (facts_in tree.now.entries) (node + 1) self.new) }
         ensures unchanged { OnErr result (self.new ≡ self.old) }
     {
         let block = self.find(tree, node, print_to_ask(tree, node));
@@ -150,15 +150,15 @@ impl Blocks {
 
     // The block of the node behind those that are there, which has what this print shows.
     fn find<A: Allocator + Copy>(&mut self, tree: &Tree<A>, node: u32, print: [u64; 4]) -> Block
-        requires node { node < node_count (facts_in tree.now) }
-        requires followed { IsFollowed (facts_in tree.now) node self.old }
-        requires print { IsPrintWithin (label_of (facts_in tree.now) node) print }
+        requires node { node < node_count_from tree.now.first (facts_in tree.now.entries) }
+        requires followed { IsFollowed tree.now.first (facts_in tree.now.entries) node self.old }
+        requires print { IsPrintWithin (label_of (facts_in tree.now.entries) node) print }
         requires words { length print ≡ 4 }
-        ensures block { result ≡ block_of (facts_in tree.now) node }
+        ensures block { result ≡ block_of tree.now.first (facts_in tree.now.entries) node }
         ensures unchanged { self.new ≡ self.old }
     {
         self.effort = self.effort.with_block();
-        if node == 0 {
+        if node < tree.first() {
             return Block::Clear;
         }
         if !has_clear_parent(tree, self.blocks.as_slice(), node) {
@@ -184,8 +184,8 @@ fn sift(print: &[u64; 4], prints: &Lanes, found: &mut Vec<u32>) -> usize
 // The print that is kept of the node, which has this block: of what can block no other node an empty one, which has no
 // print in it.
 fn print_to_keep<A: Allocator + Copy>(tree: &Tree<A>, node: u32, block: Block) -> [u64; 4]
-    requires { block ≡ block_of (facts_in tree.now) node }
-    ensures { IsSound (facts_in tree.now) node result }
+    requires { block ≡ block_of tree.now.first (facts_in tree.now.entries) node }
+    ensures { IsSound tree.now.first (facts_in tree.now.entries) node result }
 {
     if is_clear_block(block) && tree.representative(node) == node {
         print_of_all(tree, node)
@@ -197,7 +197,7 @@ fn print_to_keep<A: Allocator + Copy>(tree: &Tree<A>, node: u32, block: Block) -
 // A print with the bit of each concept that a node has. Where there are many, nearly every bit is one of theirs.
 fn print_of_all<A: Allocator + Copy>(tree: &Tree<A>, node: u32) -> [u64; 4]
     ensures words { length result ≡ 4 }
-    ensures shows { ShowsAll (facts_in tree.now) node result }
+    ensures shows { ShowsAll (facts_in tree.now.entries) node result }
 {
     let label = tree.label(node);
     if label.len() > MANY {
@@ -208,18 +208,18 @@ fn print_of_all<A: Allocator + Copy>(tree: &Tree<A>, node: u32) -> [u64; 4]
 
 // The print of what a node has, where it is much, of the first part of it: what has everything has that too.
 fn print_to_ask<A: Allocator + Copy>(tree: &Tree<A>, node: u32) -> [u64; 4]
-    ensures shows { IsPrintWithin (label_of (facts_in tree.now) node) result }
+    ensures shows { IsPrintWithin (label_of (facts_in tree.now.entries) node) result }
     ensures words { length result ≡ 4 }
 {
     let label = tree.label(node);
     print_of(&label[..label.len().min(MANY)])
 }
 
-/// Whether the search goes on below a representative.
+/// Whether the search goes on below a representative. A first node is clear.
 pub fn state<A: Allocator + Copy>(tree: &Tree<A>, prints: &Blocks, node: u32) -> Block
-    requires node { node < node_count (facts_in tree.now) }
-    requires current { IsCurrent (facts_in tree.now) prints.now }
-    ensures { result ≡ block_of (facts_in tree.now) node }
+    requires node { node < node_count_from tree.now.first (facts_in tree.now.entries) }
+    requires current { IsCurrent tree.now.first (facts_in tree.now.entries) prints.now }
+    ensures { result ≡ block_of tree.now.first (facts_in tree.now.entries) node }
 {
     let _ = tree;
     prints.blocks[node as usize]
@@ -227,8 +227,8 @@ pub fn state<A: Allocator + Copy>(tree: &Tree<A>, prints: &Blocks, node: u32) ->
 
 /// Whether nodes may be made below a representative: whether it is clear. A number that is no node's is not.
 pub fn is_clear<A: Allocator + Copy>(tree: &Tree<A>, prints: &Blocks, node: u32) -> bool
-    requires { IsCurrent (facts_in tree.now) prints.now }
-    ensures { IsTrue result ↔ (block_of (facts_in tree.now) node ≡ Clear) }
+    requires { IsCurrent tree.now.first (facts_in tree.now.entries) prints.now }
+    ensures { IsTrue result ↔ (block_of tree.now.first (facts_in tree.now.entries) node ≡ Clear) }
 {
     if node >= tree.nodes() {
         return is_clear_beyond(tree, node);
@@ -236,12 +236,13 @@ pub fn is_clear<A: Allocator + Copy>(tree: &Tree<A>, prints: &Blocks, node: u32)
     is_clear_block(state(tree, prints, node))
 }
 
-// A number that is no node's has what node 0 has, by which it is blocked.
+// A number that is no node's has no more than node 0 has, a first node, by which it is blocked.
 fn is_clear_beyond<A: Allocator + Copy>(tree: &Tree<A>, node: u32) -> bool
-    requires { node_count (facts_in tree.now) ≤ node }
+    requires { node_count_from tree.now.first (facts_in tree.now.entries) ≤ node }
     ensures no { result ≡ false }
-    ensures blocked { block_of (facts_in tree.now) node ≡ By 0 }
+    ensures blocked { block_of tree.now.first (facts_in tree.now.entries) node ≡ By 0 }
 {
+    let _ = tree.first();
     let _ = tree.label(node);
     false
 }
@@ -268,8 +269,8 @@ fn is_clear_at(blocks: &[Block], node: u32) -> bool
 
 // Whether the representative of the node's parent is clear, if there is one.
 fn has_clear_parent<A: Allocator + Copy>(tree: &Tree<A>, blocks: &[Block], node: u32) -> bool
-    requires { node < node_count (facts_in tree.now) }
-    ensures { result ≡ is_parent_clear (facts_in tree.now) blocks.now (parent_of (facts_in tree.now) node) }
+    requires { node < node_count_from tree.now.first (facts_in tree.now.entries) }
+    ensures { result ≡ is_parent_clear (facts_in tree.now.entries) blocks.now (parent_from tree.now.first (facts_in tree.now.entries) node) }
 {
     match tree.parent(node) {
         None => true,
@@ -284,7 +285,7 @@ fn first_blocking<A: Allocator + Copy>(
     found: &[u32],
     node: u32,
 ) -> Block
-    ensures { result ≡ blocked_among (facts_in tree.now) blocks.now node found.now }
+    ensures { result ≡ blocked_among (facts_in tree.now.entries) blocks.now node found.now }
 {
     for other in found {
         if may_block_node(tree, blocks, node, *other) {
@@ -301,7 +302,7 @@ fn may_block_node<A: Allocator + Copy>(
     node: u32,
     other: u32,
 ) -> bool
-    ensures { result ≡ may_block (facts_in tree.now) blocks.now node other }
+    ensures { result ≡ may_block (facts_in tree.now.entries) blocks.now node other }
 {
     tree.representative(other) == other
         && is_clear_at(blocks, other)
@@ -310,13 +311,13 @@ fn may_block_node<A: Allocator + Copy>(
 
 // Whether the first node has all that the second has.
 fn has_label_of<A: Allocator + Copy>(tree: &Tree<A>, other: u32, node: u32) -> bool
-    ensures { result ≡ is_label_part (facts_in tree.now) node other }
+    ensures { result ≡ is_label_part (facts_in tree.now.entries) node other }
 {
     has_all(tree, other, tree.label(node))
 }
 
 fn has_all<A: Allocator + Copy>(tree: &Tree<A>, node: u32, concepts: &[u32]) -> bool
-    ensures { result ≡ list_all (has_concept (facts_in tree.now) node) concepts.now }
+    ensures { result ≡ list_all (has_concept (facts_in tree.now.entries) node) concepts.now }
 {
     for concept in concepts {
         if !tree.has(node, *concept) {

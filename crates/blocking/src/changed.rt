@@ -1,7 +1,7 @@
 // Where a tree changed.
-ghost use Rattle.std.specs.Prelude.{◌≡◌, ◌≤◌, min, length, take, drop};
+ghost use Rattle.std.specs.Prelude.{◌≡◌, ◌≤◌, nat_lt, min, length, take, drop, if◌then◌else◌};
 ghost use Rattle.calculus_specs.specs.Joins.{rep};
-ghost use Rattle.calculus_specs.specs.State.{node_count, HasParentsBefore};
+ghost use Rattle.calculus_specs.specs.State.{node_count_from, HaveParentsBefore};
 ghost use Rattle.completion_tree.specs.Trail.{facts_in};
 ghost use Rattle.tableau_specs.specs.BlockLaws.{AllLeaveBelow};
 ghost use Rattle.blocking.specs.Followed.{Printed, AreBlocksBelow};
@@ -16,9 +16,9 @@ use std::alloc::Allocator;
 ///
 /// Ask before the facts are taken back, or after they are put.
 pub fn least_changed<A: Allocator + Copy>(tree: &Tree<A>, place: u32) -> u32
-    requires { place ≤ length tree.now }
-    ensures leaves { AllLeaveBelow (facts_in (take place tree.now)) (facts_in (drop place tree.now)) result }
-    ensures least { result ≡ least_touched (rep (facts_in tree.now)) (node_count (facts_in tree.now)) (facts_in (drop place tree.now)) }
+    requires { place ≤ length tree.now.entries }
+    ensures leaves { AllLeaveBelow tree.now.first (facts_in (take place tree.now.entries)) (facts_in (drop place tree.now.entries)) result }
+    ensures least { result ≡ least_touched tree.now.first (rep (facts_in tree.now.entries)) (node_count_from tree.now.first (facts_in tree.now.entries)) (facts_in (drop place tree.now.entries)) }
 {
     let mut least = tree.nodes();
     for at in place..tree.len() {
@@ -30,10 +30,10 @@ pub fn least_changed<A: Allocator + Copy>(tree: &Tree<A>, place: u32) -> u32
 /// After facts were put from a place of the trail on: a node below which the blocks are current, where they were so
 /// below `from` before.
 pub fn still_current<A: Allocator + Copy>(tree: &Tree<A>, place: u32, from: u32) -> u32
-    requires place { place ≤ length tree.now }
-    requires parents { HasParentsBefore (facts_in tree.now) }
-    ensures stand { (p : Printed) → AreBlocksBelow (facts_in (take place tree.now)) from p → AreBlocksBelow (facts_in tree.now) result p }
-    ensures least { result ≡ min from (least_touched (rep (facts_in tree.now)) (node_count (facts_in tree.now)) (facts_in (drop place tree.now))) }
+    requires place { place ≤ length tree.now.entries }
+    requires parents { HaveParentsBefore tree.now.first (facts_in tree.now.entries) }
+    ensures stand { (p : Printed) → AreBlocksBelow tree.now.first (facts_in (take place tree.now.entries)) from p → AreBlocksBelow tree.now.first (facts_in tree.now.entries) result p }
+    ensures least { result ≡ min from (least_touched tree.now.first (rep (facts_in tree.now.entries)) (node_count_from tree.now.first (facts_in tree.now.entries)) (facts_in (drop place tree.now.entries))) }
 {
     from.min(least_changed(tree, place))
 }
@@ -41,17 +41,17 @@ pub fn still_current<A: Allocator + Copy>(tree: &Tree<A>, place: u32, from: u32)
 /// Before the facts from a place of the trail on are taken back: a node below which the blocks will be current, of the
 /// nodes that there are then, where they are so below `from` now.
 pub fn current_before<A: Allocator + Copy>(tree: &Tree<A>, place: u32, from: u32) -> u32
-    requires place { place ≤ length tree.now }
-    requires parents { HasParentsBefore (facts_in tree.now) }
-    ensures stand { (p : Printed) → AreBlocksBelow (facts_in tree.now) from p
-        → AreBlocksBelow (facts_in (take place tree.now)) (min result (node_count (facts_in (take place tree.now)))) p }
-    ensures least { result ≡ min from (least_touched (rep (facts_in tree.now)) (node_count (facts_in tree.now)) (facts_in (drop place tree.now))) }
+    requires place { place ≤ length tree.now.entries }
+    requires parents { HaveParentsBefore tree.now.first (facts_in tree.now.entries) }
+    ensures stand { (p : Printed) → AreBlocksBelow tree.now.first (facts_in tree.now.entries) from p
+        → AreBlocksBelow tree.now.first (facts_in (take place tree.now.entries)) (min result (node_count_from tree.now.first (facts_in (take place tree.now.entries)))) p }
+    ensures least { result ≡ min from (least_touched tree.now.first (rep (facts_in tree.now.entries)) (node_count_from tree.now.first (facts_in tree.now.entries)) (facts_in (drop place tree.now.entries))) }
 {
     from.min(least_changed(tree, place))
 }
 
 fn least_with_item<A: Allocator + Copy>(tree: &Tree<A>, bound: u32, item: Item) -> u32
-    ensures { result ≡ least_of_item (rep (facts_in tree.now)) bound item }
+    ensures { result ≡ least_of_item tree.now.first (rep (facts_in tree.now.entries)) bound item }
 {
     match item {
         Item::Fact(fact) => least_with_fact(tree, bound, fact),
@@ -60,14 +60,24 @@ fn least_with_item<A: Allocator + Copy>(tree: &Tree<A>, bound: u32, item: Item) 
 }
 
 fn least_with_fact<A: Allocator + Copy>(tree: &Tree<A>, bound: u32, fact: Fact<u32>) -> u32
-    ensures { result ≡ least_with (rep (facts_in tree.now)) bound fact }
+    ensures { result ≡ least_with tree.now.first (rep (facts_in tree.now.entries)) bound fact }
 {
     match fact {
         Fact::Has(node, _) => bound.min(tree.representative(node)),
-        Fact::Edge(_, _, end) => bound.min(end),
+        Fact::Edge(_, _, end) => least_with_edge(tree, bound, end),
         Fact::Apart(_, _) => bound,
         Fact::Same(first, second) => bound
             .min(tree.representative(first))
             .min(tree.representative(second)),
     }
+}
+
+// A first node has no parent, whatever edge leads to it.
+fn least_with_edge<A: Allocator + Copy>(tree: &Tree<A>, bound: u32, end: u32) -> u32
+    ensures { result ≡ if nat_lt end tree.now.first then bound else min bound end }
+{
+    if end < tree.first() {
+        return bound;
+    }
+    bound.min(end)
 }

@@ -4,11 +4,11 @@
 //! earlier nodes; F. Baader, M. Buchheit and B. Hollunder, *Cardinality Restrictions on Concepts*, Artificial
 //! Intelligence 88, 1996). [`Blocks`] keeps the block of each node, and for each node that may block others a print of
 //! 256 bits of what it has: a node whose label is part of another's has a print that is part of the other's. So few
-//! nodes are tested exactly.
+//! nodes are tested exactly. The first nodes, with which a tree begins, are never blocked.
 //!
-//! The block of a node rests on the nodes up to it alone. So [`Blocks::follow`] looks at those nodes alone from which
-//! on something changed: [`still_current`] says from which on where facts were put, and [`current_before`] where they
-//! will be taken back.
+//! The block of a node rests on the nodes up to it alone, and on no edge that leads to a first node. So
+//! [`Blocks::follow`] looks at those nodes alone from which on something changed: [`still_current`] says from which on
+//! where facts were put, and [`current_before`] where they will be taken back.
 #![tactic(auto)]
 
 mod block_list;

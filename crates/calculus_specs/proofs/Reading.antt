@@ -13,7 +13,7 @@ use Rattle.calculus_specs.proofs.Unique.{tree_of_shape, numbers_unique}
 use Rattle.calculus_specs.specs.declared.facts.Fact.{Fact}
 use Rattle.calculus_specs.specs.declared.facts.Fact.TheVariants.{Has, Edge, Apart, Same}
 use Rattle.calculus_specs.specs.Joins.{rep, rep_from, rep_after}
-use Rattle.calculus_specs.specs.State.{node_count, first_origin, gives_concept, is_given, has, has_tree, gives_edge, gives_apart}
+use Rattle.calculus_specs.specs.State.{node_count_from, first_origin, gives_concept, is_given, has, has_tree, gives_edge, gives_apart}
 use Rattle.calculus_specs.specs.Reading.{read_facts, are_listed}
 use Rattle.calculus_specs.specs.FactLaws.{KeepsState}
 
@@ -30,12 +30,12 @@ module _ (C D : Type 0) (read : C → D) where
   pub reps-read : (fs : List (Fact C)) → rep (read_facts read fs) ≡ rep fs
   reps-read fs i x = rep_from-read (λ y. y) fs x i
 
-  count-read : (fs : List (Fact C)) → node_count (read_facts read fs) ≡ node_count fs
-  count-read [] = refl
-  count-read (Has y c ∷ fs) = count-read fs
-  count-read (Edge r y z ∷ fs) = ap (max (z + 1)) (count-read fs)
-  count-read (Apart y z ∷ fs) = count-read fs
-  count-read (Same y z ∷ fs) = count-read fs
+  count-read : (first : ℕ) (fs : List (Fact C)) → node_count_from first (read_facts read fs) ≡ node_count_from first fs
+  count-read first [] = refl
+  count-read first (Has y c ∷ fs) = count-read first fs
+  count-read first (Edge r y z ∷ fs) = ap (max (z + 1)) (count-read first fs)
+  count-read first (Apart y z ∷ fs) = count-read first fs
+  count-read first (Same y z ∷ fs) = count-read first fs
 
   origin-read : (fs : List (Fact C)) (x : ℕ) → first_origin (read_facts read fs) x ≡ first_origin fs x
   origin-read [] x = refl
@@ -61,8 +61,8 @@ module _ (C D : Type 0) (read : C → D) where
   pub keeps_state : (fs : List (Fact C)) → KeepsState C D read fs
   keeps_state fs = record {
     reps = λ x. rep_from-read (λ y. y) fs x;
-    nodes = count-read fs;
-    parents = λ x. ap (λ (o : Option ℕ). cond (eqb x 0) None o) (origin-read fs x);
+    nodes = λ first. count-read first fs;
+    parents = λ first x. ap (λ (o : Option ℕ). cond (ltb x first) None o) (origin-read fs x);
     edges = λ roles x y. ap (λ (m : ℕ → ℕ). list_any (gives_edge roles m (m x) (m y)) (read_facts read fs)) (reps-read fs) ∙ any_edge-read roles (rep fs) (rep fs x) (rep fs y) fs;
     aparts = λ x y. ap (λ (m : ℕ → ℕ). list_any (gives_apart m (m x) (m y)) (read_facts read fs)) (reps-read fs) ∙ any_apart-read (rep fs) (rep fs x) (rep fs y) fs;
   }

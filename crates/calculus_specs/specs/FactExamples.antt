@@ -4,7 +4,7 @@ use Rattle.std.specs.Prelude.{◌≡◌, ℕ, ◌==◌, true, false, List, [], �
 use Rattle.calculus_specs.specs.declared.facts.Fact.{Fact}
 use Rattle.calculus_specs.specs.declared.facts.Fact.TheVariants.{Has, Edge, Apart, Same}
 use Rattle.calculus_specs.specs.Joins.{rep}
-use Rattle.calculus_specs.specs.State.{node_count, parent, has, label, successors, are_apart, all_apart, fresh_facts}
+use Rattle.calculus_specs.specs.State.{node_count_from, parent_from, has, label, successors_from, are_apart, all_apart, fresh_facts}
 
 abbrev three_below : List (Fact ℕ)
 three_below = fresh_facts 0 7 5 1 3
@@ -19,10 +19,10 @@ pub facts_in_order : three_below
     ≡ Edge 7 0 1 ∷ Has 1 5 ∷ Edge 7 0 2 ∷ Has 2 5 ∷ Edge 7 0 3 ∷ Has 3 5 ∷ Apart 1 2 ∷ Apart 1 3 ∷ Apart 2 3 ∷ []
 facts_in_order = refl
 
-pub nodes : node_count four_below ≡ 5
+pub nodes : node_count_from 1 four_below ≡ 5
 nodes = refl
 
-pub nodes_after : node_count joined ≡ 5
+pub nodes_after : node_count_from 1 joined ≡ 5
 nodes_after = refl
 
 pub alone : rep four_below 4 ≡ 4
@@ -34,19 +34,26 @@ least_joined = refl
 pub least_stays : rep joined 1 ≡ 1
 least_stays = refl
 
-pub parent_of_four : parent joined 4 ≡ Some 0
+pub parent_of_four : parent_from 1 joined 4 ≡ Some 0
 parent_of_four = refl
 
-pub no_parent : parent joined 0 ≡ None
+pub no_parent : parent_from 1 joined 0 ≡ None
 no_parent = refl
 
-pub four_successors : successors four_below (λ r. r == 7) 0 ≡ 1 ∷ 2 ∷ 3 ∷ 4 ∷ []
+-- where nodes 0 to 4 are the first ones, node 4 has no parent, and where there are six of them there are six nodes
+pub first_of_five : parent_from 5 joined 4 ≡ None
+first_of_five = refl
+
+pub six_first : node_count_from 6 joined ≡ 6
+six_first = refl
+
+pub four_successors : successors_from 1 four_below (λ r. r == 7) 0 ≡ 1 ∷ 2 ∷ 3 ∷ 4 ∷ []
 four_successors = refl
 
-pub three_successors : successors joined (λ r. r == 7) 0 ≡ 1 ∷ 2 ∷ 3 ∷ []
+pub three_successors : successors_from 1 joined (λ r. r == 7) 0 ≡ 1 ∷ 2 ∷ 3 ∷ []
 three_successors = refl
 
-pub none_by_another_role : successors joined (λ r. r == 8) 0 ≡ []
+pub none_by_another_role : successors_from 1 joined (λ r. r == 8) 0 ≡ []
 none_by_another_role = refl
 
 -- what one of two joined nodes has, both have; and each has top

@@ -5,7 +5,7 @@ use Rattle.calculus_specs.specs.Shape.{Shape, IsTable}
 use Rattle.calculus_specs.specs.Tree.{tree_of}
 use Rattle.calculus_specs.specs.declared.facts.Fact.{Fact}
 use Rattle.calculus_specs.specs.Joins.{rep, IsJoined}
-use Rattle.calculus_specs.specs.State.{node_count, parent, has, has_tree, has_edge, label, are_apart}
+use Rattle.calculus_specs.specs.State.{node_count_from, parent_from, has, has_tree, has_edge, label, are_apart}
 use Rattle.calculus_specs.specs.Reading.{read_facts, are_listed}
 
 -- a representative is joined to its node, and no node joined to that one is less
@@ -23,8 +23,8 @@ ApartIsSymmetric C = (fs : List (Fact C)) (x y : ℕ) → are_apart fs x y ≡ a
 -- what a reading of the concepts leaves as it is
 pub record KeepsState (C D : Type 0) (read : C → D) (fs : List (Fact C)) : Type 0 where
   pub reps : (x : ℕ) → rep (read_facts read fs) x ≡ rep fs x
-  pub nodes : node_count (read_facts read fs) ≡ node_count fs
-  pub parents : (x : ℕ) → parent (read_facts read fs) x ≡ parent fs x
+  pub nodes : (first : ℕ) → node_count_from first (read_facts read fs) ≡ node_count_from first fs
+  pub parents : (first x : ℕ) → parent_from first (read_facts read fs) x ≡ parent_from first fs x
   pub edges : (roles : ℕ → Bool) (x y : ℕ) → has_edge (read_facts read fs) roles x y ≡ has_edge fs roles x y
   pub aparts : (x y : ℕ) → are_apart (read_facts read fs) x y ≡ are_apart fs x y
 

@@ -1,5 +1,5 @@
 -- What a list of facts says of its nodes. Facts are read through representatives.
-use Rattle.std.specs.Prelude.{◌≡◌, ◌<◌, ℕ, zero, suc, ◌+◌, ◌==◌, ◌&&◌, ◌||◌, max, Bool, true, false, List, [], ◌∷◌, ◌++◌, Option, Some, None, if◌then◌else◌, filter}
+use Rattle.std.specs.Prelude.{◌≡◌, ◌<◌, ℕ, zero, suc, ◌+◌, ◌==◌, nat_lt, ◌&&◌, ◌||◌, max, Bool, true, false, List, [], ◌∷◌, ◌++◌, Option, Some, None, if◌then◌else◌, filter}
 use Rattle.std.specs.List.{list_any, list_all, range_with_len}
 use Rattle.shq_base.specs.Concept.{Concept}
 use Rattle.calculus_specs.specs.Same.{is_same}
@@ -10,13 +10,14 @@ use Rattle.calculus_specs.specs.Joins.{rep}
 
 -- ---- nodes
 
--- the number of nodes, where they are 0 and the ends of the edges: one more than the greatest of these
-abbrev pub node_count : {C : Type 0} → List (Fact C) → ℕ
-node_count [] = 1
-node_count (Edge r y z ∷ fs) = max (z + 1) (node_count fs)
-node_count (Has y c ∷ fs) = node_count fs
-node_count (Apart y z ∷ fs) = node_count fs
-node_count (Same y z ∷ fs) = node_count fs
+-- the number of nodes, where they are the first ones, of which there are `first`, and the ends of the edges: one more
+-- than the greatest of these
+abbrev pub node_count_from : {C : Type 0} → ℕ → List (Fact C) → ℕ
+node_count_from first [] = first
+node_count_from first (Edge r y z ∷ fs) = max (z + 1) (node_count_from first fs)
+node_count_from first (Has y c ∷ fs) = node_count_from first fs
+node_count_from first (Apart y z ∷ fs) = node_count_from first fs
+node_count_from first (Same y z ∷ fs) = node_count_from first fs
 
 -- where the first edge into a node begins
 abbrev pub first_origin : {C : Type 0} → List (Fact C) → ℕ → Option ℕ
@@ -26,9 +27,9 @@ first_origin (Has y c ∷ fs) x = first_origin fs x
 first_origin (Apart y z ∷ fs) x = first_origin fs x
 first_origin (Same y z ∷ fs) x = first_origin fs x
 
--- the parent of a node, which node 0 does not have
-abbrev pub parent : {C : Type 0} → List (Fact C) → ℕ → Option ℕ
-parent fs x = if x == 0 then None else first_origin fs x
+-- the parent of a node, which first nodes do not have
+abbrev pub parent_from : {C : Type 0} → ℕ → List (Fact C) → ℕ → Option ℕ
+parent_from first fs x = if nat_lt x first then None else first_origin fs x
 
 -- ---- concepts
 
@@ -85,8 +86,8 @@ abbrev pub is_successor : {C : Type 0} → List (Fact C) → (ℕ → Bool) → 
 is_successor fs roles x y = rep fs y == y && has_edge fs roles x y
 
 -- the successors of x by roles of a kind, ascending
-abbrev pub successors : {C : Type 0} → List (Fact C) → (ℕ → Bool) → ℕ → List ℕ
-successors fs roles x = filter (is_successor fs roles x) (range_with_len 0 (node_count fs))
+abbrev pub successors_from : {C : Type 0} → ℕ → List (Fact C) → (ℕ → Bool) → ℕ → List ℕ
+successors_from first fs roles x = filter (is_successor fs roles x) (range_with_len 0 (node_count_from first fs))
 
 -- ---- different nodes
 
@@ -136,6 +137,17 @@ is_so fs (Edge r x y) = has_edge fs (λ s. s == r) x y
 is_so fs (Apart x y) = are_apart fs x y
 is_so fs (Same x y) = rep fs x == rep fs y
 
+-- whether the fact speaks of the first n nodes alone
+abbrev pub speaks_below : {C : Type 0} → ℕ → Fact C → Bool
+speaks_below n (Has x c) = nat_lt x n
+speaks_below n (Edge r x y) = nat_lt x n && nat_lt y n
+speaks_below n (Apart y z) = nat_lt y n && nat_lt z n
+speaks_below n (Same y z) = nat_lt y n && nat_lt z n
+
+-- whether the facts speak of their own nodes alone
+abbrev pub speak_of_nodes : {C : Type 0} → ℕ → List (Fact C) → Bool
+speak_of_nodes first fs = list_all (speaks_below (node_count_from first fs)) fs
+
 -- each parent is less than its node
-abbrev pub HasParentsBefore : List (Fact ℕ) → Type 0
-HasParentsBefore fs = (x p : ℕ) → parent fs x ≡ Some p → p < x
+abbrev pub HaveParentsBefore : ℕ → List (Fact ℕ) → Type 0
+HaveParentsBefore first fs = (x p : ℕ) → parent_from first fs x ≡ Some p → p < x

@@ -78,7 +78,7 @@ fn add_axioms(alloc: Global, ontology: &mut Ontology) -> Result<(), AddFault>
     push(ontology, Axiom::Pair(0, 0, 4))
 }
 
-fn fill(alloc: Global, ontology: &mut Ontology) -> Result<(), AddFault>
+pub(crate) fn fill(alloc: Global, ontology: &mut Ontology) -> Result<(), AddFault>
     ensures { OnOk result (AreInLimit ontology.new.axioms) }
 {
     add_classes(ontology, &["A", "B"])?;

@@ -1,7 +1,9 @@
-//! Tests of roles, of normal forms, and of what the checker of refutations stands on: facts of a branch, cached rows
-//! and rule lines.
+//! Tests of roles, of normal forms, of the facts of assertions, and of what the checker of refutations stands on: facts
+//! of a branch, cached rows and rule lines.
 #![tactic(auto)]
 
+#[cfg(test)]
+mod assertion_tests;
 #[cfg(test)]
 mod branch_tests;
 #[cfg(test)]

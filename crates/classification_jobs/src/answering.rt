@@ -1,6 +1,6 @@
 // From the bytes of a document to the answer.
 ghost use Rattle.std.specs.Prelude.{◌≡◌, ◌≤◌, false, [], IfOk, IfErr, length};
-ghost use Rattle.ontology_limits.specs.Limits.{IsOntologyInLimit, IsOntologyWithoutIndividuals};
+ghost use Rattle.ontology_limits.specs.Limits.{IsOntologyInLimit};
 ghost use Rattle.job_inputs.specs.Answer.{text_bytes, is_fault};
 ghost use Rattle.classification_jobs.specs.Classifications.{IsClassifying, AnswersClassification};
 ghost use Rattle.classification_jobs.specs.Answering.{IsAnswered, IsAnsweredOn, IsUnanswered};
@@ -53,7 +53,6 @@ fn classified_on(
     log: &mut RunLog,
 ) -> Result<(Status, Text), NoMemory>
     requires in_limit { IsOntologyInLimit ontology.now }
-    requires without_individuals { IsOntologyWithoutIndividuals ontology.now }
     requires unlogged { log.old ≡ [] }
     ensures answer { IfOk result (λ a. IsAnsweredOn budget ontology.now log.new a.0 (text_bytes a.1)) }
     ensures begun { IsClassifying budget log.new ontology.now }

@@ -1,6 +1,6 @@
 // The relation of the classes, and the text of their taxonomy.
 ghost use Rattle.std.specs.Prelude.{◌≡◌, [], IfOk, IfErr, length};
-ghost use Rattle.ontology_limits.specs.Limits.{IsOntologyInLimit, IsOntologyWithoutIndividuals};
+ghost use Rattle.ontology_limits.specs.Limits.{IsOntologyInLimit};
 ghost use Rattle.classifier.specs.HonestLog.{IsClassificationLog};
 ghost use Rattle.classifier.specs.Rows.{holds};
 ghost use Rattle.classifier.specs.ClassificationClassified.{IsClassified};
@@ -29,7 +29,6 @@ pub(crate) fn relation_of(
     log: &mut RunLog,
 ) -> Result<Relation, Stop>
     requires in_limit { IsOntologyInLimit ontology.now }
-    requires without_individuals { IsOntologyWithoutIndividuals ontology.now }
     requires unlogged { log.old ≡ [] }
     ensures classified { IfOk result (IsClassified ontology.now log.new) }
     ensures stopped { IfErr result (IsStop budget log.new) }

@@ -3,7 +3,7 @@ use Rattle.std.proofs.Common.{◌≡◌, ℕ, ◌+◌, ◌<◌, ◌≤◌, ◌&&
 use Rattle.std.specs.List.{list_any}
 use Rattle.std.proofs.lemmas.Bool.{or_parts, or_cases, or_left, or_right, and_from}
 use Rattle.axiom_sets.specs.Sets.{Limited, IsFull}
-use Rattle.ontology_limits.specs.Limits.{IsInLimit, IsWithoutIndividuals}
+use Rattle.ontology_limits.specs.Limits.{IsInLimit}
 use Rattle.run_log.specs.declared.entry.Entry.{Entry}
 use Rattle.run_log.specs.declared.entry.Entry.TheVariants.{Test}
 use Rattle.run_log.specs.declared.entry.TestEnd.{TestEnd}
@@ -23,7 +23,7 @@ use Rattle.classifier.specs.Tests.{EndsAs, IsTested, AreAlike}
 use Rattle.classifier.specs.Excluded.{AsksNoExcluded}
 use Rattle.classifier.specs.Mirrors.{Mirrors, passed_up, passed_on}
 use Rattle.classifier.specs.Progress.{IsGoing, HasStopped, Advances, is_settled}
-use Rattle.classifier.proofs.InLimit.{query_in_limit, query_without_individuals}
+use Rattle.classifier.proofs.InLimit.{query_in_limit}
 use Rattle.classifier.proofs.Logged.{unanswered, one_more, asks_no_excluded, goes_on}
 use Rattle.classifier.proofs.Mirrored.{mirrors_no, mirrors_yes}
 
@@ -40,9 +40,6 @@ module _ (before : OracleLists) (p : Progress) (going : IsGoing before p) (x y :
   -- the question may be asked
   pub may_ask : (n : ℕ) → n ≡ p.known.count → IsInLimit before.ontology (query_at n x y)
   may_ask n same = subst (λ (k : ℕ). IsInLimit before.ontology (query_at k x y)) (sym (same ∙ going.mirrors.count_is)) (query_in_limit before.ontology x y going.in_limit (below x lx) (below y ly))
-
-  pub may_search : (n : ℕ) → n ≡ p.known.count → IsWithoutIndividuals before.ontology (query_at n x y)
-  may_search n same = subst (λ (k : ℕ). IsWithoutIndividuals before.ontology (query_at k x y)) (sym (same ∙ going.mirrors.count_is)) (query_without_individuals before.ontology x y going.without_individuals)
 
   pub is_new : (n : ℕ) → n ≡ p.known.count → IsAnswered before.log p.axioms (query_at n x y) → ⊥
   is_new n same = subst (λ (k : ℕ). IsAnswered before.log p.axioms (query_at k x y) → ⊥) (sym (same ∙ going.mirrors.count_is))
@@ -103,7 +100,6 @@ module _ (before : OracleLists) (p : Progress) (going : IsGoing before p) (x y :
       advances_yes steps u same so = record {
         going = record {
           in_limit = going.in_limit;
-          without_individuals = going.without_individuals;
           honest = honest_with steps (E.Yes u) same so (λ h. absurd (cc h));
           excluded = excluded_with steps (E.Yes u) so;
           goes_on = goes_on_with steps (E.Yes u) refl;
@@ -147,7 +143,6 @@ module _ (before : OracleLists) (p : Progress) (going : IsGoing before p) (x y :
       advances_no steps same so = record {
         going = record {
           in_limit = going.in_limit;
-          without_individuals = going.without_individuals;
           honest = honest_with steps E.No same so (λ h. absurd (cc h));
           excluded = excluded_with steps E.No so;
           goes_on = goes_on_with steps E.No refl;

@@ -8,7 +8,7 @@ use Rattle.shq_terms.specs.Uses.{uses_listed}
 use Rattle.role_box.specs.Counted.{counted_roles}
 use Rattle.role_box.specs.Simple.{are_simple, all_role_axioms}
 use Rattle.shq_nnf.specs.Counts.{has_counts_within}
-use Rattle.ontology_limits.specs.Limits.{IsOntologyInLimit, IsInLimit, IsOntologyWithoutIndividuals, IsWithoutIndividuals, has_enough_parts}
+use Rattle.ontology_limits.specs.Limits.{IsOntologyInLimit, IsInLimit, has_enough_parts}
 use Rattle.run_log.specs.HonestLog.{IsClass}
 use Rattle.classifier.specs.Subsumption.{class_at, query_at}
 
@@ -109,7 +109,3 @@ query_in_limit o x y limit lx ly =
       simple = ap (λ (rs : List ℕ). are_simple (all_role_axioms o.axioms) (rs ++ counted_roles (class_at n y))) (uncounted x lx) ∙ ap (λ (rs : List ℕ). are_simple (all_role_axioms o.axioms) ([] ++ rs)) (uncounted y ly);
       on_listed = refl;
     }
-
--- and it speaks of no individuals where the ontology has none
-pub query_without_individuals : (o : Listed) (x y : ℕ) → IsOntologyWithoutIndividuals o → IsWithoutIndividuals o (query_at (length o.classes) x y)
-query_without_individuals o x y without = record { ontology = without; on_any = refl }

@@ -5,7 +5,7 @@ use Rattle.shq_terms.specs.Listed.{Listed}
 use Rattle.shq_terms.specs.declared.axioms.On.TheVariants.{Any}
 use Rattle.shq_meaning.specs.Truth.{Entails}
 use Rattle.refutation_truth.specs.Theory.{all_axioms}
-use Rattle.ontology_limits.specs.Limits.{IsOntologyInLimit, IsInLimit, IsOntologyWithoutIndividuals, IsWithoutIndividuals}
+use Rattle.ontology_limits.specs.Limits.{IsOntologyInLimit, IsInLimit}
 use Rattle.run_log.specs.declared.entry.Entry.{Entry}
 use Rattle.run_log.specs.HonestLog.{IsClassificationLog}
 use Rattle.run_log.specs.Shown.{IsRuledOut}
@@ -27,7 +27,3 @@ SettledIsClassified = (o : Listed) (budget : ℕ) (log : List Entry) (known : Ro
 -- each question between two classes of an ontology within the limits is within them
 abbrev pub QuestionsAreInLimit : Type 0
 QuestionsAreInLimit = (o : Listed) (x y : ℕ) → IsOntologyInLimit o → x < length o.classes + 2 → y < length o.classes + 2 → IsInLimit o (query_at (length o.classes) x y)
-
--- and where the ontology has no individuals, it has none either
-abbrev pub QuestionsAreWithoutIndividuals : Type 0
-QuestionsAreWithoutIndividuals = (o : Listed) (x y : ℕ) → IsOntologyWithoutIndividuals o → IsWithoutIndividuals o (query_at (length o.classes) x y)

@@ -3,7 +3,7 @@ use Rattle.std.specs.Prelude.{◌≡◌, ℕ, ◌+◌, ◌<◌, ◌||◌, Bool, 
 use Rattle.std.specs.List.{list_any}
 use Rattle.std.specs.FinSet as set
 use Rattle.axiom_sets.specs.Sets.{Limited, IsFull}
-use Rattle.ontology_limits.specs.Limits.{IsOntologyInLimit, IsOntologyWithoutIndividuals}
+use Rattle.ontology_limits.specs.Limits.{IsOntologyInLimit}
 use Rattle.run_log.specs.Entries.{is_spent}
 use Rattle.run_log.specs.HonestLog.{IsWhole, IsClassificationLog}
 use Rattle.shq_oracle.specs.OracleLists.{OracleLists}
@@ -19,7 +19,6 @@ use Rattle.classifier.specs.Classified.{IsStop}
 -- the log
 pub record IsGoing (l : OracleLists) (p : Progress) : Type 0 where
   pub in_limit : IsOntologyInLimit l.ontology
-  pub without_individuals : IsOntologyWithoutIndividuals l.ontology
   pub honest : IsClassificationLog l.ontology l.budget l.log
   pub excluded : AsksNoExcluded l.log
   pub goes_on : list_any is_spent l.log ≡ false

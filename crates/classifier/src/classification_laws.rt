@@ -4,7 +4,7 @@
 //! own, and so does one that found that it is not. A classification keeps both sets of pairs beside the log of its
 //! tests; this says when they mirror the log, and that they do so after each test.
 // What follows of the tests of a classification.
-ghost use Rattle.classifier.specs.ClassificationLaws.{ExclusionsAreTrue, SettledIsClassified, QuestionsAreInLimit, QuestionsAreWithoutIndividuals};
+ghost use Rattle.classifier.specs.ClassificationLaws.{ExclusionsAreTrue, SettledIsClassified, QuestionsAreInLimit};
 
 /// What the log of a classification rules out does not follow from the axioms.
 pub fn exclusions_are_true()
@@ -20,9 +20,4 @@ pub fn settled_is_classified()
 /// Each question between two classes is within the limits of its ontology.
 pub fn questions_are_in_limit()
     ensures { QuestionsAreInLimit }
-{}
-
-/// Where the ontology has no individuals, no question between two classes has any.
-pub fn questions_are_without_individuals()
-    ensures { QuestionsAreWithoutIndividuals }
 {}

@@ -1,6 +1,6 @@
 // The classification of an ontology.
 ghost use Rattle.std.specs.Prelude.{◌≡◌, [], IfOk, IfErr};
-ghost use Rattle.ontology_limits.specs.Limits.{IsOntologyInLimit, IsOntologyWithoutIndividuals};
+ghost use Rattle.ontology_limits.specs.Limits.{IsOntologyInLimit};
 ghost use Rattle.run_log.specs.HonestLog.{IsClassificationLog};
 ghost use Rattle.classifier.specs.ClassificationClassified.{IsClassified, all_in_none, BeginsWith};
 ghost use Rattle.classifier.specs.Excluded.{AsksNoExcluded};
@@ -30,7 +30,6 @@ pub fn classify(
     requires same { oracle.old.ontology ≡ ontology.now }
     requires unlogged { oracle.old.log ≡ [] }
     requires in_limit { IsOntologyInLimit ontology.now }
-    requires without_individuals { IsOntologyWithoutIndividuals ontology.now }
 
     ensures classified { IfOk result (IsClassified ontology.now oracle.new.log) }
     ensures stopped { IfErr result (IsStop oracle.old.budget oracle.new.log) }

@@ -34,10 +34,7 @@ mod stop;
 mod testing;
 mod told;
 
-pub use classification_laws::{
-    exclusions_are_true, questions_are_in_limit, questions_are_without_individuals,
-    settled_is_classified,
-};
+pub use classification_laws::{exclusions_are_true, questions_are_in_limit, settled_is_classified};
 pub use classifying::classify;
 pub use matrix::BitMatrix;
 pub use relation::Relation;

@@ -2,7 +2,7 @@
 ghost use Rattle.std.specs.Prelude.{◌≡◌, ◌≤◌, false, length, IfOk, IfSome, OnOk, OnErr};
 ghost use Rattle.std.specs.List.{list_any};
 ghost use Rattle.shq_terms.specs.declared.axioms.On.TheVariants.{Any};
-ghost use Rattle.ontology_limits.specs.Limits.{IsInLimit, IsWithoutIndividuals};
+ghost use Rattle.ontology_limits.specs.Limits.{IsInLimit};
 ghost use Rattle.run_log.specs.Entries.{spent_of, is_spent, IsAnswered};
 ghost use Rattle.classifier.specs.Subsumption.{class_at, query_at};
 ghost use Rattle.shq_oracle.specs.ApartLists.{IsAbout};
@@ -41,7 +41,6 @@ pub(crate) fn test<'a>(
     requires listed { count ≡ length oracle.old.ontology.classes }
     requires limit { axioms.now.limit ≡ length oracle.old.ontology.axioms }
     requires in_limit { IsInLimit oracle.old.ontology (query_at count x y) }
-    requires without_individuals { IsWithoutIndividuals oracle.old.ontology (query_at count x y) }
     requires goes_on { list_any is_spent oracle.old.log ≡ false }
     requires is_new { IsAnswered oracle.old.log axioms.now (query_at count x y) → ⊥ }
     requires kept { IfSome kept.old (IsAbout oracle.old.ontology axioms.now (class_at count x)) }
@@ -73,7 +72,6 @@ fn decide<'a>(
     requires of_all { query.now.on ≡ Any }
     requires limit { axioms.now.limit ≡ length oracle.old.ontology.axioms }
     requires in_limit { IsInLimit oracle.old.ontology query.now }
-    requires without_individuals { IsWithoutIndividuals oracle.old.ontology query.now }
     requires goes_on { list_any is_spent oracle.old.log ≡ false }
     requires is_new { IsAnswered oracle.old.log axioms.now query.now → ⊥ }
     requires kept { IfSome kept.old (IsAbout oracle.old.ontology axioms.now query.now.sub) }
@@ -157,7 +155,6 @@ fn search<'a>(
 ) -> Result<Verdict, NoMemory>
     requires limit { axioms.now.limit ≡ length oracle.old.ontology.axioms }
     requires in_limit { IsInLimit oracle.old.ontology query.now }
-    requires without_individuals { IsWithoutIndividuals oracle.old.ontology query.now }
     requires goes_on { list_any is_spent oracle.old.log ≡ false }
     requires is_new { IsAnswered oracle.old.log axioms.now query.now → ⊥ }
     requires kept { IfSome kept.old (IsAbout oracle.old.ontology axioms.now query.now.sub) }

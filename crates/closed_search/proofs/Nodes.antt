@@ -4,7 +4,7 @@ use Rattle.std.specs.List.{list_all}
 use Rattle.std.specs.Option.{option_and_then, option_map}
 use Rattle.std.proofs.lemmas.Bool.{ne_eqb, and_from, and_parts}
 use Rattle.shq_terms.specs.Concept.{Concept, top, bottom, name, complement, intersection, union, some_of, all_of, at_least, at_most, exactly}
-use Rattle.calculus_specs.specs.Rows.{Theory}
+use Rattle.calculus_specs.specs.Rules.{Question}
 use Rattle.calculus_specs.specs.Line.{Line}
 use Rattle.calculus_specs.specs.Line.Line.{start_line, and_line, or_line, all_line, carry_line, row_line, range_line, some_line, least_line, choose_line, pair_line, bottom_line, clash_line, most_line, fact_line, differ_line}
 use Rattle.refutation_tree.specs.ReadBack.{has_nodes}
@@ -30,8 +30,8 @@ most_none x (Some (at_least n r c)) = refl
 most_none x (Some (at_most n r c)) = when_none (eqb 0 (n + 1)) _ (ne_eqb 0 (n + 1) (λ e. omega arith))
 most_none x (Some (exactly n r c)) = refl
 
-module _ (theory : Theory) (concept : ℕ → Option Concept) where
-  line_has_nodes : (l : Line) → ¬ (rule_of theory concept l ≡ None) → has_nodes l ≡ true
+module _ (q : Question) (concept : ℕ → Option Concept) where
+  line_has_nodes : (l : Line) → ¬ (rule_of q concept l ≡ None) → has_nodes l ≡ true
   line_has_nodes start_line h = refl
   line_has_nodes (and_line x c) h = refl
   line_has_nodes (or_line x c) h = refl
@@ -51,10 +51,10 @@ module _ (theory : Theory) (concept : ℕ → Option Concept) where
   line_has_nodes (differ_line y z) h = refl
 
   abbrev step : Noted → NotedLine → Option (List Noted)
-  step = noted_children theory concept
+  step = noted_children q concept
 
-  has_rule : (k : Noted) (l : NotedLine) (kids : List Noted) → step k l ≡ Some kids → ¬ (rule_of theory concept l.line ≡ None)
-  has_rule k l kids h none = let e : None ≡ Some kids = sym (ap (noted_by theory concept k l) none) ∙ h in cc
+  has_rule : (k : Noted) (l : NotedLine) (kids : List Noted) → step k l ≡ Some kids → ¬ (rule_of q concept l.line ≡ None)
+  has_rule k l kids h none = let e : None ≡ Some kids = sym (ap (noted_by q concept k l) none) ∙ h in cc
 
   abbrev lines_in : List NotedLine → List Line
   lines_in ls = map (λ l. l.line) ls

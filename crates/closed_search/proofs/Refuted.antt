@@ -1,27 +1,26 @@
 -- What is made of lines that close everything.
-use Rattle.std.proofs.Common.{◌≡◌, ℕ, ◌&&◌, ◌||◌, ◌<◌, ◌^◌, arith, Bool, true, List, [], ◌∷◌, map, length, Some, refl, ap, sym, ◌∙◌, subst}
+use Rattle.std.proofs.Common.{◌≡◌, ℕ, ◌&&◌, ◌||◌, ◌<◌, ◌^◌, arith, Bool, true, List, [], ◌∷◌, map, length, refl, ap, sym, ◌∙◌, subst}
 use Rattle.std.specs.List.{list_any, list_all}
 use Rattle.std.specs.FinSet as sets
 use Rattle.std.proofs.lemmas.Bool.{and_parts, and_from}
 use Rattle.std.proofs.lemmas.List.Elements.{All-tail}
-use Rattle.shq_terms.specs.Concept.{Concept}
 use Rattle.lane_sieve.specs.Sets.{IsPart}
 use Rattle.axiom_sets.specs.Sets.{Limited, IsWithin, member_list}
 use Rattle.shq_terms.specs.declared.axioms.Numbered.{Numbered}
+use Rattle.shq_terms.specs.declared.axioms.Query.{Query}
 use Rattle.shq_terms.specs.Listed.{Listed}
 use Rattle.calculus_specs.specs.Shape.{Shape, IsTable}
 use Rattle.calculus_specs.specs.Line.{Line}
 use Rattle.calculus_specs.specs.Line.Line.{start_line, and_line, or_line, all_line, carry_line, row_line, range_line, some_line, least_line, choose_line, pair_line, bottom_line, clash_line, most_line, fact_line, differ_line}
-use Rattle.calculus_specs.specs.Rules.{on_any, nothing_known}
+use Rattle.calculus_specs.specs.Rules.{nothing_known}
 use Rattle.calculus_specs.specs.Valid.{concept_at, IsRefutation}
 use Rattle.calculus_specs.proofs.Stack.{refutation_runs, run_refutes}
-use Rattle.refutation_truth.specs.Theory.{theory_of}
+use Rattle.refutation_truth.specs.Theory.{question_in}
 use Rattle.refutation_tree.specs.RefutationLists.{RefutationLists, IsKept}
 use Rattle.refutation_tree.specs.ReadBack.{has_nodes, is_small}
 use Rattle.refutation_tree.specs.Written.{shape_is_listed, line_is_listed, names_are_listed}
 use Rattle.tableau_specs.specs.Lines.{concept_in}
-use Rattle.search_trace.specs.Leaves.{leaves}
-use Rattle.search_trace.specs.Noted.{NotedLine, noted_children, noted_start}
+use Rattle.search_trace.specs.Noted.{NotedLine, start_of}
 use Rattle.search_trace.specs.Renumbered.{renumbered, Reads}
 use Rattle.search_trace.proofs.Plain.{refutes}
 use Rattle.search_trace.proofs.Named.{same_run}
@@ -29,7 +28,7 @@ use Rattle.closed_search.specs.Finished.{IsNumbered}
 use Rattle.search_trace.specs.Trace.{TraceLists, lines_in}
 use Rattle.closed_search.specs.Refuted.{concept_is_listed, uses_names, CloseAll, IsWrittenRefutation}
 use Rattle.closed_search.specs.Named.{uses_axiom, is_role_number, names_axiom, NamesAxioms}
-use Rattle.closed_search.proofs.SameTheory.{have_same_roles, have_same_parts}
+use Rattle.closed_search.proofs.SameTheory.{ask_the_same, have_same_parts}
 use Rattle.closed_search.proofs.Listed.{have_parts, shapes_listed, lines_listed, concepts_listed}
 use Rattle.closed_search.proofs.Nodes.{closing_has_nodes, have_nodes}
 
@@ -71,18 +70,17 @@ named_are_part axioms set lines named h k member =
 
 -- ---- validity
 
-pub closed_refutes : (axioms : List Numbered) (set : Limited) (table : List Shape) (named : Limited) (ls : List NotedLine) (r : RefutationLists) → set.limit ≡ length axioms
-    → IsNumbered table named (start_line ∷ map (λ l. l.line) ls) r → NamesAxioms axioms set r.lines r.axioms → (sub sup : Concept)
-    → leaves (noted_children (theory_of axioms (member_list set)) (concept_in table)) (noted_start sub sup ∷ []) ls ≡ Some []
-    → IsRefutation (on_any (theory_of axioms (member_list r.axioms)) sub sup) r.shapes r.lines
-closed_refutes axioms set table named ls r limit is names sub sup closes =
-    let one = theory_of axioms (member_list set) in
-    let other = theory_of axioms (member_list r.axioms) in
+pub closed_refutes : (o : Listed) (query : Query) (set : Limited) (table : List Shape) (named : Limited) (ls : List NotedLine) (r : RefutationLists) → set.limit ≡ length o.axioms
+    → IsNumbered table named (start_line ∷ map (λ l. l.line) ls) r → NamesAxioms o.axioms set r.lines r.axioms → CloseAll o set table query ls
+    → IsRefutation (question_in o (member_list r.axioms) query) r.shapes r.lines
+closed_refutes o query set table named ls r limit is names close =
+    let one = question_in o (member_list set) query in
+    let other = question_in o (member_list r.axioms) query in
     let reads = All-tail (Reads (concept_in table) (concept_at r.shapes) is.number') start_line (map (λ l. l.line) ls) is.reads in
-    let whole : IsRefutation (on_any one sub sup) r.shapes r.lines = subst (IsRefutation (on_any one sub sup) r.shapes) (sym is.lines_are) (refutes one sub sup (concept_in table) r.shapes is.number' ls reads closes) in
-    run_refutes (on_any other sub sup) r.shapes r.lines
-    (sym (same_run one other sub sup (concept_at r.shapes) (have_same_roles axioms set r.lines r.axioms limit names) r.lines (have_same_parts axioms set r.lines r.axioms limit names) (nothing_known ∷ []))
-    ∙ refutation_runs (on_any one sub sup) r.shapes r.lines whole)
+    let whole : IsRefutation one r.shapes r.lines = subst (IsRefutation one r.shapes) (sym is.lines_are) (refutes one close.at_first (concept_in table) r.shapes is.number' ls reads close.closes) in
+    run_refutes other r.shapes r.lines
+    (sym (same_run one other (concept_at r.shapes) (ask_the_same o query set r.lines r.axioms limit names) r.lines (have_same_parts o query set r.lines r.axioms limit names) (nothing_known ∷ []))
+    ∙ refutation_runs one r.shapes r.lines whole)
 
 -- ---- names
 
@@ -97,14 +95,14 @@ module _ (o : Listed) (set named : Limited) (table : List Shape) (trace : TraceL
       (shapes_listed o table r.shapes kept.are_shapes (is.kinds (concept_is_listed o table) (have_parts o table is_table) (concepts_listed o table lines all_use)))
       (ap (list_all (line_is_listed o)) is.lines_are ∙ lines_listed o table is.number' lines all_use)
 
-  pub written : set.limit ≡ length o.axioms → NamesAxioms o.axioms set r.lines r.axioms → IsWithin r.axioms.limit r.axioms.members → r.axioms.limit < 2 ^ 32 → list_all is_small r.lines ≡ true → (sub sup : Concept)
-      → CloseAll o set table sub sup trace.lines → IsWrittenRefutation o sub sup r
-  written limit names within few small sub sup closes =
-      let theory = theory_of o.axioms (member_list set) in
+  pub written : set.limit ≡ length o.axioms → NamesAxioms o.axioms set r.lines r.axioms → IsWithin r.axioms.limit r.axioms.members → r.axioms.limit < 2 ^ 32 → list_all is_small r.lines ≡ true → (query : Query)
+      → CloseAll o set table query trace.lines → IsWrittenRefutation o query r
+  written limit names within few small query close =
+      let asked = question_in o (member_list set) query in
       let plain = subst (λ (ls : List Line). IsNumbered table named ls r) begins is in
-      let nodes = closing_has_nodes theory (concept_in table) trace.lines (noted_start sub sup ∷ []) [] closes in
+      let nodes = closing_has_nodes asked (concept_in table) trace.lines (start_of asked ∷ []) [] close.closes in
       record {
-        refutes = closed_refutes o.axioms set table named trace.lines r limit plain names sub sup closes;
+        refutes = closed_refutes o query set table named trace.lines r limit plain names close;
         writable = record {
           kept = kept;
           limit = names.limit;

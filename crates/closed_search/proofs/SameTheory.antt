@@ -11,18 +11,21 @@ use Rattle.axiom_sets.specs.Sets.{Limited, member_list}
 use Rattle.shq_terms.specs.declared.axioms.Axiom.{Axiom}
 use Rattle.shq_terms.specs.declared.axioms.Axiom.TheVariants.{SubClassOf, EquivalentClasses, DisjointClasses, DisjointUnion, SubRole, EquivalentRoles, Domain, Range, Functional, Transitive, Member, Pair, SameAll, Different}
 use Rattle.shq_terms.specs.declared.axioms.Numbered.{Numbered}
-use Rattle.calculus_specs.specs.Rows.{Theory, is_among, part_at}
+use Rattle.shq_terms.specs.declared.axioms.Query.{Query}
+use Rattle.shq_terms.specs.Listed.{Listed}
+use Rattle.calculus_specs.specs.Rows.{is_among, part_at}
+use Rattle.calculus_specs.specs.Rules.{Question}
 use Rattle.shq_nnf.specs.Meeting.{is_role_axiom}
 use Rattle.shq_nnf.specs.Parts.{part_in}
 use Rattle.role_box.specs.RoleAxioms.{role_part, role_part_at, role_axioms}
 use Rattle.role_box.specs.declared.role_axiom.RoleAxiom.{RoleAxiom}
 use Rattle.role_box.specs.Steps.{is_transitive}
 use Rattle.role_box.specs.Paths.{is_below}
-use Rattle.refutation_truth.specs.Theory.{theory_of, parts_at}
+use Rattle.refutation_truth.specs.Theory.{parts_at, listed_fact, fact_in, question_in}
 use Rattle.refutation_truth.proofs.Numbered.{numbered}
 use Rattle.calculus_specs.specs.Line.{Line}
 use Rattle.calculus_specs.specs.Line.Line.{start_line, and_line, or_line, all_line, carry_line, row_line, range_line, some_line, least_line, choose_line, pair_line, bottom_line, clash_line, most_line, fact_line, differ_line}
-use Rattle.search_trace.specs.Named.{HaveSameRoles, HaveSamePart}
+use Rattle.search_trace.specs.Named.{AskTheSame, HaveSamePart}
 use Rattle.closed_search.specs.Named.{says_of_roles, is_role_number, uses_axiom, NamesAxioms}
 
 -- ---- roles
@@ -76,7 +79,10 @@ named_by : (s r u : Bool) → (r || u) ≡ true → (s && (r || u)) ≡ s
 named_by true r u h = h
 named_by false r u h = refl
 
-module _ (axioms : List Numbered) (set : Limited) (lines : List Line) (named : Limited) (limit : set.limit ≡ length axioms) (h : NamesAxioms axioms set lines named) where
+module _ (o : Listed) (query : Query) (set : Limited) (lines : List Line) (named : Limited) (limit : set.limit ≡ length o.axioms) (h : NamesAxioms o.axioms set lines named) where
+  abbrev axioms : List Numbered
+  axioms = o.axioms
+
   same_limit : set.limit ≡ named.limit
   same_limit = limit ∙ sym h.limit
 
@@ -92,16 +98,22 @@ module _ (axioms : List Numbered) (set : Limited) (lines : List Line) (named : L
         | inr isnt ↦ inr (no_roles_at (slice_get axioms (k - 1)) isnt)
       ]) 0 (named.limit + 1)
 
-  abbrev one : Theory
-  one = theory_of axioms (member_list set)
+  abbrev one : Question
+  one = question_in o (member_list set) query
 
-  abbrev other : Theory
-  other = theory_of axioms (member_list named)
+  abbrev other : Question
+  other = question_in o (member_list named) query
 
-  pub have_same_roles : HaveSameRoles one other
-  have_same_roles = record {
-    below = λ r s. ap (λ (rs : List RoleAxiom). is_below rs r s) same_roles;
-    transitive = λ t. ap (λ (rs : List RoleAxiom). is_transitive rs t) same_roles;
+  pub ask_the_same : AskTheSame one other
+  ask_the_same = record {
+    roles = record {
+      below = λ r s. ap (λ (rs : List RoleAxiom). is_below rs r s) same_roles;
+      transitive = λ t. ap (λ (rs : List RoleAxiom). is_transitive rs t) same_roles;
+    };
+    sub = refl;
+    sup = refl;
+    first = refl;
+    at = refl;
   }
 
   same_among : (a : ℕ) → list_any (uses_axiom a) lines ≡ true → is_among (member_list set) a ≡ is_among (member_list named) a
@@ -111,20 +123,28 @@ module _ (axioms : List Numbered) (set : Limited) (lines : List Line) (named : L
       ∙ (λ i. e i && (leb 0 a && ltb a (0 + (same_limit i + 1))))
       ∙ sym (any-passing (sets.contains named.members) 0 (named.limit + 1) a)
 
-  same_part : (a p : ℕ) → list_any (uses_axiom a) lines ≡ true → part_at one a p ≡ part_at other a p
+  same_part : (a p : ℕ) → list_any (uses_axiom a) lines ≡ true → part_at one.theory a p ≡ part_at other.theory a p
   same_part a p used =
       numbered axioms (member_list set) a p
       ∙ ap (λ (b : Bool). cond ((b && leb 1 p) && leb p (length (parts_at axioms a))) (Some (part_in (parts_at axioms a) (p - 1))) None) (same_among a used)
       ∙ sym (numbered axioms (member_list named) a p)
 
-  in_line : (l : Line) → ((a p : ℕ) → uses_axiom a l ≡ true → part_at one a p ≡ part_at other a p) → HaveSamePart one other l
+  same_fact : (a p : ℕ) → list_any (uses_axiom a) lines ≡ true → one.fact_of a p ≡ other.fact_of a p
+  same_fact a p used = ap (λ (b : Bool). cond b (listed_fact (length o.individuals) (fact_in (slice_get axioms (a - 1)) p)) None) (same_among a used)
+
+  -- an axiom says the same to both
+  record SaysTheSame (a : ℕ) : Type 0 where
+    part : (p : ℕ) → part_at one.theory a p ≡ part_at other.theory a p
+    fact : (p : ℕ) → one.fact_of a p ≡ other.fact_of a p
+
+  in_line : (l : Line) → ((a : ℕ) → uses_axiom a l ≡ true → SaysTheSame a) → HaveSamePart one other l
   in_line start_line same = tt
   in_line (and_line x c) same = tt
   in_line (or_line x c) same = tt
   in_line (all_line x y c) same = tt
   in_line (carry_line x y r c) same = tt
-  in_line (row_line x a p is) same = same a p (eq-eqb a a refl)
-  in_line (range_line x y a) same = same a 1 (eq-eqb a a refl)
+  in_line (row_line x a p is) same = (same a (eq-eqb a a refl)).part p
+  in_line (range_line x y a) same = (same a (eq-eqb a a refl)).part 1
   in_line (some_line x y c) same = tt
   in_line (least_line x y c) same = tt
   in_line (choose_line y c) same = tt
@@ -132,14 +152,14 @@ module _ (axioms : List Numbered) (set : Limited) (lines : List Line) (named : L
   in_line (bottom_line x) same = tt
   in_line (clash_line x c) same = tt
   in_line (most_line x c ys) same = tt
-  in_line (fact_line a p) same = tt
+  in_line (fact_line a p) same = (same a (eq-eqb a a refl)).fact p
   in_line (differ_line y z) same = tt
 
-  in_lines : (ls : List Line) → ((a p : ℕ) → list_any (uses_axiom a) ls ≡ true → part_at one a p ≡ part_at other a p) → All (HaveSamePart one other) ls
+  in_lines : (ls : List Line) → ((a : ℕ) → list_any (uses_axiom a) ls ≡ true → SaysTheSame a) → All (HaveSamePart one other) ls
   in_lines [] same = All-nil (HaveSamePart one other)
   in_lines (l ∷ ls) same =
-      All-cons (HaveSamePart one other) l ls (in_line l (λ a p u. same a p (or_left (uses_axiom a l) (list_any (uses_axiom a) ls) u)))
-      (in_lines ls (λ a p u. same a p (or_right (uses_axiom a l) (list_any (uses_axiom a) ls) u)))
+      All-cons (HaveSamePart one other) l ls (in_line l (λ a u. same a (or_left (uses_axiom a l) (list_any (uses_axiom a) ls) u)))
+      (in_lines ls (λ a u. same a (or_right (uses_axiom a l) (list_any (uses_axiom a) ls) u)))
 
   pub have_same_parts : All (HaveSamePart one other) lines
-  have_same_parts = in_lines lines same_part
+  have_same_parts = in_lines lines (λ a used. record { part = λ p. same_part a p used; fact = λ p. same_fact a p used })

@@ -91,7 +91,8 @@ fn with_concept(line: Line, number: u32) -> Line
         Line::Choose(node, _) => Line::Choose(node, number),
         Line::Clash(node, _) => Line::Clash(node, number),
         Line::Most(node, _, ends) => Line::Most(node, number, ends),
-        other => other,
+        other @ (Line::Start | Line::Row(..) | Line::Range(..) | Line::Pair(..)) => other,
+        other @ (Line::Bottom(..) | Line::Fact(..) | Line::Differ(..)) => other,
     }
 }
 

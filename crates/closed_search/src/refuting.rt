@@ -1,7 +1,7 @@
 // From a trace that is closed to its refutation.
 ghost use Rattle.std.specs.Prelude.{◌≡◌, true, IsTrue, IfOk, length};
 ghost use Rattle.std.specs.List.{list_all};
-ghost use Rattle.shq_terms.specs.Concept.{Concept};
+ghost use Rattle.shq_terms.specs.declared.axioms.Query.{Query};
 ghost use Rattle.lane_sieve.specs.Sets.{IsPart};
 ghost use Rattle.refutation_tree.specs.Written.{names_are_listed};
 ghost use Rattle.closed_search.specs.Finished.{are_over};
@@ -36,8 +36,8 @@ pub fn refutation_of(
     ensures axioms { IfOk result (λ r. NamesAxioms ontology.now.axioms set.now r.lines r.axioms) }
     ensures part { IfOk result (λ r. IsPart r.axioms.members set.now.members) }
     ensures listed { IfOk result (λ r. IsTrue (names_are_listed ontology.now r)) }
-    ensures refutes { IfOk result (λ r. (sub sup : Concept) → CloseAll ontology.now set.now concepts.now sub sup trace.lines
-        → IsWrittenRefutation ontology.now sub sup r) }
+    ensures refutes { IfOk result (λ r. (query : Query) → CloseAll ontology.now set.now concepts.now query trace.lines
+        → IsWrittenRefutation ontology.now query r) }
 {
     let _ = concepts.len();
     let lines = trace.into_lines(alloc)?;

@@ -2,13 +2,18 @@
 use Rattle.std.specs.Prelude.{◌≡◌, ℕ, ◌+◌, Bool, true, false, List, [], ◌∷◌, ◌++◌, Some, map, slice_get, if◌then◌else◌}
 use Rattle.calculus_specs.specs.declared.facts.Fact.{Fact}
 use Rattle.calculus_specs.specs.declared.facts.Fact.TheVariants.{Has, Edge, Apart, Same}
-use Rattle.calculus_specs.specs.State.{node_count, fresh_facts}
+use Rattle.calculus_specs.specs.State.{node_count_from, fresh_facts}
 use Rattle.tableau_specs.specs.declared.Choice.{Choice}
 use Rattle.tableau_specs.specs.declared.Item.{Item}
 use Rattle.tableau_specs.specs.declared.Item.TheVariants.{Fact as Says, Mark as Marks}
 use Rattle.completion_tree.specs.declared.tree.By.{By}
 use Rattle.completion_tree.specs.declared.tree.Entry.{Entry}
 use Rattle.completion_tree.specs.declared.tree.Entry.TheVariants.{Fact as Grounded, Mark}
+
+-- the entries of a trail over the first nodes, which are those below `first`
+pub record TreeEntries : Type 0 where
+  pub first : ℕ
+  pub entries : List Entry
 
 -- the facts of the entries, in order
 abbrev pub facts_in : List Entry → List (Fact ℕ)
@@ -29,8 +34,8 @@ abbrev pub grounded : By → List (Fact ℕ) → List Entry
 grounded by fs = map (λ f. Grounded f by) fs
 
 -- the entries with those of new nodes behind them, as many as `count`
-abbrev pub with_fresh : List Entry → ℕ → ℕ → ℕ → ℕ → By → List Entry
-with_fresh es x s e count by = es ++ grounded by (fresh_facts x s e (node_count (facts_in es)) count)
+abbrev pub with_fresh : TreeEntries → ℕ → ℕ → ℕ → ℕ → By → TreeEntries
+with_fresh t x s e count by = record t { entries = t.entries ++ grounded by (fresh_facts x s e (node_count_from t.first (facts_in t.entries)) count) }
 
 -- at this place stands a fact that rests on `by`
 pub record RestsOn (es : List Entry) (place : ℕ) (by : By) : Type 0 where

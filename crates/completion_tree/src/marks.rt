@@ -21,8 +21,8 @@ pub(crate) fn marks_behind<A: Allocator + Copy>(
     facts: &FactTree<A>,
     asked: Fact<u32>,
 ) -> Result<Deps, NoMemory>
-    requires same { facts.now ≡ facts_in trail.now }
-    requires holds { is_so facts.now asked ≡ true }
+    requires same { facts.now.facts ≡ facts_in trail.now }
+    requires holds { is_so facts.now.facts asked ≡ true }
     ensures { IfOk result (λ u. is_so (facts_within u trail.now) asked ≡ true) }
 {
     if is_top(asked) {
@@ -41,7 +41,7 @@ fn own_marks<A: Allocator + Copy>(
     facts: &FactTree<A>,
     asked: Fact<u32>,
 ) -> Result<Option<Deps>, NoMemory>
-    requires { facts.now ≡ facts_in trail.now }
+    requires { facts.now.facts ≡ facts_in trail.now }
     ensures { IfOk result (λ found. IfSome found (λ u. is_so (facts_within u trail.now) asked ≡ true)) }
 {
     match facts.ground(asked) {
@@ -56,8 +56,8 @@ fn own_marks_at<A: Allocator + Copy>(
     asked: Fact<u32>,
     index: usize,
 ) -> Result<Option<Deps>, NoMemory>
-    requires same { facts.now ≡ facts_in trail.now }
-    requires ground { IsGround facts.now asked index }
+    requires same { facts.now.facts ≡ facts_in trail.now }
+    requires ground { IsGround facts.now.facts asked index }
     ensures { IfOk result (λ found. IfSome found (λ u. is_so (facts_within u trail.now) asked ≡ true)) }
 {
     if !are_one(facts.fact(index), asked) {
@@ -91,8 +91,8 @@ fn marks_through_joins<A: Allocator + Copy>(
     facts: &FactTree<A>,
     asked: Fact<u32>,
 ) -> Result<Deps, NoMemory>
-    requires same { facts.now ≡ facts_in trail.now }
-    requires holds { is_so facts.now asked ≡ true }
+    requires same { facts.now.facts ≡ facts_in trail.now }
+    requires holds { is_so facts.now.facts asked ≡ true }
     ensures { IfOk result (λ u. is_so (facts_within u trail.now) asked ≡ true) }
 {
     let (first, second) = ends(facts, asked);
@@ -114,8 +114,8 @@ fn is_top(asked: Fact<u32>) -> bool
 
 // The representatives of the nodes that are asked about.
 fn ends<A: Allocator + Copy>(facts: &FactTree<A>, asked: Fact<u32>) -> (u32, u32)
-    ensures first { result.0 ≡ rep facts.now (first_node asked) }
-    ensures second { result.1 ≡ rep facts.now (second_node asked) }
+    ensures first { result.0 ≡ rep facts.now.facts (first_node asked) }
+    ensures second { result.1 ≡ rep facts.now.facts (second_node asked) }
 {
     match asked {
         Fact::Has(node, _) => (facts.representative(node), facts.representative(node)),
@@ -131,8 +131,8 @@ fn ground_marks<A: Allocator + Copy>(
     facts: &FactTree<A>,
     asked: Fact<u32>,
 ) -> Result<Deps, NoMemory>
-    requires { facts.now ≡ facts_in trail.now }
-    ensures { IfOk result (λ u. SomeWithin (gives (rep facts.now) asked) u trail.now) }
+    requires { facts.now.facts ≡ facts_in trail.now }
+    ensures { IfOk result (λ u. SomeWithin (gives (rep facts.now.facts) asked) u trail.now) }
 {
     if is_joining(asked) {
         return Ok(Deps::none());
@@ -164,11 +164,11 @@ fn with_joins<A: Allocator + Copy>(
     first: u32,
     second: u32,
 ) -> Result<Deps, NoMemory>
-    requires same { facts.now ≡ facts_in trail.now }
-    requires first { rep facts.now first ≡ first }
-    requires second { rep facts.now second ≡ second }
+    requires same { facts.now.facts ≡ facts_in trail.now }
+    requires first { rep facts.now.facts first ≡ first }
+    requires second { rep facts.now.facts second ≡ second }
     ensures more { IfOk result (λ u. set.is_subset ground u ≡ true) }
-    ensures joins { IfOk result (λ u. AreWithin (is_join (rep facts.now) first second) u trail.now) }
+    ensures joins { IfOk result (λ u. AreWithin (is_join (rep facts.now.facts) first second) u trail.now) }
 {
     if facts.is_alone(first) && facts.is_alone(second) {
         return Ok(ground);
@@ -185,7 +185,7 @@ fn with_all_joins<A: Allocator + Copy>(
     second: u32,
 ) -> Result<Deps, NoMemory>
     ensures more { IfOk result (λ u. set.is_subset ground u ≡ true) }
-    ensures joins { IfOk result (λ u. AreWithin (is_join (rep facts.now) first second) u trail.now) }
+    ensures joins { IfOk result (λ u. AreWithin (is_join (rep facts.now.facts) first second) u trail.now) }
 {
     let mut used = ground;
     for place in trail.joins() {
@@ -203,7 +203,7 @@ fn with_join<A: Allocator + Copy>(
     second: u32,
 ) -> Result<Deps, NoMemory>
     ensures more { IfOk result (λ u. set.is_subset used u ≡ true) }
-    ensures joins { IfOk result (λ u. AreWithin (is_join (rep facts.now) first second) u (entry.now ∷ [])) }
+    ensures joins { IfOk result (λ u. AreWithin (is_join (rep facts.now.facts) first second) u (entry.now ∷ [])) }
 {
     if !is_join_of(entry, facts, first, second) {
         return Ok(used);
@@ -219,7 +219,7 @@ fn is_join_of<A: Allocator + Copy>(
     first: u32,
     second: u32,
 ) -> bool
-    ensures { result ≡ passes (is_join (rep facts.now) first second) entry.now }
+    ensures { result ≡ passes (is_join (rep facts.now.facts) first second) entry.now }
 {
     match entry {
         Entry::Fact(fact, _) => joins(facts, *fact, first, second),
@@ -228,7 +228,7 @@ fn is_join_of<A: Allocator + Copy>(
 }
 
 fn joins<A: Allocator + Copy>(facts: &FactTree<A>, fact: Fact<u32>, first: u32, second: u32) -> bool
-    ensures { result ≡ is_join (rep facts.now) first second fact }
+    ensures { result ≡ is_join (rep facts.now.facts) first second fact }
 {
     match fact {
         Fact::Same(node, other) => {

@@ -1,9 +1,9 @@
 // The trail, and what its facts say.
 ghost use Rattle.std.specs.Prelude.{◌≡◌, ℕ, ◌+◌, ◌<◌, ◌≤◌, ◌^◌, [], ◌∷◌, ◌++◌, OnOk, OnErr, IfOk, length, take, drop, slice_get, Some, ◌==◌, true, IfSome, IfNone, IsNone};
 ghost use Rattle.calculus_specs.specs.Joins.{rep};
-ghost use Rattle.calculus_specs.specs.State.{node_count, has, has_edge, are_apart, parent as parent_of, HasParentsBefore, is_so};
+ghost use Rattle.calculus_specs.specs.State.{node_count_from, has, has_edge, are_apart, parent_from, HaveParentsBefore, is_so};
 ghost use Rattle.fact_tree.specs.Entries.{IsFit};
-ghost use Rattle.calculus_specs.specs.Listed.{IsLabel, IsOnce, AreEdges};
+ghost use Rattle.calculus_specs.specs.Listed.{IsLabel, IsOnce, AreEdges, AreJoined};
 ghost use Rattle.calculus_specs.specs.declared.facts.Fact.TheVariants.{Same};
 ghost use Rattle.completion_tree.specs.declared.tree.Entry.TheVariants.{Fact as Grounded, Mark as Marks};
 ghost use Rattle.completion_tree.specs.Trail.{facts_in, item_of, items_of, grounded, with_fresh, RestsOn, IsMarkAt};
@@ -60,38 +60,48 @@ pub struct Tree<A: Allocator> {
 }
 
 impl<A: Allocator> Model for Tree<A> {
-    ghost use Rattle.std.specs.Prelude.{◌≡◌, List};
-    ghost use Rattle.completion_tree.specs.declared.tree.Entry.{Entry as PlainEntry};
-    ghost use Rattle.completion_tree.specs.Trail.{facts_in};
+    ghost use Rattle.std.specs.Prelude.{◌≡◌};
+    ghost use Rattle.completion_tree.specs.Trail.{TreeEntries, facts_in};
     ghost use Rattle.std.specs.Coded.{codes};
     ghost use Rattle.axiom_sets.specs.contracts.deps.Deps as deps;
 
-    ghost Value = { List PlainEntry };
+    ghost Value = { TreeEntries };
 
     ghost coded = { Prim.hlevel (codes, deps.the_row.coded) };
 
-    ghost view = { λ t. t.trail };
+    ghost view = { λ t. record { first = t.facts.first; entries = t.trail } };
 
-    ghost invariant = { λ t. t.facts ≡ facts_in t.trail };
+    ghost invariant = { λ t. t.facts.facts ≡ facts_in t.trail };
 }
 
 impl<A: Allocator + Copy> Tree<A> {
-    /// Node 0, of which nothing is known.
+    /// The first nodes, so many from node 0 on, of which nothing is known.
     ///
     /// # Errors
     /// Memory may be refused.
-    pub fn new_in(alloc: A) -> Result<Tree<A>, NoMemory>
-        ensures { IfOk result (λ t. t ≡ []) }
+    pub fn new_in(alloc: A, first: u32) -> Result<Tree<A>, NoMemory>
+        requires { 0 < first }
+        ensures { IfOk result (λ t. t ≡ record { first = first; entries = [] }) }
     {
         Ok(Tree {
-            facts: FactTree::new_in(alloc)?,
+            facts: FactTree::new_in(alloc, first)?,
             trail: Trail::new_in(alloc),
         })
     }
 
+    /// How many first nodes there are.
+    pub fn first(&self) -> u32
+        ensures first { result ≡ self.now.first }
+        ensures some { 0 < result }
+        ensures nodes { result ≤ node_count_from self.now.first (facts_in self.now.entries) }
+    {
+        let _ = &self.trail;
+        self.facts.first()
+    }
+
     /// How many entries the trail has.
     pub fn len(&self) -> u32
-        ensures { result ≡ length self.now }
+        ensures { result ≡ length self.now.entries }
     {
         let _ = &self.facts;
         self.trail.len()
@@ -99,8 +109,8 @@ impl<A: Allocator + Copy> Tree<A> {
 
     /// The fact or the mark at a place, from 0.
     pub fn item(&self, place: u32) -> Item
-        requires { place < length self.now }
-        ensures { slice_get (items_of self.now) place ≡ Some result }
+        requires { place < length self.now.entries }
+        ensures { slice_get (items_of self.now.entries) place ≡ Some result }
     {
         let _ = &self.facts;
         item_at(self.trail.entry(place))
@@ -108,9 +118,9 @@ impl<A: Allocator + Copy> Tree<A> {
 
     /// What the fact at a place, from 0, rests on; none where a mark stands there.
     pub fn by(&self, place: u32) -> Option<&By>
-        requires { place < length self.now }
-        ensures some { IfSome result (λ by. RestsOn self.now place by.now) }
-        ensures none { IfNone result (IsMarkAt self.now place) }
+        requires { place < length self.now.entries }
+        ensures some { IfSome result (λ by. RestsOn self.now.entries place by.now) }
+        ensures none { IfNone result (IsMarkAt self.now.entries place) }
     {
         let _ = &self.facts;
         match self.trail.entry(place) {
@@ -121,8 +131,8 @@ impl<A: Allocator + Copy> Tree<A> {
 
     /// How many nodes there are.
     pub fn nodes(&self) -> u32
-        ensures count { result ≡ node_count (facts_in self.now) }
-        ensures parents { HasParentsBefore (facts_in self.now) }
+        ensures count { result ≡ node_count_from self.now.first (facts_in self.now.entries) }
+        ensures parents { HaveParentsBefore self.now.first (facts_in self.now.entries) }
         ensures small { result + 200 < 2 ^ 32 }
     {
         let _ = &self.trail;
@@ -131,26 +141,26 @@ impl<A: Allocator + Copy> Tree<A> {
 
     /// The least of the nodes that are one with a node.
     pub fn representative(&self, node: u32) -> u32
-        ensures { result ≡ rep (facts_in self.now) node }
+        ensures { result ≡ rep (facts_in self.now.entries) node }
     {
         let _ = &self.trail;
         self.facts.representative(node)
     }
 
-    /// The node from which the first edge leads to a node, which node 0 does not have.
+    /// The node from which the first edge leads to a node, which first nodes do not have.
     pub fn parent(&self, node: u32) -> Option<u32>
-        requires { node < node_count (facts_in self.now) }
-        ensures { result ≡ parent_of (facts_in self.now) node }
+        requires { node < node_count_from self.now.first (facts_in self.now.entries) }
+        ensures { result ≡ parent_from self.now.first (facts_in self.now.entries) node }
     {
         let _ = &self.trail;
         self.facts.parent(node)
     }
 
-    /// The first edge into a node: its role, and the node where it begins. Node 0 has none.
+    /// The first edge into a node that is no first node: its role, and the node where it begins.
     pub fn origin(&self, node: u32) -> Option<(u32, u32)>
-        requires { node < node_count (facts_in self.now) }
-        ensures none { IsNone result → node ≡ 0 }
-        ensures some { IfSome result (λ o. (has_edge (facts_in self.now) (λ s. s == o.0) o.1 node ≡ true) × (parent_of (facts_in self.now) node ≡ Some o.1)) }
+        requires { node < node_count_from self.now.first (facts_in self.now.entries) }
+        ensures none { IsNone result → node < self.now.first }
+        ensures some { IfSome result (λ o. (self.now.first ≤ node) × (has_edge (facts_in self.now.entries) (λ s. s == o.0) o.1 node ≡ true) × (parent_from self.now.first (facts_in self.now.entries) node ≡ Some o.1)) }
     {
         let _ = &self.trail;
         self.facts.origin(node)
@@ -158,7 +168,7 @@ impl<A: Allocator + Copy> Tree<A> {
 
     /// Whether a node has a concept. Each node has concept 0.
     pub fn has(&self, node: u32, concept: u32) -> bool
-        ensures { result ≡ has (facts_in self.now) node concept }
+        ensures { result ≡ has (facts_in self.now.entries) node concept }
     {
         let _ = &self.trail;
         self.facts.has(node, concept)
@@ -166,9 +176,9 @@ impl<A: Allocator + Copy> Tree<A> {
 
     /// What a node has, each concept once, in some order. A number that is no node's has concept 0 alone.
     pub fn label(&self, node: u32) -> &[u32]
-        ensures held { IsLabel (facts_in self.now) node result.now }
+        ensures held { IsLabel (facts_in self.now.entries) node result.now }
         ensures once { IsOnce result.now }
-        ensures beyond { node_count (facts_in self.now) ≤ node → result.now ≡ 0 ∷ [] }
+        ensures beyond { node_count_from self.now.first (facts_in self.now.entries) ≤ node → result.now ≡ 0 ∷ [] }
     {
         let _ = &self.trail;
         self.facts.label(node)
@@ -176,17 +186,26 @@ impl<A: Allocator + Copy> Tree<A> {
 
     /// The edges that begin at a node, each as its role and a node, whose representative is the end.
     pub fn edges(&self, node: u32) -> &[(u32, u32)]
-        ensures { AreEdges (facts_in self.now) node result.now }
+        ensures { AreEdges (facts_in self.now.entries) node result.now }
     {
         let _ = &self.trail;
         self.facts.edges(node)
     }
 
+    /// The nodes that are one with a node, in some order.
+    pub fn members(&self, node: u32) -> &[u32]
+        requires { node < node_count_from self.now.first (facts_in self.now.entries) }
+        ensures { AreJoined (facts_in self.now.entries) (node_count_from self.now.first (facts_in self.now.entries)) node result.now }
+    {
+        let _ = &self.trail;
+        self.facts.members(node)
+    }
+
     /// Whether two nodes are apart.
     pub fn are_apart(&self, first: u32, second: u32) -> bool
-        requires first { first < node_count (facts_in self.now) }
-        requires second { second < node_count (facts_in self.now) }
-        ensures { result ≡ are_apart (facts_in self.now) first second }
+        requires first { first < node_count_from self.now.first (facts_in self.now.entries) }
+        requires second { second < node_count_from self.now.first (facts_in self.now.entries) }
+        ensures { result ≡ are_apart (facts_in self.now.entries) first second }
     {
         let _ = &self.trail;
         self.facts.are_apart(first, second)
@@ -198,19 +217,20 @@ impl<A: Allocator + Copy> Tree<A> {
     /// # Errors
     /// Memory may be refused.
     pub fn marks_of(&self, alloc: Global, fact: Fact<u32>) -> Result<Deps, NoMemory>
-        requires { is_so (facts_in self.now) fact ≡ true }
-        ensures { IfOk result (λ marks. is_so (facts_within marks self.now) fact ≡ true) }
+        requires { is_so (facts_in self.now.entries) fact ≡ true }
+        ensures { IfOk result (λ marks. is_so (facts_within marks self.now.entries) fact ≡ true) }
     {
         marks_behind(alloc, &self.trail, &self.facts, fact)
     }
 
-    /// Puts a fact last, with what it rests on. Its nodes are there, or it is an edge to the next new node.
+    /// Puts a fact last, with what it rests on. Its nodes are there, or it is an edge to the next new node. An edge whose
+    /// end is there makes no node.
     ///
     /// # Errors
     /// Memory may be refused; nothing has changed then.
     pub fn add(&mut self, fact: Fact<u32>, by: By) -> Result<(), NoMemory>
-        requires { IsFit (node_count (facts_in self.old)) fact }
-        ensures added { OnOk result (self.new ≡ self.old ++ Grounded fact by ∷ []) }
+        requires { IsFit (node_count_from self.old.first (facts_in self.old.entries)) fact }
+        ensures added { OnOk result (self.new ≡ record self.old { entries = self.old.entries ++ Grounded fact by ∷ [] }) }
         ensures unchanged { OnErr result (self.new ≡ self.old) }
     {
         let len = self.facts.len();
@@ -229,9 +249,9 @@ impl<A: Allocator + Copy> Tree<A> {
     /// # Errors
     /// Memory may be refused; nothing has changed then.
     pub fn join(&mut self, first: u32, second: u32, by: By) -> Result<(), NoMemory>
-        requires first { first < node_count (facts_in self.old) }
-        requires second { second < node_count (facts_in self.old) }
-        ensures joined { OnOk result (self.new ≡ self.old ++ Grounded (Same first second) by ∷ []) }
+        requires first { first < node_count_from self.old.first (facts_in self.old.entries) }
+        requires second { second < node_count_from self.old.first (facts_in self.old.entries) }
+        ensures joined { OnOk result (self.new ≡ record self.old { entries = self.old.entries ++ Grounded (Same first second) by ∷ [] }) }
         ensures unchanged { OnErr result (self.new ≡ self.old) }
     {
         self.add(Fact::Same(first, second), by)
@@ -250,9 +270,9 @@ impl<A: Allocator + Copy> Tree<A> {
         count: u32,
         by: By,
     ) -> Result<u32, NoMemory>
-        requires node { node < node_count (facts_in self.old) }
+        requires node { node < node_count_from self.old.first (facts_in self.old.entries) }
         requires count { count ≤ 101 }
-        ensures first { IfOk result (λ first. first ≡ node_count (facts_in self.old)) }
+        ensures first { IfOk result (λ first. first ≡ node_count_from self.old.first (facts_in self.old.entries)) }
         ensures made { OnOk result (self.new ≡ with_fresh self.old node role concept count by) }
         ensures unchanged { OnErr result (self.new ≡ self.old) }
     {
@@ -274,8 +294,8 @@ impl<A: Allocator + Copy> Tree<A> {
     /// # Errors
     /// Memory may be refused; nothing has changed then.
     pub fn put_mark(&mut self, choice: Choice) -> Result<Mark, NoMemory>
-        ensures before { IfOk result (λ mark. mark.len ≡ length self.old) }
-        ensures marked { OnOk result (self.new ≡ self.old ++ Marks choice ∷ []) }
+        ensures before { IfOk result (λ mark. mark.len ≡ length self.old.entries) }
+        ensures marked { OnOk result (self.new ≡ record self.old { entries = self.old.entries ++ Marks choice ∷ [] }) }
         ensures unchanged { OnErr result (self.new ≡ self.old) }
     {
         let _ = &self.facts;
@@ -286,8 +306,8 @@ impl<A: Allocator + Copy> Tree<A> {
 
     /// Takes out the entries from the mark on.
     pub fn back(&mut self, mark: Mark)
-        requires { mark.len ≤ length self.old }
-        ensures { self.new ≡ take mark.len self.old }
+        requires { mark.len ≤ length self.old.entries }
+        ensures { self.new ≡ record self.old { entries = take mark.len self.old.entries } }
     {
         self.trail.cut(mark.len);
         self.facts.undo_to(self.trail.count_facts());
@@ -311,8 +331,8 @@ fn follow<A: Allocator + Copy>(
     from: usize,
     by: &By,
 ) -> Result<(), NoMemory>
-    requires { from ≤ length facts.now }
-    ensures put { OnOk result (trail.new ≡ trail.old ++ grounded by.now (drop from facts.now)) }
+    requires { from ≤ length facts.now.facts }
+    ensures put { OnOk result (trail.new ≡ trail.old ++ grounded by.now (drop from facts.now.facts)) }
     ensures begins { OnErr result (take (length trail.old) trail.new ≡ trail.old) }
 {
     for place in from..facts.len() {

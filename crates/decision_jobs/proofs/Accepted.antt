@@ -7,7 +7,7 @@ use Rattle.certificate_lines.specs.Lines.{lines}
 use Rattle.shq_terms.specs.Listed.{Listed}
 use Rattle.shq_terms.specs.declared.axioms.Numbered.{Numbered}
 use Rattle.shq_terms.specs.declared.axioms.Query.{Query as Asked}
-use Rattle.shq_meaning.specs.Truth.{Interpretation, meets, meets_all}
+use Rattle.shq_meaning.specs.Truth.{Interpretation, meets, meets_all, refutes_at}
 use Rattle.finite_model.specs.ModelLists.{ModelLists, meaning}
 use Rattle.finite_model.specs.ModelText.{model_of}
 use Rattle.finite_model.specs.Written.{model_text}
@@ -29,6 +29,7 @@ use Rattle.certificate_check.specs.declared.certificate.Certificate.TheVariants 
 use Rattle.certificate_check.specs.Verdict.TheVariants.{NotEntailed}
 use Rattle.certificate_check.specs.Answer.{line}
 use Rattle.certificate_check.specs.Questions.{Text, has_element, follows}
+use Rattle.decision_jobs.proofs.Least.{least_below}
 use Rattle.decision_jobs.specs.Decisions.{entailed_line, not_entailed_line, decision_text, IsAccepted}
 use Rattle.decision_jobs.specs.Deciding.{IsDecision, IsKeptModel}
 
@@ -48,11 +49,11 @@ satisfiable_read o rest = refl
 
 yes_read : (o : Listed) (question : Text) (rest : List ℕ) → certificate o (line (entailed_line question) ++ rest) ≡ refutation_after o (lines rest)
 yes_read o (has_element class) rest = unsatisfiable_read o rest
-yes_read o (follows inclusion) rest = entailed_read o rest
+yes_read o (follows statement) rest = entailed_read o rest
 
 no_read : (o : Listed) (question : Text) (rest : List ℕ) → certificate o (line (not_entailed_line question) ++ rest) ≡ model_after o (lines rest)
 no_read o (has_element class) rest = satisfiable_read o rest
-no_read o (follows inclusion) rest = not_entailed_read o rest
+no_read o (follows statement) rest = not_entailed_read o rest
 
 refutation_found : (o : Listed) (ls : List (List ℕ)) (r : RefutationLists) → refutation_of o ls ≡ Some r → refutation_after o ls ≡ Ok (C.Refutation r)
 refutation_found o ls r found = rw (found, refutation_after) refl
@@ -72,7 +73,7 @@ none_unmet i k (a ∷ axioms) met =
 model_verdict : (o : Listed) (s : Limited) (q : Asked) (m : ModelLists) → IsWhole o s → IsRefuting o s q m → IsOfModel o q m NotEntailed
 model_verdict o s q m all so =
     let met : meets_all (meaning m) (all_axioms o.axioms) ≡ true = ap (meets_all (meaning m)) (sym (whole o s all)) ∙ so.refutes.meets_axioms in
-    (none_unmet (meaning m) 1 o.axioms met, (0, record { below = so.refutes.has_element; passes = so.refutes.refutes; least = refl }), so.refutes.places)
+    (none_unmet (meaning m) 1 o.axioms met, least_below (refutes_at (meaning m) q) m.size so.refutes.counter_example so.refutes.is_element so.refutes.refutes, so.refutes.places)
 
 -- ---- decisions
 

@@ -1,4 +1,5 @@
 pub mod Logged
+pub mod Least
 pub mod Accepted
 pub mod Answered
 pub mod Exclusive

@@ -27,12 +27,12 @@ use Rattle.certificate_check.specs.Questions.{Text, has_element, follows, IsQues
 -- the line that says that the query of a question follows
 abbrev pub entailed_line : Text → List ℕ
 entailed_line (has_element class) = codes "unsatisfiable"
-entailed_line (follows inclusion) = codes "entailed"
+entailed_line (follows statement) = codes "entailed"
 
 -- and the one that says that it does not
 abbrev pub not_entailed_line : Text → List ℕ
 not_entailed_line (has_element class) = codes "satisfiable"
-not_entailed_line (follows inclusion) = codes "not entailed"
+not_entailed_line (follows statement) = codes "not entailed"
 
 -- the verdict, and what shows it
 abbrev pub decision_text : Listed → Text → Decision → List ℕ

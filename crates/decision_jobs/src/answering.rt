@@ -1,6 +1,6 @@
 // From the question and the bytes of a document to the answer.
 ghost use Rattle.std.specs.Prelude.{◌≡◌, ℕ, ◌≤◌, false, List, [], IfOk, IfErr, OnErr, length};
-ghost use Rattle.ontology_limits.specs.Limits.{IsInLimit, IsWithoutIndividuals};
+ghost use Rattle.ontology_limits.specs.Limits.{IsInLimit};
 ghost use Rattle.certificate_check.specs.Answer.{text_bytes, is_fault};
 ghost use Rattle.certificate_check.specs.Questions.{question_text, IsDocumentAlone};
 ghost use Rattle.run_log.specs.HonestLog.{IsDecisionLog};
@@ -90,7 +90,6 @@ fn decided(
     log: &mut RunLog,
 ) -> Result<(Status, Text), Unread>
     requires in_limit { IsInLimit ontology.now query.now }
-    requires without_individuals { IsWithoutIndividuals ontology.now query.now }
     requires unlogged { log.old ≡ [] }
     ensures decided { IfOk result (λ a. IsDecidedBy (question_text question.entry) budget ontology.now query.now log.new a.0 (text_bytes a.1)) }
     ensures unread { IfErr result (λ u. u ≡ Unread.NoMemory) }

@@ -1,6 +1,6 @@
 // The decision on a query, and its text.
 ghost use Rattle.std.specs.Prelude.{◌≡◌, ◌≤◌, [], ◌++◌, IfOk, OnOk, OnErr, IsTrue};
-ghost use Rattle.ontology_limits.specs.Limits.{IsInLimit, IsWithoutIndividuals};
+ghost use Rattle.ontology_limits.specs.Limits.{IsInLimit};
 ghost use Rattle.finite_model.specs.Written.{model_text, uses_listed_names};
 ghost use Rattle.refutation_tree.specs.Written.{refutation_text, names_are_listed};
 ghost use Rattle.certificate_check.specs.Answer.{line, text_bytes};
@@ -28,7 +28,6 @@ pub(crate) fn decide(
     log: &mut RunLog,
 ) -> Result<Answer, NoMemory>
     requires in_limit { IsInLimit ontology.now query.now }
-    requires without_individuals { IsWithoutIndividuals ontology.now query.now }
     requires unlogged { log.old ≡ [] }
     ensures decision { IfOk result (IsDecision ontology.now query.now) }
     ensures logged { IfOk result (λ d. IsLogged ontology.now query.now budget d log.new) }
@@ -49,7 +48,6 @@ fn ask(
 ) -> Result<Answer, NoMemory>
     requires same { oracle.old.ontology ≡ ontology.now }
     requires in_limit { IsInLimit ontology.now query.now }
-    requires without_individuals { IsWithoutIndividuals ontology.now query.now }
     requires unlogged { oracle.old.log ≡ [] }
     ensures decision { IfOk result (IsDecision ontology.now query.now) }
     ensures logged { IfOk result (λ d. IsLogged ontology.now query.now oracle.old.budget d oracle.new.log) }

@@ -1,4 +1,4 @@
-//! The jobs `sat` and `entails`: whether a class expression can have an element, and whether an inclusion follows.
+//! The jobs `sat` and `entails`: whether a class expression can have an element, and whether a statement follows.
 //!
 //! Both ask the oracle one question, about all axioms of a document, and write its evidence behind the verdict: what is
 //! written is a certificate, as the job `check` reads them. So nobody has to trust the search that found it (McConnell,

@@ -1,5 +1,5 @@
 -- The lists of concepts have each once.
-use Rattle.std.proofs.Common.{◌≡◌, ℕ, zero, suc, ◌<◌, min, max, Bool, true, false, List, [], ◌∷◌, ◌++◌, length, get_or, ap, sym, subst, ◌∙◌, arith, inl, inr, get_or-set_same, get_or-set_other}
+use Rattle.std.proofs.Common.{◌≡◌, ℕ, zero, suc, ◌<◌, min, max, Bool, true, false, List, [], ◌∷◌, ◌++◌, length, ap, sym, subst, ◌∙◌, arith, inl, inr, get_or-set_same, get_or-set_other}
 use Rattle.std.specs.Prelude.{◌==◌, if◌then◌else◌}
 use Rattle.std.specs.List.{list_any, IsDistinct}
 use Rattle.std.specs.Cmp.{nat_eq_equiv}
@@ -13,7 +13,7 @@ use Rattle.calculus_specs.specs.declared.facts.Fact.TheVariants.{Has, Edge, Apar
 use Rattle.calculus_specs.specs.Joins.{rep}
 use Rattle.calculus_specs.proofs.Joined.{by_last}
 use Rattle.calculus_specs.proofs.State.{eqb-comm}
-use Rattle.fact_tree.specs.Kept.{Lists, Kept, new_lists, bare, having, leading, parted, absorbing, with_concept, with_concepts, lists_at, changed_at, grown, made, linked, after, kept_of}
+use Rattle.fact_tree.specs.Kept.{Lists, Kept, new_lists, bare, having, leading, parted, absorbing, with_concept, with_concepts, lists_at, changed_at, grown, made, linked, after, empty, kept_of}
 use Rattle.calculus_specs.specs.Listed.{IsOnce}
 use Rattle.fact_tree.proofs.Linked.{kept_of-snoc}
 use Rattle.fact_tree.proofs.Content.{any_same}
@@ -77,10 +77,10 @@ after_once m (Edge r y z) k h = changed_once (made (r, y) z k) (m y) (leading r 
 after_once m (Apart y z) k h = changed_once k (m y) (parted z) (λ n once. once) h
 after_once m (Same y z) k h = joined_once k (min (m y) (m z)) (max (m y) (m z)) h
 
-pub kept_once : (fs : List (Fact ℕ)) → AreOnce (kept_of fs)
-kept_once = by_last {X = Fact ℕ} (λ fs. AreOnce (kept_of fs)) only
-    (λ fs f ih. subst AreOnce (sym (kept_of-snoc fs f)) (after_once (rep fs) f (kept_of fs) ih))
-  where
-    only : (x : ℕ) → x < 1 → IsOnce (get_or (bare ∷ []) x bare).concepts
-    only zero lt = top_once
-    only (suc x) lt = absurd (omega (arith, lt))
+empty_once : (n : ℕ) → AreOnce (empty n)
+empty_once zero x lt = absurd (omega (arith, lt))
+empty_once (suc n) x lt = grown_once (empty n) (0, 0) (empty_once n) x lt
+
+pub kept_once : (first : ℕ) (fs : List (Fact ℕ)) → AreOnce (kept_of first fs)
+kept_once first = by_last {X = Fact ℕ} (λ fs. AreOnce (kept_of first fs)) (empty_once first)
+    (λ fs f ih. subst AreOnce (sym (kept_of-snoc first fs f)) (after_once (rep fs) f (kept_of first fs) ih))

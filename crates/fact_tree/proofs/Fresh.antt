@@ -1,32 +1,47 @@
 -- The facts of new nodes, one after another.
-use Rattle.std.proofs.Common.{◌≡◌, ℕ, zero, suc, ◌+◌, ◌-◌, ◌<◌, max, List, [], ◌∷◌, ◌++◌, length, take, ap, sym, ◌∙◌, arith, append_assoc}
-use Rattle.std.proofs.lemmas.List.{append-nil}
+use Rattle.std.proofs.Common.{◌≡◌, ℕ, suc, ◌+◌, ◌-◌, ◌<◌, max, List, [], ◌∷◌, ◌++◌, length, take, take-take, ap, sym, ◌∙◌, arith, append_assoc}
+use Rattle.std.proofs.lemmas.List.{length-append}
+use Rattle.std.proofs.Math.Seq.{take-append_seam}
 use Rattle.calculus_specs.specs.declared.facts.Fact.{Fact}
 use Rattle.calculus_specs.specs.declared.facts.Fact.TheVariants.{Has, Edge, Apart}
-use Rattle.calculus_specs.specs.State.{node_count, new_nodes, apart_from, pairwise_apart}
+use Rattle.calculus_specs.specs.State.{new_nodes, apart_from, pairwise_apart}
+use Rattle.fact_tree.specs.Facts.{TreeFacts}
+use Rattle.fact_tree.specs.Told.{Continues}
 use Rattle.fact_tree.proofs.Linked.{node_count-snoc}
+use Rattle.fact_tree.proofs.Law.{count_in}
 use Rattle.fact_tree.proofs.Growing.{longer_still}
 
-pub count_edge : (fs now : List (Fact ℕ)) (r y z : ℕ) → z ≡ node_count fs → now ≡ fs ++ Edge r y z ∷ [] → node_count now ≡ z + 1
-count_edge fs now r y z new is = ap node_count is ∙ node_count-snoc fs (Edge r y z) ∙ (let e : max (z + 1) (node_count fs) ≡ z + 1 = omega (arith, new) in e)
+-- the same first nodes, with more facts
+abbrev pub with_more : TreeFacts → List (Fact ℕ) → TreeFacts
+with_more t fs = record t { facts = t.facts ++ fs }
 
-pub count_has : (fs now : List (Fact ℕ)) (y c n : ℕ) → node_count fs ≡ n → now ≡ fs ++ Has y c ∷ [] → node_count now ≡ n
-count_has fs now y c n count is = ap node_count is ∙ node_count-snoc fs (Has y c) ∙ count
+pub count_edge : (t now : TreeFacts) (r y z : ℕ) → z ≡ count_in t → now ≡ with_more t (Edge r y z ∷ []) → count_in now ≡ z + 1
+count_edge t now r y z new is = ap count_in is ∙ node_count-snoc t.first t.facts (Edge r y z) ∙ (let e : max (z + 1) (count_in t) ≡ z + 1 = omega (arith, new) in e)
 
-pub count_apart : (fs now : List (Fact ℕ)) (y z : ℕ) → now ≡ fs ++ Apart y z ∷ [] → node_count now ≡ node_count fs
-count_apart fs now y z is = ap node_count is ∙ node_count-snoc fs (Apart y z)
+pub count_has : (t now : TreeFacts) (y c n : ℕ) → count_in t ≡ n → now ≡ with_more t (Has y c ∷ []) → count_in now ≡ n
+count_has t now y c n count is = ap count_in is ∙ node_count-snoc t.first t.facts (Has y c) ∙ count
 
-count_aparts : (fs : List (Fact ℕ)) (y z n : ℕ) → node_count (fs ++ apart_from y z n) ≡ node_count fs
-count_aparts fs y z zero = ap node_count (append-nil fs)
-count_aparts fs y z (suc n) =
-    ap node_count (sym (append_assoc fs (Apart y z ∷ []) (apart_from y (z + 1) n))) ∙ count_aparts (fs ++ Apart y z ∷ []) y (z + 1) n ∙ node_count-snoc fs (Apart y z)
+pub count_apart : (t now : TreeFacts) (y z : ℕ) → now ≡ with_more t (Apart y z ∷ []) → count_in now ≡ count_in t
+count_apart t now y z is = ap count_in is ∙ node_count-snoc t.first t.facts (Apart y z)
 
 -- what comes after a part
-pub moved_on : (fs part rest all more now : List (Fact ℕ)) → fs ++ more ≡ all → more ≡ part ++ rest → now ≡ fs ++ part → now ++ rest ≡ all
-moved_on fs part rest all more now h split is = ap (λ (us : List (Fact ℕ)). us ++ rest) is ∙ append_assoc fs part rest ∙ ap (λ (us : List (Fact ℕ)). fs ++ us) (sym split) ∙ h
+pub moved_on : (t now all : TreeFacts) (part rest more : List (Fact ℕ)) → with_more t more ≡ all → more ≡ part ++ rest → now ≡ with_more t part → with_more now rest ≡ all
+moved_on t now all part rest more h split is =
+    ap (λ (u : TreeFacts). with_more u rest) is ∙ ap (λ (us : List (Fact ℕ)). record t { facts = us }) (append_assoc t.facts part rest ∙ ap (λ (us : List (Fact ℕ)). t.facts ++ us) (sym split)) ∙ h
 
-pub begins_on : (old fs part now : List (Fact ℕ)) → take (length old) fs ≡ old → now ≡ fs ++ part → take (length old) now ≡ old
-begins_on old fs part now h is = ap (take (length old)) is ∙ longer_still old fs part h
+pub begins_on : (old t now : TreeFacts) (part : List (Fact ℕ)) → Continues old t → now ≡ with_more t part → Continues old now
+begins_on old t now part h is = record {
+  first = ap (λ (u : TreeFacts). u.first) is ∙ h.first;
+  begins = ap (λ (u : TreeFacts). take (length old.facts) u.facts) is ∙ longer_still old.facts t.facts part h.begins;
+}
+
+-- what continues a longer list continues the shorter
+pub begins_before : (old t now : TreeFacts) (part : List (Fact ℕ)) → t ≡ with_more old part → Continues t now → Continues old now
+begins_before old t now part is h = record {
+  first = h.first ∙ ap (λ (u : TreeFacts). u.first) is;
+  begins = sym (take-take (length old.facts) (length t.facts) now.facts (omega (arith, ap (λ (u : TreeFacts). length u.facts) is, length-append old.facts part)))
+      ∙ ap (take (length old.facts)) (h.begins ∙ ap (λ (u : TreeFacts). u.facts) is) ∙ take-append_seam old.facts part;
+}
 
 less_one : (n i : ℕ) → i < n → n - i ≡ suc (n - (i + 1))
 less_one n i lt = omega (arith, lt)

@@ -10,7 +10,7 @@ use Rattle.std.proofs.Math.Bool.{and-or_distrib_left}
 use Rattle.calculus_specs.specs.declared.facts.Fact.{Fact}
 use Rattle.calculus_specs.specs.declared.facts.Fact.TheVariants.{Has, Edge, Apart, Same}
 use Rattle.calculus_specs.specs.Joins.{merged, rep_after, rep_from, rep}
-use Rattle.calculus_specs.specs.State.{node_count}
+use Rattle.calculus_specs.specs.State.{node_count_from}
 use Rattle.fact_tree.specs.Kept.{Lists, Kept, new_lists, having, leading, parted, absorbing, bare, lists_at, changed_at, grown, made, linked, after, kept_from, kept_of, empty}
 use Rattle.fact_tree.specs.Entries.{Leads, IsLinked, IsFit, AreFit, is_in}
 use Rattle.fact_tree.proofs.Each.{length-set_each, set_each-in, set_each-other}
@@ -22,8 +22,8 @@ pub kept_from-snoc : (m : ℕ → ℕ) (fs : List (Fact ℕ)) (f : Fact ℕ) (k 
 kept_from-snoc m [] f k = refl
 kept_from-snoc m (g ∷ fs) f k = kept_from-snoc (rep_after m g) fs f (after m g k)
 
-pub kept_of-snoc : (fs : List (Fact ℕ)) (f : Fact ℕ) → kept_of (fs ++ f ∷ []) ≡ after (rep fs) f (kept_of fs)
-kept_of-snoc fs f = kept_from-snoc (λ x. x) fs f empty
+pub kept_of-snoc : (first : ℕ) (fs : List (Fact ℕ)) (f : Fact ℕ) → kept_of first (fs ++ f ∷ []) ≡ after (rep fs) f (kept_of first fs)
+kept_of-snoc first fs f = kept_from-snoc (λ x. x) fs f (empty first)
 
 abbrev pub count_after : Fact ℕ → ℕ → ℕ
 count_after (Has y c) n = n
@@ -31,15 +31,15 @@ count_after (Edge r y z) n = max (z + 1) n
 count_after (Apart y z) n = n
 count_after (Same y z) n = n
 
-pub node_count-snoc : (fs : List (Fact ℕ)) (f : Fact ℕ) → node_count (fs ++ f ∷ []) ≡ count_after f (node_count fs)
-node_count-snoc [] (Has y c) = refl
-node_count-snoc [] (Edge r y z) = refl
-node_count-snoc [] (Apart y z) = refl
-node_count-snoc [] (Same y z) = refl
-node_count-snoc (Has v d ∷ fs) f = node_count-snoc fs f
-node_count-snoc (Apart v w ∷ fs) f = node_count-snoc fs f
-node_count-snoc (Same v w ∷ fs) f = node_count-snoc fs f
-node_count-snoc (Edge s v w ∷ fs) f = ap (max (w + 1)) (node_count-snoc fs f) ∙ swap f (w + 1) (node_count fs)
+pub node_count-snoc : (first : ℕ) (fs : List (Fact ℕ)) (f : Fact ℕ) → node_count_from first (fs ++ f ∷ []) ≡ count_after f (node_count_from first fs)
+node_count-snoc first [] (Has y c) = refl
+node_count-snoc first [] (Edge r y z) = refl
+node_count-snoc first [] (Apart y z) = refl
+node_count-snoc first [] (Same y z) = refl
+node_count-snoc first (Has v d ∷ fs) f = node_count-snoc first fs f
+node_count-snoc first (Apart v w ∷ fs) f = node_count-snoc first fs f
+node_count-snoc first (Same v w ∷ fs) f = node_count-snoc first fs f
+node_count-snoc first (Edge s v w ∷ fs) f = ap (max (w + 1)) (node_count-snoc first fs f) ∙ swap f (w + 1) (node_count_from first fs)
   where
     swap : (g : Fact ℕ) (a n : ℕ) → max a (count_after g n) ≡ count_after g (max a n)
     swap (Has y c) a n = refl
@@ -49,29 +49,29 @@ node_count-snoc (Edge s v w ∷ fs) f = ap (max (w + 1)) (node_count-snoc fs f) 
 
 -- ---- facts that speak of nodes
 
-pub fit_before : (fs gs : List (Fact ℕ)) → AreFit (fs ++ gs) → AreFit fs
-fit_before fs gs fit = record {
-  each = λ p d lt. subst (λ (f : Fact ℕ). IsFit (node_count (take p fs)) f) (get_or-append fs gs d p lt)
-      (subst (λ (us : List (Fact ℕ)). IsFit (node_count us) (get_or (fs ++ gs) p d)) (take-append-le p fs gs (omega (arith, lt))) (fit.each p d (omega (arith, lt, length-append fs gs))));
+pub fit_before : (first : ℕ) (fs gs : List (Fact ℕ)) → AreFit first (fs ++ gs) → AreFit first fs
+fit_before first fs gs fit = record {
+  each = λ p d lt. subst (λ (f : Fact ℕ). IsFit (node_count_from first (take p fs)) f) (get_or-append fs gs d p lt)
+      (subst (λ (us : List (Fact ℕ)). IsFit (node_count_from first us) (get_or (fs ++ gs) p d)) (take-append-le p fs gs (omega (arith, lt))) (fit.each p d (omega (arith, lt, length-append fs gs))));
 }
 
-pub fit_last : (fs : List (Fact ℕ)) (f : Fact ℕ) → AreFit (fs ++ f ∷ []) → IsFit (node_count fs) f
-fit_last fs f fit =
-    subst (λ (g : Fact ℕ). IsFit (node_count fs) g) (get_or-append_seam fs f [] f)
-    (subst (λ (us : List (Fact ℕ)). IsFit (node_count us) (get_or (fs ++ f ∷ []) (length fs) f)) (take-append_seam fs (f ∷ []))
+pub fit_last : (first : ℕ) (fs : List (Fact ℕ)) (f : Fact ℕ) → AreFit first (fs ++ f ∷ []) → IsFit (node_count_from first fs) f
+fit_last first fs f fit =
+    subst (λ (g : Fact ℕ). IsFit (node_count_from first fs) g) (get_or-append_seam fs f [] f)
+    (subst (λ (us : List (Fact ℕ)). IsFit (node_count_from first us) (get_or (fs ++ f ∷ []) (length fs) f)) (take-append_seam fs (f ∷ []))
     (fit.each (length fs) f (omega (arith, length-append fs (f ∷ [])))))
 
-pub fit_more : (fs : List (Fact ℕ)) (f : Fact ℕ) → AreFit fs → IsFit (node_count fs) f → AreFit (fs ++ f ∷ [])
-fit_more fs f fit is = record {
+pub fit_more : (first : ℕ) (fs : List (Fact ℕ)) (f : Fact ℕ) → AreFit first fs → IsFit (node_count_from first fs) f → AreFit first (fs ++ f ∷ [])
+fit_more first fs f fit is = record {
   each = λ p d lt. elim (cases_lt p (length fs)) [
     | inl before ↦
-        subst (λ (g : Fact ℕ). IsFit (node_count (take p (fs ++ f ∷ []))) g) (sym (get_or-append fs (f ∷ []) d p before))
-        (subst (λ (us : List (Fact ℕ)). IsFit (node_count us) (get_or fs p d)) (sym (take-append-le p fs (f ∷ []) (omega (arith, before)))) (fit.each p d before))
+        subst (λ (g : Fact ℕ). IsFit (node_count_from first (take p (fs ++ f ∷ []))) g) (sym (get_or-append fs (f ∷ []) d p before))
+        (subst (λ (us : List (Fact ℕ)). IsFit (node_count_from first us) (get_or fs p d)) (sym (take-append-le p fs (f ∷ []) (omega (arith, before)))) (fit.each p d before))
     | inr behind ↦
         let at : length fs ≡ p = omega (arith, behind, lt, length-append fs (f ∷ [])) in
-        subst (λ (n : ℕ). IsFit (node_count (take n (fs ++ f ∷ []))) (get_or (fs ++ f ∷ []) n d)) at
-        (subst (λ (g : Fact ℕ). IsFit (node_count (take (length fs) (fs ++ f ∷ []))) g) (sym (get_or-append_seam fs f [] d))
-        (subst (λ (us : List (Fact ℕ)). IsFit (node_count us) f) (sym (take-append_seam fs (f ∷ []))) is))
+        subst (λ (n : ℕ). IsFit (node_count_from first (take n (fs ++ f ∷ []))) (get_or (fs ++ f ∷ []) n d)) at
+        (subst (λ (g : Fact ℕ). IsFit (node_count_from first (take (length fs) (fs ++ f ∷ []))) g) (sym (get_or-append_seam fs f [] d))
+        (subst (λ (us : List (Fact ℕ)). IsFit (node_count_from first us) f) (sym (take-append_seam fs (f ∷ []))) is))
   ];
 }
 
@@ -149,7 +149,6 @@ changed_linked m k at change same h =
     let len = length-set k.nodes at (change (lists_at k at)) in
     record {
       equal = h.equal ∙ sym len;
-      some = omega (arith, len, h.some);
       leads = h.leads;
       below = h.below;
       twice = h.twice;
@@ -162,7 +161,7 @@ changed_linked m k at change same h =
           ap (λ (ms : List ℕ). get_or ms 0 d) (members_changed k at change same r lt-old) ∙ h.heads r d lt-old;
     }
 
-grown_linked : (m : ℕ → ℕ) (k : Kept) (origin : ℕ × ℕ) → IsLinked m k → IsLinked m (grown origin k)
+pub grown_linked : (m : ℕ → ℕ) (k : Kept) (origin : ℕ × ℕ) → IsLinked m k → IsLinked m (grown origin k)
 grown_linked m k origin h =
     let n = length k.nodes in
     let new = new_lists n origin in
@@ -172,7 +171,6 @@ grown_linked m k origin h =
     let at-last : lists_at (grown origin k) n ≡ new = get_or-append_seam k.nodes new [] bare in
     record {
       equal = omega (arith, h.equal, len, length-append k.links (length k.links ∷ []));
-      some = omega (arith, len);
       leads = leads_more m k.links (h.beyond (length k.links) (omega (arith, h.equal))) h.leads;
       below = h.below;
       twice = h.twice;
@@ -272,7 +270,6 @@ module _ (m : ℕ → ℕ) (k : Kept) (y z : ℕ) (h : IsLinked m k) (y-in : y <
       let at-low : lists_at (linked high low k) low ≡ both = get_or-set_same k.nodes low both bare low-in in
       record {
         equal = len ∙ h.equal ∙ sym n-len;
-        some = omega (arith, n-len, h.some);
         leads = record {
           each = λ x d within.
               let inside : x < length k.links = omega (arith, within, len) in

@@ -1,21 +1,21 @@
 -- The origin that is kept of a node is the first edge into it.
-use Rattle.std.proofs.Common.{◌≡◌, ℕ, ◌<◌, ◌≤◌, ◌≢◌, min, max, Bool, true, false, List, [], ◌∷◌, ◌++◌, length, refl, ap, sym, subst, ◌∙◌, arith, inl, inr, Option, Some, None, get_or-set_same, get_or-set_other}
+use Rattle.std.proofs.Common.{◌≡◌, ℕ, ◌<◌, ◌≤◌, min, max, Bool, true, false, List, [], ◌∷◌, ◌++◌, length, refl, ap, sym, subst, ◌∙◌, arith, inl, inr, Option, Some, None, get_or-set_same, get_or-set_other}
 use Rattle.std.specs.Prelude.{◌==◌, ◌&&◌, if◌then◌else◌}
 use Rattle.std.specs.List.{list_any}
-use Rattle.std.proofs.lemmas.Bool.{cases_eq, cases_lt, eq-eqb, ne_eqb, or_left, or_right}
+use Rattle.std.proofs.lemmas.Bool.{cases_eq, cases_lt, eq-eqb, ne_eqb, lt-ltb, le-ltb, or_left, or_right}
 use Rattle.std.proofs.lemmas.List.{length-append, length-set}
 use Rattle.std.proofs.Math.Seq.{get_or-append_seam}
 use Rattle.std.proofs.Math.ListN.{get_or-append}
 use Rattle.calculus_specs.specs.declared.facts.Fact.{Fact}
 use Rattle.calculus_specs.specs.declared.facts.Fact.TheVariants.{Has, Edge, Apart, Same}
 use Rattle.calculus_specs.specs.Joins.{rep}
-use Rattle.calculus_specs.specs.State.{node_count, first_origin, parent, gives_edge, HasParentsBefore}
+use Rattle.calculus_specs.specs.State.{node_count_from, first_origin, parent_from, gives_edge, HaveParentsBefore}
 use Rattle.calculus_specs.proofs.Joined.{by_last}
 use Rattle.fact_tree.specs.Kept.{Lists, Kept, new_lists, bare, having, leading, parted, absorbing, lists_at, changed_at, grown, made, linked, after, kept_of}
 use Rattle.fact_tree.specs.Entries.{AreFit, IsFit}
 use Rattle.fact_tree.specs.Told.{IsOrigin}
 use Rattle.fact_tree.proofs.Linked.{kept_of-snoc, fit_before, fit_last}
-use Rattle.fact_tree.proofs.Law.{count_is, joined_count}
+use Rattle.fact_tree.proofs.Law.{empty_count, count_is, joined_count}
 
 -- ---- the first edge into a node
 
@@ -51,17 +51,17 @@ edge-snoc (Same v w ∷ fs) f x = edge-snoc fs f x
 edge-snoc (Edge s v w ∷ fs) f x = elim (w == x) as (λ b. (if b then Some (s, v) else first_edge (fs ++ f ∷ []) x) ≡ or_from (if b then Some (s, v) else first_edge fs x) f x) [ true ↦ refl | false ↦ edge-snoc fs f x ]
 
 -- a node that no edge leads to has no origin
-beyond : (fs : List (Fact ℕ)) (x : ℕ) → node_count fs ≤ x → first_edge fs x ≡ None
-beyond [] x le = refl
-beyond (Has v c ∷ fs) x le = beyond fs x le
-beyond (Apart v w ∷ fs) x le = beyond fs x le
-beyond (Same v w ∷ fs) x le = beyond fs x le
-beyond (Edge s v w ∷ fs) x le = ap (λ (b : Bool). if b then Some (s, v) else first_edge fs x) (ne_eqb w x (λ e. absurd (omega (arith, e, le)))) ∙ beyond fs x (omega (arith, le))
+beyond : (first : ℕ) (fs : List (Fact ℕ)) (x : ℕ) → node_count_from first fs ≤ x → first_edge fs x ≡ None
+beyond first [] x le = refl
+beyond first (Has v c ∷ fs) x le = beyond first fs x le
+beyond first (Apart v w ∷ fs) x le = beyond first fs x le
+beyond first (Same v w ∷ fs) x le = beyond first fs x le
+beyond first (Edge s v w ∷ fs) x le = ap (λ (b : Bool). if b then Some (s, v) else first_edge fs x) (ne_eqb w x (λ e. absurd (omega (arith, e, le)))) ∙ beyond first fs x (omega (arith, le))
 
 -- ---- origins that stay
 
-abbrev Origins : List (Fact ℕ) → Kept → Type 0
-Origins fs k = (x : ℕ) → 0 < x → x < length k.nodes → first_edge fs x ≡ Some (lists_at k x).origin
+abbrev Origins : ℕ → List (Fact ℕ) → Kept → Type 0
+Origins first fs k = (x : ℕ) → first ≤ x → x < length k.nodes → first_edge fs x ≡ Some (lists_at k x).origin
 
 changed_origin : (k : Kept) (at : ℕ) (change : Lists → Lists) → ((n : Lists) → (change n).origin ≡ n.origin) → (x : ℕ) → x < length k.nodes → (lists_at (changed_at at change k) x).origin ≡ (lists_at k x).origin
 changed_origin k at change same x lt = elim (cases_eq x at) [
@@ -117,17 +117,17 @@ no_new m fs k (Has y c) x none le lt = absurd (omega (arith, lt, le, length-set 
 no_new m fs k (Apart y z) x none le lt = absurd (omega (arith, lt, le, length-set k.nodes (m y) (parted z (lists_at k (m y)))))
 no_new m fs k (Same y z) x none le lt = absurd (omega (arith, lt, le, joined_count k (min (m y) (m z)) (max (m y) (m z))))
 
-origins_kept : (fs : List (Fact ℕ)) → AreFit fs → Origins fs (kept_of fs)
-origins_kept = by_last {X = Fact ℕ} (λ fs. AreFit fs → Origins fs (kept_of fs)) (λ fit x some lt. absurd (omega (arith, some, lt)))
+origins_kept : (first : ℕ) (fs : List (Fact ℕ)) → AreFit first fs → Origins first fs (kept_of first fs)
+origins_kept first = by_last {X = Fact ℕ} (λ fs. AreFit first fs → Origins first fs (kept_of first fs)) (λ fit x some lt. absurd (omega (arith, some, lt, empty_count first)))
     (λ fs f ih fit x some lt.
-    let k = kept_of fs in
-    let before = fit_before fs (f ∷ []) fit in
-    let within : x < length (after (rep fs) f k).nodes = subst (λ (j : Kept). x < length j.nodes) (kept_of-snoc fs f) lt in
+    let k = kept_of first fs in
+    let before = fit_before first fs (f ∷ []) fit in
+    let within : x < length (after (rep fs) f k).nodes = subst (λ (j : Kept). x < length j.nodes) (kept_of-snoc first fs f) lt in
     let is : first_edge (fs ++ f ∷ []) x ≡ Some (lists_at (after (rep fs) f k) x).origin = elim (cases_lt x (length k.nodes)) [
       | inl old ↦ known fs f x (lists_at k x).origin (ih before x some old) ∙ ap Some (sym (old_origin (rep fs) k f x old))
-      | inr new ↦ no_new (rep fs) fs k f x (beyond fs x (omega (arith, new, count_is fs before))) new within
+      | inr new ↦ no_new (rep fs) fs k f x (beyond first fs x (omega (arith, new, count_is first fs before))) new within
     ] in
-    is ∙ ap (λ (j : Kept). Some (lists_at j x).origin) (sym (kept_of-snoc fs f)))
+    is ∙ ap (λ (j : Kept). Some (lists_at j x).origin) (sym (kept_of-snoc first fs f)))
 
 -- ---- the definitions
 
@@ -161,26 +161,26 @@ leads_in m (Edge r y z ∷ fs) x o h = elim (cases_eq z x) [
       (leads_in m fs x o (sym (ap (λ (b : Bool). if b then Some (r, y) else first_edge fs x) (ne_eqb z x other)) ∙ h))
 ]
 
-pub parent_is : (fs : List (Fact ℕ)) (x : ℕ) → AreFit fs → x ≢ 0 → x < node_count fs → parent fs x ≡ Some (lists_at (kept_of fs) x).origin.1
-parent_is fs x fit some lt =
-    ap (λ (b : Bool). if b then None else first_origin fs x) (ne_eqb x 0 some) ∙ begin_is fs x ∙ ap begin_of (origins_kept fs fit x (omega (arith, some)) (omega (arith, lt, count_is fs fit)))
+pub parent_is : (first : ℕ) (fs : List (Fact ℕ)) (x : ℕ) → AreFit first fs → first ≤ x → x < node_count_from first fs → parent_from first fs x ≡ Some (lists_at (kept_of first fs) x).origin.1
+parent_is first fs x fit some lt =
+    ap (λ (b : Bool). if b then None else first_origin fs x) (le-ltb x first some) ∙ begin_is fs x ∙ ap begin_of (origins_kept first fs fit x some (omega (arith, lt, count_is first fs fit)))
 
-pub origin_is : (fs : List (Fact ℕ)) (x : ℕ) → AreFit fs → x ≢ 0 → x < node_count fs → IsOrigin fs x (lists_at (kept_of fs) x).origin
-origin_is fs x fit some lt = (
-  leads_in (rep fs) fs x (lists_at (kept_of fs) x).origin (origins_kept fs fit x (omega (arith, some)) (omega (arith, lt, count_is fs fit))),
-  parent_is fs x fit some lt,
+pub origin_is : (first : ℕ) (fs : List (Fact ℕ)) (x : ℕ) → AreFit first fs → first ≤ x → x < node_count_from first fs → IsOrigin first fs x (lists_at (kept_of first fs) x).origin
+origin_is first fs x fit some lt = (
+  leads_in (rep fs) fs x (lists_at (kept_of first fs) x).origin (origins_kept first fs fit x some (omega (arith, lt, count_is first fs fit))),
+  parent_is first fs x fit some lt,
 )
 
 -- ---- parents are less than their nodes
 
-abbrev EdgesBefore : List (Fact ℕ) → Type 0
-EdgesBefore fs = (x : ℕ) (o : ℕ × ℕ) → 0 < x → first_edge fs x ≡ Some o → o.1 < x
+abbrev EdgesBefore : ℕ → List (Fact ℕ) → Type 0
+EdgesBefore first fs = (x : ℕ) (o : ℕ × ℕ) → first ≤ x → first_edge fs x ≡ Some o → o.1 < x
 
-new_before : (fs : List (Fact ℕ)) (f : Fact ℕ) (x : ℕ) (o : ℕ × ℕ) → IsFit (node_count fs) f → node_count fs ≤ x → or_from None f x ≡ Some o → o.1 < x
-new_before fs (Has y c) x o fit le is = cc
-new_before fs (Apart y z) x o fit le is = cc
-new_before fs (Same y z) x o fit le is = cc
-new_before fs (Edge r y z) x o fit le is = elim (cases_eq z x) [
+new_before : (first : ℕ) (fs : List (Fact ℕ)) (f : Fact ℕ) (x : ℕ) (o : ℕ × ℕ) → IsFit (node_count_from first fs) f → node_count_from first fs ≤ x → or_from None f x ≡ Some o → o.1 < x
+new_before first fs (Has y c) x o fit le is = cc
+new_before first fs (Apart y z) x o fit le is = cc
+new_before first fs (Same y z) x o fit le is = cc
+new_before first fs (Edge r y z) x o fit le is = elim (cases_eq z x) [
   | inl at ↦
       let same : (r, y) ≡ o = some_inside (r, y) o (sym (ap (λ (b : Bool). if b then Some (r, y) else None) (eq-eqb z x at)) ∙ is) in
       omega (arith, fit.0, le, ap (λ (p : ℕ × ℕ). p.1) same)
@@ -189,15 +189,15 @@ new_before fs (Edge r y z) x o fit le is = elim (cases_eq z x) [
       cc
 ]
 
-edges_before : (fs : List (Fact ℕ)) → AreFit fs → EdgesBefore fs
-edges_before = by_last {X = Fact ℕ} (λ fs. AreFit fs → EdgesBefore fs) (λ fit x o some is. cc)
+edges_before : (first : ℕ) (fs : List (Fact ℕ)) → AreFit first fs → EdgesBefore first fs
+edges_before first = by_last {X = Fact ℕ} (λ fs. AreFit first fs → EdgesBefore first fs) (λ fit x o some is. cc)
     (λ fs f ih fit x o some is.
-    let before = fit_before fs (f ∷ []) fit in
-    elim (cases_lt x (node_count fs)) [
+    let before = fit_before first fs (f ∷ []) fit in
+    elim (cases_lt x (node_count_from first fs)) [
       | inl old ↦
-          let first = origins_kept fs before x some (omega (arith, old, count_is fs before)) in
-          ih before x o some (first ∙ sym (known fs f x (lists_at (kept_of fs) x).origin first) ∙ is)
-      | inr new ↦ new_before fs f x o (fit_last fs f fit) new (sym (edge-snoc fs f x ∙ ap (λ (p : Option (ℕ × ℕ)). or_from p f x) (beyond fs x new)) ∙ is)
+          let earlier = origins_kept first fs before x some (omega (arith, old, count_is first fs before)) in
+          ih before x o some (earlier ∙ sym (known fs f x (lists_at (kept_of first fs) x).origin earlier) ∙ is)
+      | inr new ↦ new_before first fs f x o (fit_last first fs f fit) new (sym (edge-snoc fs f x ∙ ap (λ (p : Option (ℕ × ℕ)). or_from p f x) (beyond first fs x new)) ∙ is)
     ])
 
 begins_before : (o : Option (ℕ × ℕ)) (x p : ℕ) → ((e : ℕ × ℕ) → o ≡ Some e → e.1 < x) → begin_of o ≡ Some p → p < x
@@ -209,12 +209,12 @@ begins_before (Some e) x p h is =
     some_is : (a b : ℕ) → Some a ≡ Some b → a ≡ b
     some_is a b e = cc
 
-pub parents_before : (fs : List (Fact ℕ)) → AreFit fs → HasParentsBefore fs
-parents_before fs fit x p is = elim (cases_eq x 0) [
-  | inl zero ↦
-      let none : None ≡ Some p = sym (ap (λ (b : Bool). if b then None else first_origin fs x) (eq-eqb x 0 zero)) ∙ is in
+pub parents_before : (first : ℕ) (fs : List (Fact ℕ)) → AreFit first fs → HaveParentsBefore first fs
+parents_before first fs fit x p is = elim (cases_lt x first) [
+  | inl lt ↦
+      let none : None ≡ Some p = sym (ap (λ (b : Bool). if b then None else first_origin fs x) (lt-ltb x first lt)) ∙ is in
       cc
   | inr some ↦
-      begins_before (first_edge fs x) x p (λ e here. edges_before fs fit x e (omega (arith, some)) here)
-      (sym (begin_is fs x) ∙ sym (ap (λ (b : Bool). if b then None else first_origin fs x) (ne_eqb x 0 some)) ∙ is)
+      begins_before (first_edge fs x) x p (λ e here. edges_before first fs fit x e some here)
+      (sym (begin_is fs x) ∙ sym (ap (λ (b : Bool). if b then None else first_origin fs x) (le-ltb x first some)) ∙ is)
 ]

@@ -1,5 +1,5 @@
 -- What a tree reads off its lists is what the definitions say of its facts.
-use Rattle.std.proofs.Common.{◌≡◌, ℕ, zero, suc, ◌<◌, ◌≤◌, ◌≢◌, min, max, Bool, true, false, List, [], ◌∷◌, ◌++◌, length, get_or, refl, ap, sym, subst, ◌∙◌, arith, inl, inr, Option, Some, None}
+use Rattle.std.proofs.Common.{◌≡◌, ℕ, zero, suc, ◌<◌, ◌≤◌, ◌≢◌, min, max, Bool, true, false, List, [], ◌∷◌, ◌++◌, length, refl, ap, sym, subst, ◌∙◌, arith, inl, inr, Option, Some, None}
 use Rattle.std.specs.Prelude.{◌==◌, ◌&&◌, ◌||◌, if◌then◌else◌}
 use Rattle.std.specs.List.{list_any}
 use Rattle.std.proofs.lemmas.Bool.{cases_Bool, cases_eq, eq-eqb, ne_eqb, and_right}
@@ -8,14 +8,14 @@ use Rattle.std.proofs.Math.Bool.{or-false, or_assoc}
 use Rattle.calculus_specs.specs.declared.facts.Fact.{Fact}
 use Rattle.calculus_specs.specs.declared.facts.Fact.TheVariants.{Has, Edge, Apart, Same}
 use Rattle.calculus_specs.specs.Joins.{rep_after, rep}
-use Rattle.calculus_specs.specs.State.{node_count, has, has_edge, are_apart, gives_concept, gives_edge, gives_apart}
+use Rattle.calculus_specs.specs.State.{node_count_from, has, has_edge, are_apart, gives_concept, gives_edge, gives_apart}
 use Rattle.calculus_specs.proofs.Joined.{by_last, rep-snoc}
-use Rattle.fact_tree.specs.Kept.{Lists, Kept, new_lists, bare, having, leading, parted, with_concept, with_concepts, lists_at, changed_at, grown, made, linked, after, kept_of}
+use Rattle.fact_tree.specs.Kept.{Lists, Kept, new_lists, having, leading, parted, with_concept, with_concepts, lists_at, changed_at, grown, made, linked, after, empty, kept_of}
 use Rattle.fact_tree.specs.Entries.{IsLinked, IsFit, AreFit}
 use Rattle.calculus_specs.specs.Listed.{IsLabel, AreEdges}
 use Rattle.fact_tree.specs.Told.{AreAparts, gives_first}
 use Rattle.fact_tree.proofs.Linked.{kept_of-snoc, count_after, node_count-snoc, fit_before, fit_last, merged_one, low_stays, high_stays}
-use Rattle.fact_tree.proofs.Law.{count_is, kept_linked}
+use Rattle.fact_tree.proofs.Law.{empty_count, count_is, empty_linked, kept_linked}
 use Rattle.fact_tree.proofs.Content.{any-append, any-snoc, any_or, any_same, gives_by, gives, Told, told_on, told_skip, told_put, told_grown, told_linked}
 
 -- ---- what each fact gives
@@ -69,7 +69,7 @@ any_with_all : (q : ℕ → Bool) (cs ds : List ℕ) → list_any q (with_concep
 any_with_all q cs [] = sym (or-false (list_any q cs))
 any_with_all q cs (d ∷ ds) = any_with_all q (with_concept cs d) ds ∙ ap (λ (b : Bool). b || list_any q ds) (any_with q cs d) ∙ or_assoc (list_any q cs) (q d) (list_any q ds)
 
--- ---- nothing is said of a node that is not there
+-- ---- nothing first is said of a node that is not there
 
 abbrev PicksFit : {P : Type 0} → (Fact ℕ → Option (ℕ × P)) → Type 0
 PicksFit {P} pick = (m : ℕ → ℕ) → ((x : ℕ) → m x ≤ x) → (n : ℕ) (f : Fact ℕ) → IsFit n f → (q : P → Bool) (x : ℕ) → n ≤ x → gives_by q m x (pick f) ≡ false
@@ -101,29 +101,29 @@ count_grows (Edge r y z) n = omega arith
 count_grows (Apart y z) n = omega arith
 count_grows (Same y z) n = omega arith
 
-nothing : {P : Type 0} (get : Lists → List P) (pick : Fact ℕ → Option (ℕ × P)) (base : List P) → PicksFit pick → (m : ℕ → ℕ) → ((x : ℕ) → m x ≤ x) → (fs : List (Fact ℕ)) → AreFit fs → (x : ℕ) → node_count fs ≤ x
+nothing : (first : ℕ) {P : Type 0} (get : Lists → List P) (pick : Fact ℕ → Option (ℕ × P)) (base : List P) → PicksFit pick → (m : ℕ → ℕ) → ((x : ℕ) → m x ≤ x) → (fs : List (Fact ℕ)) → AreFit first fs → (x : ℕ) → node_count_from first fs ≤ x
     → (q : P → Bool) → list_any (gives get pick base q m x) fs ≡ false
-nothing {P} get pick base picks m below = by_last {X = Fact ℕ} (λ fs. AreFit fs → (x : ℕ) → node_count fs ≤ x → (q : P → Bool) → list_any (gives get pick base q m x) fs ≡ false) (λ fit x le q. refl)
+nothing first {P} get pick base picks m below = by_last {X = Fact ℕ} (λ fs. AreFit first fs → (x : ℕ) → node_count_from first fs ≤ x → (q : P → Bool) → list_any (gives get pick base q m x) fs ≡ false) (λ fit x le q. refl)
     (λ fs f ih fit x le q.
-    let before : node_count fs ≤ x = omega (arith, le, node_count-snoc fs f, count_grows f (node_count fs)) in
-    any-snoc (gives get pick base q m x) fs f ∙ (λ i. ih (fit_before fs (f ∷ []) fit) x before q i || picks m below (node_count fs) f (fit_last fs f fit) q x before i))
+    let before : node_count_from first fs ≤ x = omega (arith, le, node_count-snoc first fs f, count_grows f (node_count_from first fs)) in
+    any-snoc (gives get pick base q m x) fs f ∙ (λ i. ih (fit_before first fs (f ∷ []) fit) x before q i || picks m below (node_count_from first fs) f (fit_last first fs f fit) q x before i))
 
 -- ---- one fact more
 
-grown_told : (m : ℕ → ℕ) (fs : List (Fact ℕ)) (k : Kept) (origin : ℕ × ℕ) → IsLinked m k → AreFit fs → node_count fs ≡ length k.nodes → AllTold m fs k → AllTold m fs (grown origin k)
-grown_told m fs k origin ok fit count h =
-    let le : node_count fs ≤ length k.nodes = omega (arith, count) in
+grown_told : (first : ℕ) (m : ℕ → ℕ) (fs : List (Fact ℕ)) (k : Kept) (origin : ℕ × ℕ) → IsLinked m k → AreFit first fs → node_count_from first fs ≡ length k.nodes → AllTold m fs k → AllTold m fs (grown origin k)
+grown_told first m fs k origin ok fit count h =
+    let le : node_count_from first fs ≤ length k.nodes = omega (arith, count) in
     record {
-      concepts = told_grown (λ n. n.concepts) concept_of (0 ∷ []) m fs k origin refl (nothing (λ n. n.concepts) concept_of (0 ∷ []) concept_fits m ok.below fs fit (length k.nodes) le) h.concepts;
-      edges = told_grown (λ n. n.edges) edge_of [] m fs k origin refl (nothing (λ n. n.edges) edge_of [] edge_fits m ok.below fs fit (length k.nodes) le) h.edges;
-      aparts = told_grown (λ n. n.aparts) apart_of [] m fs k origin refl (nothing (λ n. n.aparts) apart_of [] apart_fits m ok.below fs fit (length k.nodes) le) h.aparts;
+      concepts = told_grown (λ n. n.concepts) concept_of (0 ∷ []) m fs k origin refl (nothing first (λ n. n.concepts) concept_of (0 ∷ []) concept_fits m ok.below fs fit (length k.nodes) le) h.concepts;
+      edges = told_grown (λ n. n.edges) edge_of [] m fs k origin refl (nothing first (λ n. n.edges) edge_of [] edge_fits m ok.below fs fit (length k.nodes) le) h.edges;
+      aparts = told_grown (λ n. n.aparts) apart_of [] m fs k origin refl (nothing first (λ n. n.aparts) apart_of [] apart_fits m ok.below fs fit (length k.nodes) le) h.aparts;
     }
 
-made_told : (m : ℕ → ℕ) (fs : List (Fact ℕ)) (k : Kept) (origin : ℕ × ℕ) (to : ℕ) → IsLinked m k → AreFit fs → node_count fs ≡ length k.nodes → AllTold m fs k → AllTold m fs (made origin to k)
-made_told m fs k origin to ok fit count h = by (to == length k.nodes)
+made_told : (first : ℕ) (m : ℕ → ℕ) (fs : List (Fact ℕ)) (k : Kept) (origin : ℕ × ℕ) (to : ℕ) → IsLinked m k → AreFit first fs → node_count_from first fs ≡ length k.nodes → AllTold m fs k → AllTold m fs (made origin to k)
+made_told first m fs k origin to ok fit count h = by (to == length k.nodes)
   where
     by : (b : Bool) → AllTold m fs (if b then grown origin k else k)
-    by true = grown_told m fs k origin ok fit count h
+    by true = grown_told first m fs k origin ok fit count h
     by false = h
 
 made_longer : (k : Kept) (origin : ℕ × ℕ) (to : ℕ) → length k.nodes ≤ length (made origin to k).nodes
@@ -183,33 +183,31 @@ same_told m fs k y z ok ly lz h = elim (cases_eq (m y) (m z)) [
       subst (λ (j : Kept). AllTold (rep_after {C = ℕ} m (Same y z)) (fs ++ Same y z ∷ []) j) (sym all) (linked_told m fs k y z ok differ ly lz h)
 ]
 
-after_told : (m : ℕ → ℕ) (fs : List (Fact ℕ)) (f : Fact ℕ) (k : Kept) → IsLinked m k → AreFit fs → node_count fs ≡ length k.nodes → IsFit (length k.nodes) f → AllTold m fs k → AllTold (rep_after m f) (fs ++ f ∷ []) (after m f k)
-after_told m fs (Has y c) k ok fits count fit h = has_told m fs k y c (omega (arith, ok.below y, fit)) h
-after_told m fs (Edge r y z) k ok fits count fit h =
-    edge_told m fs (made (r, y) z k) r y z (omega (arith, ok.below y, fit.0, made_longer k (r, y) z)) (made_told m fs k (r, y) z ok fits count h)
-after_told m fs (Apart y z) k ok fits count fit h = apart_told m fs k y z (omega (arith, ok.below y, fit.0)) h
-after_told m fs (Same y z) k ok fits count fit h = same_told m fs k y z ok fit.0 fit.1 h
+after_told : (first : ℕ) (m : ℕ → ℕ) (fs : List (Fact ℕ)) (f : Fact ℕ) (k : Kept) → IsLinked m k → AreFit first fs → node_count_from first fs ≡ length k.nodes → IsFit (length k.nodes) f → AllTold m fs k → AllTold (rep_after m f) (fs ++ f ∷ []) (after m f k)
+after_told first m fs (Has y c) k ok fits count fit h = has_told m fs k y c (omega (arith, ok.below y, fit)) h
+after_told first m fs (Edge r y z) k ok fits count fit h =
+    edge_told m fs (made (r, y) z k) r y z (omega (arith, ok.below y, fit.0, made_longer k (r, y) z)) (made_told first m fs k (r, y) z ok fits count h)
+after_told first m fs (Apart y z) k ok fits count fit h = apart_told m fs k y z (omega (arith, ok.below y, fit.0)) h
+after_told first m fs (Same y z) k ok fits count fit h = same_told m fs k y z ok fit.0 fit.1 h
 
-pub kept_told : (fs : List (Fact ℕ)) → AreFit fs → AllTold (rep fs) fs (kept_of fs)
-kept_told = by_last {X = Fact ℕ} (λ fs. AreFit fs → AllTold (rep fs) fs (kept_of fs))
-    (λ fit. record {
-      concepts = λ q x lt own. first x lt q;
-      edges = λ q x lt own. ap (λ (n : Lists). list_any q n.edges) (only x lt);
-      aparts = λ q x lt own. ap (λ (n : Lists). list_any q n.aparts) (only x lt);
-    })
+-- nothing is told of the first nodes alone
+empty_told : (n : ℕ) → AllTold (λ x. x) [] (empty n)
+empty_told zero = record {
+  concepts = λ q x lt own. absurd (omega (arith, lt));
+  edges = λ q x lt own. absurd (omega (arith, lt));
+  aparts = λ q x lt own. absurd (omega (arith, lt));
+}
+empty_told (suc n) = grown_told n (λ x. x) [] (empty n) (0, 0) (empty_linked n) (record { each = λ p d lt. absurd (omega (arith, lt)) }) (sym (empty_count n)) (empty_told n)
+
+pub kept_told : (first : ℕ) (fs : List (Fact ℕ)) → AreFit first fs → AllTold (rep fs) fs (kept_of first fs)
+kept_told first = by_last {X = Fact ℕ} (λ fs. AreFit first fs → AllTold (rep fs) fs (kept_of first fs))
+    (λ fit. empty_told first)
     (λ fs f ih fit.
-    let before = fit_before fs (f ∷ []) fit in
-    let here : IsFit (length (kept_of fs).nodes) f = subst (λ (n : ℕ). IsFit n f) (sym (count_is fs before)) (fit_last fs f fit) in
+    let before = fit_before first fs (f ∷ []) fit in
+    let here : IsFit (length (kept_of first fs).nodes) f = subst (λ (n : ℕ). IsFit n f) (sym (count_is first fs before)) (fit_last first fs f fit) in
     let all : rep (fs ++ f ∷ []) ≡ rep_after (rep fs) f = λ i x. rep-snoc fs f x i in
-    subst (λ (k : Kept). AllTold (rep (fs ++ f ∷ [])) (fs ++ f ∷ []) k) (sym (kept_of-snoc fs f)) (subst (λ (m : ℕ → ℕ). AllTold m (fs ++ f ∷ []) (after (rep fs) f (kept_of fs))) (sym all)
-    (after_told (rep fs) fs f (kept_of fs) (kept_linked fs before) before (sym (count_is fs before)) here (ih before))))
-  where
-    only : (x : ℕ) → x < 1 → get_or (bare ∷ []) x bare ≡ bare
-    only zero lt = refl
-    only (suc x) lt = absurd (omega (arith, lt))
-
-    first : (x : ℕ) → x < 1 → (q : ℕ → Bool) → list_any q (get_or (bare ∷ []) x bare).concepts ≡ (list_any q (0 ∷ []) || false)
-    first x lt q = ap (λ (n : Lists). list_any q n.concepts) (only x lt) ∙ sym (or-false (list_any q (0 ∷ [])))
+    subst (λ (k : Kept). AllTold (rep (fs ++ f ∷ [])) (fs ++ f ∷ []) k) (sym (kept_of-snoc first fs f)) (subst (λ (m : ℕ → ℕ). AllTold m (fs ++ f ∷ []) (after (rep fs) f (kept_of first fs))) (sym all)
+    (after_told first (rep fs) fs f (kept_of first fs) (kept_linked first fs before) before (sym (count_is first fs before)) here (ih before))))
 
 -- ---- the definitions
 
@@ -225,10 +223,10 @@ concept_gives m at kind (Edge r y z) = refl
 concept_gives m at kind (Apart y z) = refl
 concept_gives m at kind (Same y z) = refl
 
-pub label_is : (fs : List (Fact ℕ)) (x : ℕ) → AreFit fs → x < node_count fs → IsLabel fs x (lists_at (kept_of fs) (rep fs x)).concepts
-label_is fs x fit lt c =
-    let links = kept_linked fs fit in
-    (kept_told fs fit).concepts (λ d. d == c) (rep fs x) (omega (arith, lt, links.below x, count_is fs fit)) (links.twice x)
+pub label_is : (first : ℕ) (fs : List (Fact ℕ)) (x : ℕ) → AreFit first fs → x < node_count_from first fs → IsLabel fs x (lists_at (kept_of first fs) (rep fs x)).concepts
+label_is first fs x fit lt c =
+    let links = kept_linked first fs fit in
+    (kept_told first fs fit).concepts (λ d. d == c) (rep fs x) (omega (arith, lt, links.below x, count_is first fs fit)) (links.twice x)
     ∙ (λ i. (or-false (0 == c) ∙ same_both_ways 0 c) i || any_same (gives (λ n. n.concepts) concept_of (0 ∷ []) (λ d. d == c) (rep fs) (rep fs x)) (gives_concept (λ d. d == c) (rep fs) (rep fs x)) (concept_gives (rep fs) (rep fs x) (λ d. d == c)) fs i)
 
 and_swap : (a b c : Bool) → (a && (b && c)) ≡ ((b && a) && c)
@@ -247,13 +245,13 @@ none_pass : {X : Type 0} (p : X → Bool) → ((x : X) → p x ≡ false) → (x
 none_pass p h [] = refl
 none_pass p h (x ∷ xs) = λ i. h x i || none_pass p h xs i
 
-pub edges_are : (fs : List (Fact ℕ)) (x : ℕ) → AreFit fs → x < node_count fs → AreEdges fs x (lists_at (kept_of fs) (rep fs x)).edges
-edges_are fs x fit lt roles y =
-    let links = kept_linked fs fit in
-    let edges = (lists_at (kept_of fs) (rep fs x)).edges in
+pub edges_are : (first : ℕ) (fs : List (Fact ℕ)) (x : ℕ) → AreFit first fs → x < node_count_from first fs → AreEdges fs x (lists_at (kept_of first fs) (rep fs x)).edges
+edges_are first fs x fit lt roles y =
+    let links = kept_linked first fs fit in
+    let edges = (lists_at (kept_of first fs) (rep fs x)).edges in
     elim (cases_eq (rep fs y) y) [
       | inl own ↦
-          (kept_told fs fit).edges (λ p. roles p.0 && rep fs p.1 == y) (rep fs x) (omega (arith, lt, links.below x, count_is fs fit)) (links.twice x)
+          (kept_told first fs fit).edges (λ p. roles p.0 && rep fs p.1 == y) (rep fs x) (omega (arith, lt, links.below x, count_is first fs fit)) (links.twice x)
           ∙ any_same (gives (λ n. n.edges) edge_of [] (λ p. roles p.0 && rep fs p.1 == y) (rep fs) (rep fs x)) (gives_edge roles (rep fs) (rep fs x) y) (edge_gives (rep fs) roles (rep fs x) y) fs
           ∙ ap (λ (n : ℕ). list_any (gives_edge roles (rep fs) (rep fs x) n) fs) (sym own)
           ∙ sym (ap (λ (b : Bool). b && has_edge fs roles x y) (eq-eqb (rep fs y) y own))
@@ -268,10 +266,10 @@ apart_gives m at to (Edge r y z) = refl
 apart_gives m at to (Apart y z) = refl
 apart_gives m at to (Same y z) = refl
 
-pub aparts_are : (fs : List (Fact ℕ)) (x : ℕ) → AreFit fs → x < node_count fs → AreAparts fs x (lists_at (kept_of fs) (rep fs x)).aparts
-aparts_are fs x fit lt b =
-    let links = kept_linked fs fit in
-    (kept_told fs fit).aparts (λ z. rep fs z == b) (rep fs x) (omega (arith, lt, links.below x, count_is fs fit)) (links.twice x)
+pub aparts_are : (first : ℕ) (fs : List (Fact ℕ)) (x : ℕ) → AreFit first fs → x < node_count_from first fs → AreAparts fs x (lists_at (kept_of first fs) (rep fs x)).aparts
+aparts_are first fs x fit lt b =
+    let links = kept_linked first fs fit in
+    (kept_told first fs fit).aparts (λ z. rep fs z == b) (rep fs x) (omega (arith, lt, links.below x, count_is first fs fit)) (links.twice x)
     ∙ any_same (gives (λ n. n.aparts) apart_of [] (λ z. rep fs z == b) (rep fs) (rep fs x)) (gives_first (rep fs) (rep fs x) b) (apart_gives (rep fs) (rep fs x) b) fs
 
 either : (m : ℕ → ℕ) (a b : ℕ) (f : Fact ℕ) → gives_apart m a b f ≡ (gives_first m a b f || gives_first m b a f)
@@ -285,26 +283,26 @@ apart_is_either fs x y = any_or (gives_apart (rep fs) (rep fs x) (rep fs y)) (gi
 
 -- ---- nodes that are not there
 
-concept_nothing : (fs : List (Fact ℕ)) (x : ℕ) (kind : ℕ → Bool) → AreFit fs → node_count fs ≤ x → list_any (gives_concept kind (rep fs) (rep fs x)) fs ≡ false
-concept_nothing fs x kind fit le =
-    let links = kept_linked fs fit in
-    let own : rep fs x ≡ x = links.beyond x (omega (arith, le, count_is fs fit)) in
+concept_nothing : (first : ℕ) (fs : List (Fact ℕ)) (x : ℕ) (kind : ℕ → Bool) → AreFit first fs → node_count_from first fs ≤ x → list_any (gives_concept kind (rep fs) (rep fs x)) fs ≡ false
+concept_nothing first fs x kind fit le =
+    let links = kept_linked first fs fit in
+    let own : rep fs x ≡ x = links.beyond x (omega (arith, le, count_is first fs fit)) in
     sym (any_same (gives (λ n. n.concepts) concept_of (0 ∷ []) kind (rep fs) (rep fs x)) (gives_concept kind (rep fs) (rep fs x)) (concept_gives (rep fs) (rep fs x) kind) fs)
-    ∙ nothing (λ n. n.concepts) concept_of (0 ∷ []) concept_fits (rep fs) links.below fs fit (rep fs x) (omega (arith, le, own)) kind
+    ∙ nothing first (λ n. n.concepts) concept_of (0 ∷ []) concept_fits (rep fs) links.below fs fit (rep fs x) (omega (arith, le, own)) kind
 
-pub label_beyond : (fs : List (Fact ℕ)) (x : ℕ) → AreFit fs → node_count fs ≤ x → IsLabel fs x (0 ∷ [])
-label_beyond fs x fit le c =
-    or-false (0 == c) ∙ same_both_ways 0 c ∙ sym (or-false (c == 0)) ∙ ap (λ (b : Bool). c == 0 || b) (sym (concept_nothing fs x (λ d. d == c) fit le))
+pub label_beyond : (first : ℕ) (fs : List (Fact ℕ)) (x : ℕ) → AreFit first fs → node_count_from first fs ≤ x → IsLabel fs x (0 ∷ [])
+label_beyond first fs x fit le c =
+    or-false (0 == c) ∙ same_both_ways 0 c ∙ sym (or-false (c == 0)) ∙ ap (λ (b : Bool). c == 0 || b) (sym (concept_nothing first fs x (λ d. d == c) fit le))
 
-pub has_beyond : (fs : List (Fact ℕ)) (x c : ℕ) → AreFit fs → node_count fs ≤ x → (c == 0) ≡ has fs x c
-has_beyond fs x c fit le = sym (or-false (c == 0)) ∙ ap (λ (b : Bool). c == 0 || b) (sym (concept_nothing fs x (λ d. d == c) fit le))
+pub has_beyond : (first : ℕ) (fs : List (Fact ℕ)) (x c : ℕ) → AreFit first fs → node_count_from first fs ≤ x → (c == 0) ≡ has fs x c
+has_beyond first fs x c fit le = sym (or-false (c == 0)) ∙ ap (λ (b : Bool). c == 0 || b) (sym (concept_nothing first fs x (λ d. d == c) fit le))
 
-edge_nothing : (fs : List (Fact ℕ)) (x y : ℕ) (roles : ℕ → Bool) → AreFit fs → node_count fs ≤ x → has_edge fs roles x y ≡ false
-edge_nothing fs x y roles fit le =
-    let links = kept_linked fs fit in
-    let own : rep fs x ≡ x = links.beyond x (omega (arith, le, count_is fs fit)) in
+edge_nothing : (first : ℕ) (fs : List (Fact ℕ)) (x y : ℕ) (roles : ℕ → Bool) → AreFit first fs → node_count_from first fs ≤ x → has_edge fs roles x y ≡ false
+edge_nothing first fs x y roles fit le =
+    let links = kept_linked first fs fit in
+    let own : rep fs x ≡ x = links.beyond x (omega (arith, le, count_is first fs fit)) in
     sym (any_same (gives (λ n. n.edges) edge_of [] (λ p. roles p.0 && rep fs p.1 == rep fs y) (rep fs) (rep fs x)) (gives_edge roles (rep fs) (rep fs x) (rep fs y)) (edge_gives (rep fs) roles (rep fs x) (rep fs y)) fs)
-    ∙ nothing (λ n. n.edges) edge_of [] edge_fits (rep fs) links.below fs fit (rep fs x) (omega (arith, le, own)) (λ p. roles p.0 && rep fs p.1 == rep fs y)
+    ∙ nothing first (λ n. n.edges) edge_of [] edge_fits (rep fs) links.below fs fit (rep fs x) (omega (arith, le, own)) (λ p. roles p.0 && rep fs p.1 == rep fs y)
 
-pub edges_beyond : (fs : List (Fact ℕ)) (x : ℕ) → AreFit fs → node_count fs ≤ x → AreEdges fs x []
-edges_beyond fs x fit le roles y = sym (and_right (rep fs y == y) (has_edge fs roles x y) (edge_nothing fs x y roles fit le))
+pub edges_beyond : (first : ℕ) (fs : List (Fact ℕ)) (x : ℕ) → AreFit first fs → node_count_from first fs ≤ x → AreEdges fs x []
+edges_beyond first fs x fit le roles y = sym (and_right (rep fs y == y) (has_edge fs roles x y) (edge_nothing first fs x y roles fit le))

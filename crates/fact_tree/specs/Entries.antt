@@ -5,7 +5,7 @@ use Rattle.std.specs.Prelude.{◌≡◌, ℕ, ◌+◌, ◌<◌, ◌≤◌, ◌==
 use Rattle.std.specs.List.{list_any}
 use Rattle.calculus_specs.specs.declared.facts.Fact.{Fact}
 use Rattle.calculus_specs.specs.declared.facts.Fact.TheVariants.{Has, Edge, Apart, Same}
-use Rattle.calculus_specs.specs.State.{node_count}
+use Rattle.calculus_specs.specs.State.{node_count_from}
 use Rattle.fact_tree.specs.declared.store.Lengths.{Lengths}
 use Rattle.fact_tree.specs.declared.tree.Entry.{Entry}
 use Rattle.fact_tree.specs.Kept.{Lists, Kept, kept_of, lists_at, bare, cut_lists, set_each, Begins}
@@ -70,8 +70,8 @@ abbrev pub facts_of : List Entry → List (Fact ℕ)
 facts_of es = map (λ e. e.fact) es
 
 -- each entry leads back to what was kept before it
-pub record AreEntries (es : List Entry) : Type 0 where
-  pub each : (p : ℕ) (d : Entry) → p < length es → Undoes (get_or es p d).lengths (kept_of (facts_of (take (p + 1) es))) (kept_of (facts_of (take p es)))
+pub record AreEntries (first : ℕ) (es : List Entry) : Type 0 where
+  pub each : (p : ℕ) (d : Entry) → p < length es → Undoes (get_or es p d).lengths (kept_of first (facts_of (take (p + 1) es))) (kept_of first (facts_of (take p es)))
 
 -- ---- links
 
@@ -95,15 +95,14 @@ AreOrdered at high (Has y c) = Unit {0}
 AreOrdered at high (Edge r y z) = Unit {0}
 AreOrdered at high (Apart y z) = Unit {0}
 
-pub record AreFit (fs : List (Fact ℕ)) : Type 0 where
-  pub each : (p : ℕ) (d : Fact ℕ) → p < length fs → IsFit (node_count (take p fs)) (get_or fs p d)
+pub record AreFit (first : ℕ) (fs : List (Fact ℕ)) : Type 0 where
+  pub each : (p : ℕ) (d : Fact ℕ) → p < length fs → IsFit (node_count_from first (take p fs)) (get_or fs p d)
 
 -- ---- links and nodes together
 
 -- the links lead to the representatives by m, which are not above their nodes
 pub record IsLinked (m : ℕ → ℕ) (k : Kept) : Type 0 where
   pub equal : length k.links ≡ length k.nodes
-  pub some : 0 < length k.nodes
   pub leads : Leads m k.links
   pub below : (x : ℕ) → m x ≤ x
   pub twice : (x : ℕ) → m (m x) ≡ m x

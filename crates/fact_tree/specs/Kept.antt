@@ -1,6 +1,6 @@
 -- What a tree keeps of a list of facts, as a fold over it: a link for each node, to its representative, and the lists
 -- of each node, of which those of representatives are read.
-use Rattle.std.specs.Prelude.{◌≡◌, ℕ, ◌==◌, min, max, List, [], ◌∷◌, ◌++◌, length, take, get_or, if◌then◌else◌, slice_set}
+use Rattle.std.specs.Prelude.{◌≡◌, ℕ, zero, suc, ◌==◌, min, max, List, [], ◌∷◌, ◌++◌, length, take, get_or, if◌then◌else◌, slice_set}
 use Rattle.std.specs.List.{list_any}
 use Rattle.calculus_specs.specs.declared.facts.Fact.{Fact}
 use Rattle.calculus_specs.specs.declared.facts.Fact.TheVariants.{Has, Edge, Apart, Same}
@@ -8,7 +8,7 @@ use Rattle.calculus_specs.specs.Joins.{rep_after}
 
 -- the lists of a node
 pub record Lists : Type 0 where
-  -- the role of the first edge into the node, and where that edge begins; no matter at node 0
+  -- the role of the first edge into the node, and where that edge begins; no matter at a first node
   pub origin : ℕ × ℕ
   pub members : List ℕ
   pub concepts : List ℕ
@@ -129,9 +129,11 @@ abbrev pub kept_from : (ℕ → ℕ) → List (Fact ℕ) → Kept → Kept
 kept_from m [] k = k
 kept_from m (f ∷ fs) k = kept_from (rep_after m f) fs (after m f k)
 
-abbrev pub empty : Kept
-empty = record { links = 0 ∷ []; nodes = bare ∷ [] }
+-- the first nodes alone, of which nothing is known
+abbrev pub empty : ℕ → Kept
+empty zero = record { links = []; nodes = [] }
+empty (suc n) = grown (0, 0) (empty n)
 
--- what is kept of a list of facts; node 0 is there
-abbrev pub kept_of : List (Fact ℕ) → Kept
-kept_of fs = kept_from (λ x. x) fs empty
+-- what is kept of a list of facts, over so many first nodes
+abbrev pub kept_of : ℕ → List (Fact ℕ) → Kept
+kept_of first fs = kept_from (λ x. x) fs (empty first)

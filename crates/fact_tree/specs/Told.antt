@@ -1,10 +1,11 @@
 -- What a tree answers of nodes that are apart, and what it gains with new nodes.
-use Rattle.std.specs.Prelude.{◌≡◌, ℕ, ◌<◌, ◌==◌, ◌&&◌, Bool, true, false, List, ◌++◌, length, get_or, Some}
+use Rattle.std.specs.Prelude.{◌≡◌, ℕ, ◌<◌, ◌==◌, ◌&&◌, Bool, true, false, List, ◌++◌, length, take, get_or, Some}
 use Rattle.std.specs.List.{list_any}
 use Rattle.calculus_specs.specs.declared.facts.Fact.{Fact}
 use Rattle.calculus_specs.specs.Joins.{rep}
-use Rattle.calculus_specs.specs.State.{node_count, parent, has_edge, gives_concept, gives_edge, gives_apart, fresh_facts}
+use Rattle.calculus_specs.specs.State.{node_count_from, parent_from, has_edge, gives_concept, gives_edge, gives_apart, fresh_facts}
 use Rattle.calculus_specs.specs.declared.facts.Fact.TheVariants.{Has, Edge, Apart, Same}
+use Rattle.fact_tree.specs.Facts.{TreeFacts}
 
 -- whether the fact keeps a node with the representative a, which it names first, apart from one with the representative
 -- b
@@ -23,12 +24,17 @@ abbrev pub is_first_apart : List (Fact ℕ) → ℕ → ℕ → Bool
 is_first_apart fs x y = list_any (gives_first (rep fs) (rep fs x) (rep fs y)) fs
 
 -- the facts with those of new nodes behind them, as many as `count`
-abbrev pub with_fresh : List (Fact ℕ) → ℕ → ℕ → ℕ → ℕ → List (Fact ℕ)
-with_fresh fs x s e count = fs ++ fresh_facts x s e (node_count fs) count
+abbrev pub with_fresh : TreeFacts → ℕ → ℕ → ℕ → ℕ → TreeFacts
+with_fresh t x s e count = record { first = t.first; facts = t.facts ++ fresh_facts x s e (node_count_from t.first t.facts) count }
+
+-- the same first nodes, and the later facts begin with the earlier ones
+pub record Continues (earlier later : TreeFacts) : Type 0 where
+  pub first : later.first ≡ earlier.first
+  pub begins : take (length earlier.facts) later.facts ≡ earlier.facts
 
 -- an edge of the role leads to the node from its parent
-abbrev pub IsOrigin : List (Fact ℕ) → ℕ → (ℕ × ℕ) → Type 0
-IsOrigin fs x o = (has_edge fs (λ s. s == o.0) o.1 x ≡ true) × (parent fs x ≡ Some o.1)
+abbrev pub IsOrigin : ℕ → List (Fact ℕ) → ℕ → (ℕ × ℕ) → Type 0
+IsOrigin first fs x o = (has_edge fs (λ s. s == o.0) o.1 x ≡ true) × (parent_from first fs x ≡ Some o.1)
 
 -- whether a fact alone says what is asked, where m leads each node to its representative; that two nodes are one is
 -- said by joins

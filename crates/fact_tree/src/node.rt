@@ -18,7 +18,7 @@ const MOST: usize = u32::MAX as usize;
 /// The lists of a node. Those of a representative are the lists of all nodes that are one with it.
 #[derive(Drop)]
 pub(crate) struct Node<A: Allocator> {
-    // The role of the first edge into it, and where that edge begins; no matter at node 0.
+    // The role of the first edge into it, and where that edge begins; no matter at a first node.
     origin: (u32, u32),
     // The nodes that are one with it, where it is a representative: itself first.
     members: Vec<u32, A>,
@@ -29,10 +29,12 @@ pub(crate) struct Node<A: Allocator> {
     print: [u64; 4],
     // A bit for each concept where they are many; else no words.
     bits: Vec<u64, A>,
-    // Where to look first for what says something of it: the places of the first edge into it, and, beside the lists,
-    // of what gave its concepts and its aparts. No answer rests on them: who looks there checks what stands there.
-    origin_place: u32,
+    // Where to look first for what says something of it: the places of the last edge into it, and, beside the lists, of
+    // what gave its concepts, its edges and its aparts. No answer rests on them: who looks there checks what stands
+    // there.
+    entry_place: u32,
     concept_places: Vec<u32, A>,
+    edge_places: Vec<u32, A>,
     apart_places: Vec<u32, A>,
 }
 
@@ -79,13 +81,14 @@ impl<A: Allocator + Copy> Node<A> {
             aparts: Vec::new(alloc),
             print,
             bits: Vec::new(alloc),
-            origin_place: place,
+            entry_place: place,
             concept_places,
+            edge_places: Vec::new(alloc),
             apart_places: Vec::new(alloc),
         })
     }
 
-    /// The role of the first edge into it, and where that edge begins; no matter at node 0.
+    /// The role of the first edge into it, and where that edge begins; no matter at a first node.
     pub(crate) fn origin(&self) -> (u32, u32)
         ensures { result ≡ self.now.origin }
     {
@@ -159,9 +162,16 @@ impl<A: Allocator + Copy> Node<A> {
         self.concepts.contains(&concept)
     }
 
-    /// Where to look first for the edge that leads to it from its parent.
-    pub(crate) fn origin_place(&self) -> u32 {
-        self.origin_place
+    /// Where to look first for an edge that leads to it.
+    pub(crate) fn entry_place(&self) -> u32 {
+        self.entry_place
+    }
+
+    /// An edge that leads to it stands at a place.
+    pub(crate) fn note_entry(&mut self, place: u32)
+        ensures { self.new ≡ self.old }
+    {
+        self.entry_place = place;
     }
 
     /// Where to look first for what gave it a concept.
@@ -170,6 +180,11 @@ impl<A: Allocator + Copy> Node<A> {
             Some(index) => place_at(self.concept_places.as_slice(), index),
             None => u32::MAX,
         }
+    }
+
+    /// Where to look first for the edge at an index of its edges.
+    pub(crate) fn edge_place(&self, index: usize) -> u32 {
+        place_at(self.edge_places.as_slice(), index)
     }
 
     /// Where to look first for what keeps it apart from the node at an index of its aparts.
@@ -194,14 +209,15 @@ impl<A: Allocator + Copy> Node<A> {
         Ok(())
     }
 
-    /// Puts an edge last.
-    pub(crate) fn put_edge(&mut self, role: u32, end: u32) -> Result<(), NoMemory>
+    /// Puts an edge last. What gives it stands at a place.
+    pub(crate) fn put_edge(&mut self, role: u32, end: u32, place: u32) -> Result<(), NoMemory>
         ensures put { OnOk result (self.new ≡ leading role end self.old) }
         ensures unchanged { OnErr result (self.new ≡ self.old) }
     {
         if self.edges.len() >= MOST {
             return Err(NoMemory);
         }
+        self.edge_places.push(place)?;
         self.edges.push((role, end))?;
         Ok(())
     }
@@ -226,7 +242,7 @@ impl<A: Allocator + Copy> Node<A> {
         ensures members { OnErr result (self.new.members ≡ self.old.members) }
     {
         self.put_concepts(other.concepts(), other.concept_places.as_slice())?;
-        self.put_edges(other.edges())?;
+        self.put_edges(other.edges(), other.edge_places.as_slice())?;
         self.put_aparts(other.aparts(), other.apart_places.as_slice())?;
         self.put_members(other.members())
     }
@@ -242,13 +258,14 @@ impl<A: Allocator + Copy> Node<A> {
         Ok(())
     }
 
-    fn put_edges(&mut self, edges: &[(u32, u32)]) -> Result<(), NoMemory>
+    fn put_edges(&mut self, edges: &[(u32, u32)], places: &[u32]) -> Result<(), NoMemory>
         ensures put { OnOk result (self.new ≡ record self.old { edges = self.old.edges ++ edges.now }) }
         ensures unchanged { OnErr result (self.new ≡ self.old) }
     {
         if self.edges.len() + edges.len() > MOST {
             return Err(NoMemory);
         }
+        self.edge_places.extend_from_slice(places)?;
         self.edges.extend_from_slice(edges)?;
         Ok(())
     }
@@ -286,6 +303,7 @@ impl<A: Allocator + Copy> Node<A> {
         self.edges.truncate(edges as usize);
         self.aparts.truncate(aparts as usize);
         self.concept_places.truncate(concepts as usize);
+        self.edge_places.truncate(edges as usize);
         self.apart_places.truncate(aparts as usize);
     }
 }

@@ -45,19 +45,19 @@ impl<A: Allocator> Model for Store<A> {
 }
 
 impl<A: Allocator + Copy> Store<A> {
-    /// Node 0 alone.
-    pub(crate) fn new_in(alloc: A) -> Result<Store<A>, NoMemory>
-        ensures { IfOk result (λ s. s ≡ empty) }
+    /// The first nodes alone, so many.
+    pub(crate) fn new_in(alloc: A, first: u32) -> Result<Store<A>, NoMemory>
+        ensures { IfOk result (λ s. s ≡ empty first) }
     {
-        let mut links = Vec::new(alloc);
-        links.push(0)?;
-        let mut nodes = Vec::new(alloc);
-        nodes.push(Node::new_in(alloc, 0, (0, 0), u32::MAX)?)?;
-        Ok(Store {
+        let mut store = Store {
             alloc,
-            links,
-            nodes,
-        })
+            links: Vec::new(alloc),
+            nodes: Vec::new(alloc),
+        };
+        for _ in 0..first {
+            store.grow((0, 0), u32::MAX)?;
+        }
+        Ok(store)
     }
 
     /// How many nodes there are.
@@ -87,10 +87,10 @@ impl<A: Allocator + Copy> Store<A> {
         &self.nodes[node as usize]
     }
 
-    /// Where to look first for the first edge into a node.
-    pub(crate) fn origin_place(&self, node: u32) -> u32 {
+    /// Where to look first for an edge into a node.
+    pub(crate) fn entry_place(&self, node: u32) -> u32 {
         match self.nodes.get(node as usize) {
-            Some(node) => node.origin_place(),
+            Some(node) => node.entry_place(),
             None => u32::MAX,
         }
     }
@@ -133,12 +133,12 @@ impl<A: Allocator + Copy> Store<A> {
         self.nodes[at as usize].put_concept(concept, place)
     }
 
-    fn put_edge(&mut self, at: u32, role: u32, end: u32) -> Result<(), NoMemory>
+    fn put_edge(&mut self, at: u32, role: u32, end: u32, place: u32) -> Result<(), NoMemory>
         requires { at < length self.old.nodes }
         ensures put { OnOk result (self.new ≡ changed_at at (leading role end) self.old) }
         ensures unchanged { OnErr result (self.new ≡ self.old) }
     {
-        self.nodes[at as usize].put_edge(role, end)
+        self.nodes[at as usize].put_edge(role, end, place)
     }
 
     fn put_apart(&mut self, at: u32, other: u32, place: u32) -> Result<(), NoMemory>
@@ -188,7 +188,7 @@ impl<A: Allocator + Copy> Store<A> {
         ensures begins { OnErr result (HasMore self.old self.new) }
     {
         self.make((role, from), to, place)?;
-        self.put_edge(at, role, to)
+        self.put_edge(at, role, to, place)
     }
 
     fn make(&mut self, origin: (u32, u32), to: u32, place: u32) -> Result<(), NoMemory>
@@ -198,7 +198,17 @@ impl<A: Allocator + Copy> Store<A> {
         if to as usize == self.nodes.len() {
             return self.grow(origin, place);
         }
+        self.note_entry(to, place);
         Ok(())
+    }
+
+    // An edge that leads to a node stands at a place.
+    fn note_entry(&mut self, node: u32, place: u32)
+        ensures { self.new ≡ self.old }
+    {
+        if (node as usize) < self.nodes.len() {
+            self.nodes[node as usize].note_entry(place);
+        }
     }
 
     fn join_two(&mut self, high: u32, low: u32) -> Result<(), NoMemory>

@@ -2,12 +2,12 @@
 ghost use Rattle.std.specs.Prelude.{◌≡◌, ℕ, ◌==◌, true, false, get_or, ◌+◌, ◌-◌, ◌<◌, ◌≤◌, ◌^◌, [], ◌∷◌, ◌++◌, OnOk, OnErr, IfOk, length, take, slice_get, Some, IsNone, IfSome};
 ghost use Rattle.std.specs.List.{list_all};
 ghost use Rattle.calculus_specs.specs.Joins.{rep};
-ghost use Rattle.calculus_specs.specs.State.{node_count, has, are_apart, gives_concept, gives_edge, gives_apart, parent as parent_of, new_nodes, apart_from, pairwise_apart, fresh_facts, HasParentsBefore};
+ghost use Rattle.calculus_specs.specs.State.{node_count_from, has, are_apart, gives_concept, gives_edge, gives_apart, parent_from, new_nodes, apart_from, pairwise_apart, fresh_facts, HaveParentsBefore};
 ghost use Rattle.calculus_specs.specs.declared.facts.Fact.TheVariants.{Has, Edge};
 ghost use Rattle.fact_tree.specs.Kept.{Kept, kept_of, after_at, at_of, high_of};
 ghost use Rattle.fact_tree.specs.Entries.{IsFit, IsPlace, AreOrdered, Undoes, Leads, lengths_of};
-ghost use Rattle.calculus_specs.specs.Listed.{IsLabel, IsOnce, AreEdges};
-ghost use Rattle.fact_tree.specs.Told.{with_fresh, AreAparts, is_first_apart, IsOrigin, gives, IsGround, IsUngrounded, IsAlone};
+ghost use Rattle.calculus_specs.specs.Listed.{IsLabel, IsOnce, AreEdges, AreJoined};
+ghost use Rattle.fact_tree.specs.Told.{with_fresh, AreAparts, is_first_apart, IsOrigin, Continues, gives, IsGround, IsUngrounded, IsAlone};
 
 use crate::node::Node;
 use crate::store::{Lengths, Store};
@@ -25,57 +25,70 @@ pub(crate) struct Entry {
 /// The facts of a trail, and what they say of their nodes.
 #[derive(Drop)]
 pub struct FactTree<A: Allocator> {
+    first: u32,
     store: Store<A>,
     entries: Vec<Entry, A>,
 }
 
 impl<A: Allocator> Model for FactTree<A> {
-    ghost use Rattle.std.specs.Prelude.{◌≡◌, ℕ, List};
-    ghost use Rattle.calculus_specs.specs.declared.facts.Fact.{Fact as PlainFact};
+    ghost use Rattle.std.specs.Prelude.{◌≡◌, ◌<◌, ℕ};
+    ghost use Rattle.fact_tree.specs.Facts.{TreeFacts};
     ghost use Rattle.fact_tree.specs.Kept.{kept_of};
     ghost use Rattle.fact_tree.specs.Entries.{facts_of, AreEntries, AreFit};
 
-    ghost Value = { List (PlainFact ℕ) };
+    ghost Value = { TreeFacts };
 
-    ghost view = { λ t. facts_of t.entries.items };
+    ghost view = { λ t. record { first = t.first; facts = facts_of t.entries.items } };
 
-    ghost invariant = { λ t. (t.store ≡ kept_of (facts_of t.entries.items)) × AreEntries t.entries.items × AreFit (facts_of t.entries.items) };
+    ghost invariant = { λ t. (t.store ≡ kept_of t.first (facts_of t.entries.items)) × AreEntries t.first t.entries.items × AreFit t.first (facts_of t.entries.items) × (0 < t.first) };
 }
 
 impl<A: Allocator + Copy> FactTree<A> {
-    /// Node 0, of which nothing is known.
+    /// The first nodes, so many from node 0 on, of which nothing is known.
     ///
     /// # Errors
     ///
     /// Want of memory.
-    pub fn new_in(alloc: A) -> Result<FactTree<A>, NoMemory>
-        ensures { IfOk result (λ t. t ≡ []) }
+    pub fn new_in(alloc: A, first: u32) -> Result<FactTree<A>, NoMemory>
+        requires { 0 < first }
+        ensures { IfOk result (λ t. t ≡ record { first = first; facts = [] }) }
     {
         Ok(FactTree {
-            store: Store::new_in(alloc)?,
+            first,
+            store: Store::new_in(alloc, first)?,
             entries: Vec::new(alloc),
         })
     }
 
+    /// How many first nodes there are.
+    pub fn first(&self) -> u32
+        ensures first { result ≡ self.now.first }
+        ensures some { 0 < result }
+        ensures nodes { result ≤ node_count_from self.now.first self.now.facts }
+    {
+        let _ = &self.entries;
+        self.first
+    }
+
     /// How many facts there are.
     pub fn len(&self) -> usize
-        ensures { result ≡ length self.now }
+        ensures { result ≡ length self.now.facts }
     {
         self.entries.len()
     }
 
     /// The fact at a place, from 0.
     pub fn fact(&self, place: usize) -> Fact<u32>
-        requires { place < length self.now }
-        ensures { slice_get self.now place ≡ Some result }
+        requires { place < length self.now.facts }
+        ensures { slice_get self.now.facts place ≡ Some result }
     {
         self.entries[place].fact
     }
 
     /// How many nodes there are.
     pub fn nodes(&self) -> u32
-        ensures count { result ≡ node_count self.now }
-        ensures parents { HasParentsBefore self.now }
+        ensures count { result ≡ node_count_from self.now.first self.now.facts }
+        ensures parents { HaveParentsBefore self.now.first self.now.facts }
         ensures small { result + 200 < 2 ^ 32 }
     {
         let _ = &self.entries;
@@ -84,7 +97,7 @@ impl<A: Allocator + Copy> FactTree<A> {
 
     /// The representative of a node.
     pub fn representative(&self, node: u32) -> u32
-        ensures { result ≡ rep self.now node }
+        ensures { result ≡ rep self.now.facts node }
     {
         let _ = &self.entries;
         self.store.root(node)
@@ -92,9 +105,9 @@ impl<A: Allocator + Copy> FactTree<A> {
 
     /// What a node has, each concept once.
     pub fn label(&self, node: u32) -> &[u32]
-        ensures held { IsLabel self.now node result.now }
+        ensures held { IsLabel self.now.facts node result.now }
         ensures once { IsOnce result.now }
-        ensures beyond { node_count self.now ≤ node → result.now ≡ 0 ∷ [] }
+        ensures beyond { node_count_from self.now.first self.now.facts ≤ node → result.now ≡ 0 ∷ [] }
     {
         let _ = &self.entries;
         if node >= self.nodes() {
@@ -105,7 +118,7 @@ impl<A: Allocator + Copy> FactTree<A> {
 
     /// The edges that begin at a node, each as its role and a node, whose representative is the end.
     pub fn edges(&self, node: u32) -> &[(u32, u32)]
-        ensures { AreEdges self.now node result.now }
+        ensures { AreEdges self.now.facts node result.now }
     {
         let _ = &self.entries;
         if node >= self.nodes() {
@@ -116,7 +129,7 @@ impl<A: Allocator + Copy> FactTree<A> {
 
     /// Whether a node has a concept.
     pub fn has(&self, node: u32, concept: u32) -> bool
-        ensures { result ≡ has self.now node concept }
+        ensures { result ≡ has self.now.facts node concept }
     {
         let _ = &self.entries;
         if node >= self.nodes() {
@@ -125,27 +138,25 @@ impl<A: Allocator + Copy> FactTree<A> {
         self.lists(node).has(concept)
     }
 
-    /// The parent of a node, which node 0 does not have.
+    /// The parent of a node, which first nodes do not have.
     pub fn parent(&self, node: u32) -> Option<u32>
-        requires { node < node_count self.now }
-        ensures { result ≡ parent_of self.now node }
+        requires { node < node_count_from self.now.first self.now.facts }
+        ensures { result ≡ parent_from self.now.first self.now.facts node }
     {
-        let _ = &self.entries;
-        if node == 0 {
-            return None;
+        match self.origin(node) {
+            Some((_, parent)) => Some(parent),
+            None => None,
         }
-        let (_, parent) = self.store.node(node).origin();
-        Some(parent)
     }
 
-    /// The first edge into a node: its role, and the node where it begins. Node 0 has none.
+    /// The first edge into a node that is no first node: its role, and the node where it begins.
     pub fn origin(&self, node: u32) -> Option<(u32, u32)>
-        requires { node < node_count self.now }
-        ensures none { IsNone result → node ≡ 0 }
-        ensures some { IfSome result (IsOrigin self.now node) }
+        requires { node < node_count_from self.now.first self.now.facts }
+        ensures none { IsNone result → node < self.now.first }
+        ensures some { IfSome result (λ o. (self.now.first ≤ node) × IsOrigin self.now.first self.now.facts node o) }
     {
         let _ = &self.entries;
-        if node == 0 {
+        if node < self.first {
             return None;
         }
         Some(self.store.node(node).origin())
@@ -153,11 +164,11 @@ impl<A: Allocator + Copy> FactTree<A> {
 
     // The lists of a node's representative.
     fn lists(&self, node: u32) -> &Node<A>
-        requires { node < node_count self.now }
-        ensures label { IsLabel self.now node result.now.concepts }
+        requires { node < node_count_from self.now.first self.now.facts }
+        ensures label { IsLabel self.now.facts node result.now.concepts }
         ensures once { IsOnce result.now.concepts }
-        ensures edges { AreEdges self.now node result.now.edges }
-        ensures aparts { AreAparts self.now node result.now.aparts }
+        ensures edges { AreEdges self.now.facts node result.now.edges }
+        ensures aparts { AreAparts self.now.facts node result.now.aparts }
     {
         let _ = &self.entries;
         self.store.node(self.store.root(node))
@@ -166,17 +177,17 @@ impl<A: Allocator + Copy> FactTree<A> {
     /// Whether two nodes are apart.
     #[tactic(auto, using(crate::proofs::Reading::apart_is_either))]
     pub fn are_apart(&self, first: u32, second: u32) -> bool
-        requires first { first < node_count self.now }
-        requires second { second < node_count self.now }
-        ensures { result ≡ are_apart self.now first second }
+        requires first { first < node_count_from self.now.first self.now.facts }
+        requires second { second < node_count_from self.now.first self.now.facts }
+        ensures { result ≡ are_apart self.now.facts first second }
     {
         self.names_apart(first, second) || self.names_apart(second, first)
     }
 
     // Whether a fact keeps two nodes apart that names the first of them first.
     fn names_apart(&self, first: u32, second: u32) -> bool
-        requires { first < node_count self.now }
-        ensures { result ≡ is_first_apart self.now first second }
+        requires { first < node_count_from self.now.first self.now.facts }
+        ensures { result ≡ is_first_apart self.now.facts first second }
     {
         let root = self.representative(second);
         let mut is_met = false;
@@ -186,10 +197,19 @@ impl<A: Allocator + Copy> FactTree<A> {
         is_met
     }
 
+    /// The nodes that are one with a node, in some order.
+    pub fn members(&self, node: u32) -> &[u32]
+        requires { node < node_count_from self.now.first self.now.facts }
+        ensures { AreJoined self.now.facts (node_count_from self.now.first self.now.facts) node result.now }
+    {
+        let _ = &self.entries;
+        self.store.node(self.store.root(node)).members()
+    }
+
     /// Whether no other node is one with a node's representative.
     pub fn is_alone(&self, node: u32) -> bool
-        ensures alone { result ≡ true → IsAlone self.now node }
-        ensures joined { result ≡ false → ¬ IsAlone self.now node }
+        ensures alone { result ≡ true → IsAlone self.now.facts node }
+        ensures joined { result ≡ false → ¬ IsAlone self.now.facts node }
     {
         let _ = &self.entries;
         if node >= self.nodes() {
@@ -202,8 +222,8 @@ impl<A: Allocator + Copy> FactTree<A> {
     /// The place of a fact that alone says what is asked; none where there is none. That two nodes are one is said by
     /// no fact alone.
     pub fn ground(&self, asked: Fact<u32>) -> Option<usize>
-        ensures some { IfSome result (IsGround self.now asked) }
-        ensures none { IsNone result → IsUngrounded self.now asked }
+        ensures some { IfSome result (IsGround self.now.facts asked) }
+        ensures none { IsNone result → IsUngrounded self.now.facts asked }
     {
         let place = self.likely_place(asked);
         if self.is_ground(asked, place) {
@@ -214,8 +234,8 @@ impl<A: Allocator + Copy> FactTree<A> {
 
     // The first place of such a fact, looked for among all facts.
     fn first_ground(&self, asked: Fact<u32>) -> Option<usize>
-        ensures some { IfSome result (IsGround self.now asked) }
-        ensures none { IsNone result → IsUngrounded self.now asked }
+        ensures some { IfSome result (IsGround self.now.facts asked) }
+        ensures none { IsNone result → IsUngrounded self.now.facts asked }
     {
         for place in 0..self.len() {
             if self.is_ground(asked, place) {
@@ -227,8 +247,8 @@ impl<A: Allocator + Copy> FactTree<A> {
 
     // Whether the fact at a place says what is asked.
     fn is_ground(&self, asked: Fact<u32>, place: usize) -> bool
-        ensures beyond { length self.now ≤ place → result ≡ false }
-        ensures inside { place < length self.now → result ≡ gives (rep self.now) asked (get_or self.now place (Has 0 0)) }
+        ensures beyond { length self.now.facts ≤ place → result ≡ false }
+        ensures inside { place < length self.now.facts → result ≡ gives (rep self.now.facts) asked (get_or self.now.facts place (Has 0 0)) }
     {
         if place >= self.len() {
             return false;
@@ -240,7 +260,7 @@ impl<A: Allocator + Copy> FactTree<A> {
     fn likely_place(&self, asked: Fact<u32>) -> usize {
         match asked {
             Fact::Has(node, concept) => self.likely_concept(node, concept),
-            Fact::Edge(_, _, to) => self.likely_edge(asked, to),
+            Fact::Edge(role, from, to) => self.likely_edge(role, from, to),
             Fact::Apart(first, second) => self.likely_apart(first, second),
             Fact::Same(_, _) => usize::MAX,
         }
@@ -253,15 +273,40 @@ impl<A: Allocator + Copy> FactTree<A> {
         self.lists(node).concept_place(concept) as usize
     }
 
-    // Most edges are the first ones into their ends.
-    fn likely_edge(&self, asked: Fact<u32>, to: u32) -> usize {
-        if to >= self.nodes() {
+    // Most edges are the last ones into their ends, and most nodes have few edges.
+    fn likely_edge(&self, role: u32, from: u32, to: u32) -> usize {
+        if from >= self.nodes() || to >= self.nodes() {
             return usize::MAX;
         }
+        let place = self.likely_entry(role, from, to);
+        if place < self.len() {
+            return place;
+        }
+        self.likely_exit(role, from, to)
+    }
+
+    // Where to look first for an edge that is the last one into its end.
+    fn likely_entry(&self, role: u32, from: u32, to: u32) -> usize
+        requires { to < node_count_from self.now.first self.now.facts }
+    {
         for end in self.lists(to).members() {
-            let place = self.store.origin_place(*end) as usize;
-            if self.is_ground(asked, place) {
+            let place = self.store.entry_place(*end) as usize;
+            if self.is_ground(Fact::Edge(role, from, to), place) {
                 return place;
+            }
+        }
+        usize::MAX
+    }
+
+    // Where to look first for an edge among those that begin where it does.
+    fn likely_exit(&self, role: u32, from: u32, to: u32) -> usize
+        requires { from < node_count_from self.now.first self.now.facts }
+    {
+        let root = self.representative(to);
+        let lists = self.lists(from);
+        for (index, (given, end)) in lists.edges().iter().enumerate() {
+            if *given == role && self.representative(*end) == root {
+                return lists.edge_place(index) as usize;
             }
         }
         usize::MAX
@@ -280,7 +325,7 @@ impl<A: Allocator + Copy> FactTree<A> {
 
     // Where to look first for a fact that keeps two nodes apart and names the first of them first.
     fn likely_first_apart(&self, first: u32, second: u32) -> usize
-        requires { first < node_count self.now }
+        requires { first < node_count_from self.now.first self.now.facts }
     {
         let root = self.representative(second);
         let lists = self.lists(first);
@@ -292,14 +337,14 @@ impl<A: Allocator + Copy> FactTree<A> {
         usize::MAX
     }
 
-    /// Knows one fact more.
+    /// Knows one fact more. An edge whose end is there makes no node.
     ///
     /// # Errors
     ///
     /// Want of memory; nothing has changed.
     pub fn add(&mut self, fact: Fact<u32>) -> Result<(), NoMemory>
-        requires { IsFit (node_count self.old) fact }
-        ensures added { OnOk result (self.new ≡ self.old ++ fact ∷ []) }
+        requires { IsFit (node_count_from self.old.first self.old.facts) fact }
+        ensures added { OnOk result (self.new ≡ record self.old { facts = self.old.facts ++ fact ∷ [] }) }
         ensures unchanged { OnErr result (self.new ≡ self.old) }
     {
         let (at, high) = places(&self.store, fact);
@@ -318,9 +363,9 @@ impl<A: Allocator + Copy> FactTree<A> {
     ///
     /// Want of memory; nothing has changed.
     pub fn fresh(&mut self, from: u32, role: u32, concept: u32, count: u32) -> Result<u32, NoMemory>
-        requires from { from < node_count self.old }
+        requires from { from < node_count_from self.old.first self.old.facts }
         requires count { count ≤ 101 }
-        ensures first { IfOk result (λ first. first ≡ node_count self.old) }
+        ensures first { IfOk result (λ first. first ≡ node_count_from self.old.first self.old.facts) }
         ensures made { OnOk result (self.new ≡ with_fresh self.old from role concept count) }
         ensures unchanged { OnErr result (self.new ≡ self.old) }
     {
@@ -343,12 +388,12 @@ impl<A: Allocator + Copy> FactTree<A> {
         first: u32,
         count: u32,
     ) -> Result<(), NoMemory>
-        requires from { from < node_count self.old }
+        requires from { from < node_count_from self.old.first self.old.facts }
         requires count { count ≤ 101 }
-        requires first { first ≡ node_count self.old }
+        requires first { first ≡ node_count_from self.old.first self.old.facts }
         requires small { first + count < 2 ^ 32 }
-        ensures made { OnOk result (self.new ≡ self.old ++ fresh_facts from role concept first count) }
-        ensures begins { OnErr result (take (length self.old) self.new ≡ self.old) }
+        ensures made { OnOk result (self.new ≡ record self.old { facts = self.old.facts ++ fresh_facts from role concept first count }) }
+        ensures begins { OnErr result (Continues self.old self.new) }
     {
         self.put_nodes(from, role, concept, first, count)?;
         self.put_pairwise(first, count)
@@ -362,13 +407,13 @@ impl<A: Allocator + Copy> FactTree<A> {
         first: u32,
         count: u32,
     ) -> Result<(), NoMemory>
-        requires from { from < node_count self.old }
+        requires from { from < node_count_from self.old.first self.old.facts }
         requires count { count ≤ 101 }
-        requires first { first ≡ node_count self.old }
+        requires first { first ≡ node_count_from self.old.first self.old.facts }
         requires small { first + count < 2 ^ 32 }
-        ensures made { OnOk result (self.new ≡ self.old ++ new_nodes from role concept first count) }
-        ensures count { OnOk result (node_count self.new ≡ first + count) }
-        ensures begins { OnErr result (take (length self.old) self.new ≡ self.old) }
+        ensures made { OnOk result (self.new ≡ record self.old { facts = self.old.facts ++ new_nodes from role concept first count }) }
+        ensures count { OnOk result (node_count_from self.new.first self.new.facts ≡ first + count) }
+        ensures begins { OnErr result (Continues self.old self.new) }
     {
         for place in 0..count {
             self.put_node(from, role, concept, first + place)?;
@@ -377,21 +422,21 @@ impl<A: Allocator + Copy> FactTree<A> {
     }
 
     fn put_node(&mut self, from: u32, role: u32, concept: u32, node: u32) -> Result<(), NoMemory>
-        requires from { from < node_count self.old }
-        requires node { node ≡ node_count self.old }
-        ensures made { OnOk result (self.new ≡ self.old ++ Edge role from node ∷ Has node concept ∷ []) }
-        ensures nodes { OnOk result (node_count self.new ≡ node + 1) }
-        ensures begins { OnErr result (take (length self.old) self.new ≡ self.old) }
+        requires from { from < node_count_from self.old.first self.old.facts }
+        requires node { node ≡ node_count_from self.old.first self.old.facts }
+        ensures made { OnOk result (self.new ≡ record self.old { facts = self.old.facts ++ Edge role from node ∷ Has node concept ∷ [] }) }
+        ensures nodes { OnOk result (node_count_from self.new.first self.new.facts ≡ node + 1) }
+        ensures begins { OnErr result (Continues self.old self.new) }
     {
         self.add(Fact::Edge(role, from, node))?;
         self.add(Fact::Has(node, concept))
     }
 
     fn put_pairwise(&mut self, first: u32, count: u32) -> Result<(), NoMemory>
-        requires others { first + count ≤ node_count self.old }
+        requires others { first + count ≤ node_count_from self.old.first self.old.facts }
         requires small { first + count < 2 ^ 32 }
-        ensures made { OnOk result (self.new ≡ self.old ++ pairwise_apart first count) }
-        ensures begins { OnErr result (take (length self.old) self.new ≡ self.old) }
+        ensures made { OnOk result (self.new ≡ record self.old { facts = self.old.facts ++ pairwise_apart first count }) }
+        ensures begins { OnErr result (Continues self.old self.new) }
     {
         for place in 0..count {
             self.put_apart_from(first + place, first + place + 1, count - place - 1)?;
@@ -400,12 +445,12 @@ impl<A: Allocator + Copy> FactTree<A> {
     }
 
     fn put_apart_from(&mut self, node: u32, first: u32, count: u32) -> Result<(), NoMemory>
-        requires node { node < node_count self.old }
-        requires others { first + count ≤ node_count self.old }
+        requires node { node < node_count_from self.old.first self.old.facts }
+        requires others { first + count ≤ node_count_from self.old.first self.old.facts }
         requires small { first + count < 2 ^ 32 }
-        ensures made { OnOk result (self.new ≡ self.old ++ apart_from node first count) }
-        ensures nodes { OnOk result (node_count self.new ≡ node_count self.old) }
-        ensures begins { OnErr result (take (length self.old) self.new ≡ self.old) }
+        ensures made { OnOk result (self.new ≡ record self.old { facts = self.old.facts ++ apart_from node first count }) }
+        ensures nodes { OnOk result (node_count_from self.new.first self.new.facts ≡ node_count_from self.old.first self.old.facts) }
+        ensures begins { OnErr result (Continues self.old self.new) }
     {
         for place in 0..count {
             self.add(Fact::Apart(node, first + place))?;
@@ -415,8 +460,8 @@ impl<A: Allocator + Copy> FactTree<A> {
 
     /// Forgets the facts after the first so many.
     pub fn undo_to(&mut self, len: usize)
-        requires { len ≤ length self.old }
-        ensures { self.new ≡ take len self.old }
+        requires { len ≤ length self.old.facts }
+        ensures { self.new ≡ record self.old { facts = take len self.old.facts } }
     {
         for _ in len..self.entries.len() {
             self.pop();
@@ -425,8 +470,8 @@ impl<A: Allocator + Copy> FactTree<A> {
 
     // Forgets the last fact.
     fn pop(&mut self)
-        requires { 0 < length self.old }
-        ensures { self.new ≡ take (length self.old - 1) self.old }
+        requires { 0 < length self.old.facts }
+        ensures { self.new ≡ record self.old { facts = take (length self.old.facts - 1) self.old.facts } }
     {
         let last = self.entries.len() - 1;
         self.store.undo(self.entries[last].lengths);
@@ -453,7 +498,7 @@ fn places<A: Allocator + Copy>(store: &Store<A>, fact: Fact<u32>) -> (u32, u32)
 }
 
 fn says<A: Allocator + Copy>(facts: &FactTree<A>, asked: Fact<u32>, stated: Fact<u32>) -> bool
-    ensures { result ≡ gives (rep facts.now) asked stated }
+    ensures { result ≡ gives (rep facts.now.facts) asked stated }
 {
     match asked {
         Fact::Has(node, concept) => says_has(facts, node, concept, stated),
@@ -469,7 +514,7 @@ fn says_has<A: Allocator + Copy>(
     concept: u32,
     stated: Fact<u32>,
 ) -> bool
-    ensures { result ≡ gives_concept (λ d. d == concept) (rep facts.now) (rep facts.now node) stated }
+    ensures { result ≡ gives_concept (λ d. d == concept) (rep facts.now.facts) (rep facts.now.facts node) stated }
 {
     match stated {
         Fact::Has(other, given) => are_one(facts, other, node) && given == concept,
@@ -486,7 +531,7 @@ fn says_edge<A: Allocator + Copy>(
     to: u32,
     stated: Fact<u32>,
 ) -> bool
-    ensures { result ≡ gives_edge (λ s. s == role) (rep facts.now) (rep facts.now from) (rep facts.now to) stated }
+    ensures { result ≡ gives_edge (λ s. s == role) (rep facts.now.facts) (rep facts.now.facts from) (rep facts.now.facts to) stated }
 {
     match stated {
         Fact::Edge(given, begin, end) => {
@@ -504,7 +549,7 @@ fn says_apart<A: Allocator + Copy>(
     second: u32,
     stated: Fact<u32>,
 ) -> bool
-    ensures { result ≡ gives_apart (rep facts.now) (rep facts.now first) (rep facts.now second) stated }
+    ensures { result ≡ gives_apart (rep facts.now.facts) (rep facts.now.facts first) (rep facts.now.facts second) stated }
 {
     match stated {
         Fact::Apart(one, other) => {
@@ -519,7 +564,7 @@ fn says_apart<A: Allocator + Copy>(
 
 // Whether two nodes are one.
 fn are_one<A: Allocator + Copy>(facts: &FactTree<A>, first: u32, second: u32) -> bool
-    ensures { result ≡ (rep facts.now first == rep facts.now second) }
+    ensures { result ≡ (rep facts.now.facts first == rep facts.now.facts second) }
 {
     facts.representative(first) == facts.representative(second)
 }

@@ -36,7 +36,7 @@ alone_refusals bytes _ _ (more o j end place found stray) (more p k last other t
 -- ---- queries
 
 same_asked : (o : Listed) (kept : DocumentContext) (question : Text) (a b : Counts) (p q : Asked) → IsAskedBy o kept question a p → IsAskedBy o kept question b q → (a ≡ b) × (p ≡ q)
-same_asked o kept (follows inclusion) a b p q x y = queries kept.prefixes o.axioms (query_start o kept.nodes) inclusion a b p q x y
+same_asked o kept (follows statement) a b p q x y = queries kept.prefixes o.axioms (query_start o kept.nodes) statement a b p q x y
 same_asked o kept (has_element class) a b p q x y =
     let same = classes kept.prefixes o.axioms (query_start o kept.nodes) class a b p.sub q.sub x.0 y.0 in
     let sups : p.sup ≡ q.sup = x.1 ∙ sym y.1 in
@@ -44,11 +44,11 @@ same_asked o kept (has_element class) a b p q x y =
     (same.0, λ i. record { sub = same.1 i; sup = sups i; on = ons i })
 
 asked_not_refused : (o : Listed) (kept : DocumentContext) (question : Text) (a : Counts) (q : Asked) (e : Refusal) → IsAskedBy o kept question a q → IsNotAskedBy o kept question e → ⊥
-asked_not_refused o kept (follows inclusion) a q e x why = queries_not_refused kept.prefixes o.axioms (query_start o kept.nodes) inclusion a q e x why
+asked_not_refused o kept (follows statement) a q e x why = queries_not_refused kept.prefixes o.axioms (query_start o kept.nodes) statement a q e x why
 asked_not_refused o kept (has_element class) a q e x why = classes_not_refused kept.prefixes o.axioms (query_start o kept.nodes) class a q.sub e x.0 why
 
 same_refusal : (o : Listed) (kept : DocumentContext) (question : Text) (e f : Refusal) → IsNotAskedBy o kept question e → IsNotAskedBy o kept question f → e ≡ f
-same_refusal o kept (follows inclusion) e f why because = query_refusals kept.prefixes o.axioms (query_start o kept.nodes) inclusion e f why because
+same_refusal o kept (follows statement) e f why because = query_refusals kept.prefixes o.axioms (query_start o kept.nodes) statement e f why because
 same_refusal o kept (has_element class) e f why because = class_refusals kept.prefixes o.axioms (query_start o kept.nodes) class e f why because
 
 -- ---- questions

@@ -25,25 +25,25 @@ IsClassOf o kept class counts c = IsClass kept.prefixes o.axioms (query_start o 
 abbrev pub IsNoClassOf : Listed → DocumentContext → List ℕ → Refusal → Type 0
 IsNoClassOf o kept class e = IsNoClass kept.prefixes o.axioms (query_start o kept.nodes) class e
 
--- a question in its text: whether a class expression has an element, or whether an inclusion follows
+-- a question in its text: whether a class expression has an element, or whether a statement follows
 pub data Text : Type 0 where
   has_element : List ℕ → Text
   follows : List ℕ → Text
 
 abbrev pub question_text : Question → Text
 question_text (Q.HasElement class) = has_element class.now
-question_text (Q.Follows inclusion) = follows inclusion.now
+question_text (Q.Follows statement) = follows statement.now
 
 -- the query of a question on a document; that a class expression has an element is refuted by its inclusion in nothing,
 -- of any element
 abbrev pub IsAskedBy : Listed → DocumentContext → Text → Counts → Asked → Type 0
 IsAskedBy o kept (has_element class) counts q = IsClassOf o kept class counts q.sub × (q.sup ≡ bottom) × (q.on ≡ Any)
-IsAskedBy o kept (follows inclusion) counts q = IsAsked o kept inclusion counts q
+IsAskedBy o kept (follows statement) counts q = IsAsked o kept statement counts q
 
 -- why the text is no question on a document
 abbrev pub IsNotAskedBy : Listed → DocumentContext → Text → Refusal → Type 0
 IsNotAskedBy o kept (has_element class) e = IsNoClassOf o kept class e
-IsNotAskedBy o kept (follows inclusion) e = IsNotAsked o kept inclusion e
+IsNotAskedBy o kept (follows statement) e = IsNotAsked o kept statement e
 
 -- ---- documents alone
 

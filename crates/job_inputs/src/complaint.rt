@@ -134,6 +134,7 @@ fn limit_name(which: Which) -> &'static str
         Which::Axioms => "axioms",
         Which::Classes => "classes",
         Which::Roles => "roles",
+        Which::Individuals => "individuals",
         Which::Nodes => "nodes",
         Which::Number => "number",
         Which::Parts => "parts",

@@ -2,8 +2,9 @@
 //!
 //! - **Inputs.** A job is asked about a document alone. After its last bracket only whitespace and comments may stand
 //!   (OWL 2 Structural Specification and Functional-Style Syntax, section 2.1, has no more in an ontology document);
-//!   the first other byte is a fault of the document, on its line. A question is an inclusion of two class expressions,
-//!   or whether a class expression has an element, which asks for the inclusion of it in `owl:Nothing`.
+//!   the first other byte is a fault of the document, on its line. A question is a statement, that is an
+//!   inclusion of two class expressions or that an individual is in one, or whether a class expression has an element,
+//!   which asks for the inclusion of it in `owl:Nothing`.
 //! - **Answers.** Each job answers a status and one text. A document or a query that is refused is answered in the same
 //!   way by each of them: with the sort of the refusal, what is wrong, and where.
 #![tactic(auto)]

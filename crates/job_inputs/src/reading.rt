@@ -17,7 +17,7 @@ use std::alloc::Global;
 pub enum Question<'a> {
     /// Whether the class expression of this text has an element in some interpretation.
     HasElement(&'a str),
-    /// Whether the axiom of this text follows, a `SubClassOf`.
+    /// Whether the axiom of this text follows, a `SubClassOf` or a `ClassAssertion`.
     Follows(&'a str),
 }
 
@@ -73,21 +73,21 @@ pub fn read_question(
 {
     match question {
         Question::HasElement(class) => query_of_class(alloc, class, ontology, context),
-        Question::Follows(inclusion) => query_of_inclusion(alloc, inclusion, ontology, context),
+        Question::Follows(statement) => query_of_statement(alloc, statement, ontology, context),
     }
 }
 
-fn query_of_inclusion(
+fn query_of_statement(
     alloc: Global,
-    inclusion: &str,
+    statement: &str,
     ontology: &mut Ontology,
     context: &Context,
 ) -> Result<Query, Unread>
-    ensures read { IfOk result (IsReadQuestion ontology.old context.now (follows inclusion.now) ontology.new) }
-    ensures unread { IfErr result (IsUnreadQuestion ontology.old context.now (follows inclusion.now)) }
+    ensures read { IfOk result (IsReadQuestion ontology.old context.now (follows statement.now) ontology.new) }
+    ensures unread { IfErr result (IsUnreadQuestion ontology.old context.now (follows statement.now)) }
     ensures unchanged { OnErr result (ontology.new ≡ ontology.old) }
 {
-    query_on(alloc, inclusion, ontology, context)
+    query_on(alloc, statement, ontology, context)
 }
 
 // The query that asks whether a class expression has an element.

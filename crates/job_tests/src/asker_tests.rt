@@ -1,7 +1,7 @@
 // One search over objects of different kinds that answer about the same sets.
 ghost use Rattle.std.specs.Prelude.{◌≡◌, [], IfOk};
 ghost use Rattle.std.specs.List.{All};
-ghost use Rattle.ontology_limits.specs.Limits.{IsInLimit, IsWithoutIndividuals};
+ghost use Rattle.ontology_limits.specs.Limits.{IsInLimit};
 
 use crate::reading::{read, set_of};
 use axiom_sets::AxiomSet;
@@ -89,7 +89,6 @@ fn sets_of(alloc: Global, members: &[[u32; 3]]) -> Result<Vec<AxiomSet>, NoMemor
 // Over an asker among all axioms.
 fn by_all(alloc: Global, ontology: &Ontology, query: &Query) -> Result<Lists, NoMemory>
     requires in_limit { IsInLimit ontology.now query.now }
-    requires without_individuals { IsWithoutIndividuals ontology.now query.now }
 {
     let oracle = Oracle::new(alloc, ontology, 1000, RunLog::new(alloc));
     lists_of(alloc, Asker::new(alloc, oracle, query))
@@ -98,7 +97,6 @@ fn by_all(alloc: Global, ontology: &Ontology, query: &Query) -> Result<Lists, No
 // Over an asker among the axioms of the local module.
 fn by_module(alloc: Global, ontology: &Ontology, query: &Query) -> Result<Lists, NoMemory>
     requires in_limit { IsInLimit ontology.now query.now }
-    requires without_individuals { IsWithoutIndividuals ontology.now query.now }
 {
     let module = module(alloc, ontology, query)?;
     let oracle = Oracle::new(alloc, ontology, 1000, RunLog::new(alloc));
@@ -118,7 +116,6 @@ fn check_lists(
     wanted: &Lists,
 ) -> Result<(), NoMemory>
     requires in_limit { IsInLimit ontology.now query.now }
-    requires without_individuals { IsWithoutIndividuals ontology.now query.now }
 {
     assert_same(rt, &by_all(alloc, ontology, query)?, wanted);
     assert_same(rt, &by_module(alloc, ontology, query)?, wanted);
@@ -138,7 +135,6 @@ fn check_on(
     wanted: &Lists,
 ) -> Result<(), Refusal>
     requires in_limit { IsInLimit ontology.now query.now }
-    requires without_individuals { IsWithoutIndividuals ontology.now query.now }
 {
     check_lists(rt, alloc, ontology, query, wanted)?;
     Ok(())

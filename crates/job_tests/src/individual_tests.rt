@@ -1,5 +1,5 @@
-// Refutations over individuals, each for a query on one of them or on each element. The ontology is made here, as no
-// document has any individual.
+// Refutations over individuals, each for a query on one of them or on each element. The ontology is made here, without
+// a text.
 ghost use Rattle.std.specs.Prelude.{◌≡◌, ◌∷◌, [], IsTrue, IfOk, OnOk, length};
 ghost use Rattle.shq_terms.specs.Concept.{name};
 ghost use Rattle.shq_terms.specs.Listed.{with_axiom};

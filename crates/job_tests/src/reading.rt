@@ -1,6 +1,6 @@
 // Documents and sets of their axioms, for calls below the jobs.
 ghost use Rattle.std.specs.Prelude.{◌≡◌, IfOk};
-ghost use Rattle.ontology_limits.specs.Limits.{IsInLimit, IsWithoutIndividuals};
+ghost use Rattle.ontology_limits.specs.Limits.{IsInLimit};
 
 use axiom_sets::AxiomSet;
 use ofn_reader::{Refusal, read_ontology, read_query};
@@ -14,7 +14,6 @@ pub(crate) fn read(
     query: &str,
 ) -> Result<(Ontology, Query), Refusal>
     ensures in_limit { IfOk result (λ r. IsInLimit r.0 r.1) }
-    ensures without_individuals { IfOk result (λ r. IsWithoutIndividuals r.0 r.1) }
 {
     if document.len() > 1000 {
         return Err(Refusal::NoMemory);

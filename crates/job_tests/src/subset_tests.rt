@@ -180,6 +180,108 @@ const ONTOLOGIES: &[(&[&str], &str)] = &[
         ],
         "SubClassOf(:A :D)",
     ),
+    (
+        &[
+            "ClassAssertion(ObjectMaxCardinality(1 :R) :a)",
+            "ObjectPropertyAssertion(:R :a :b)",
+            "ObjectPropertyAssertion(:R :a :c)",
+            "DifferentIndividuals(:b :c)",
+        ],
+        "SubClassOf(owl:Thing owl:Nothing)",
+    ),
+    (
+        &[
+            "ClassAssertion(ObjectMaxCardinality(1 :R) :a)",
+            "ObjectPropertyAssertion(:R :a :b)",
+            "ObjectPropertyAssertion(:R :a :c)",
+            "ClassAssertion(:B :b)",
+        ],
+        "ClassAssertion(:B :c)",
+    ),
+    (
+        &[
+            "ClassAssertion(:A :a)",
+            "SameIndividual(:a :b)",
+            "SameIndividual(:c :b)",
+        ],
+        "ClassAssertion(:A :c)",
+    ),
+    (
+        &[
+            "ObjectPropertyAssertion(:R :a :b)",
+            "ClassAssertion(ObjectAllValuesFrom(:R :B) :a)",
+            "SubClassOf(:B :A)",
+        ],
+        "ClassAssertion(:A :b)",
+    ),
+    (
+        &[
+            "ObjectPropertyAssertion(:R :a :b)",
+            "ObjectPropertyAssertion(:R :b :c)",
+            "TransitiveObjectProperty(:R)",
+            "ClassAssertion(ObjectAllValuesFrom(:R :B) :a)",
+        ],
+        "ClassAssertion(:B :c)",
+    ),
+    (
+        &[
+            "ObjectPropertyAssertion(:S :a :b)",
+            "SubObjectPropertyOf(:S :R)",
+            "ObjectPropertyRange(:R :A)",
+        ],
+        "ClassAssertion(:A :b)",
+    ),
+    (
+        &[
+            "ObjectPropertyAssertion(:R :a :b)",
+            "FunctionalObjectProperty(:R)",
+            "ObjectPropertyAssertion(:R :a :c)",
+            "ClassAssertion(:A :b)",
+        ],
+        "ClassAssertion(:A :c)",
+    ),
+    (
+        &[
+            "ClassAssertion(ObjectSomeValuesFrom(:R :A) :a)",
+            "SubClassOf(owl:Thing ObjectMaxCardinality(1 :R))",
+            "ObjectPropertyAssertion(:R :a :b)",
+        ],
+        "ClassAssertion(:A :b)",
+    ),
+    (
+        &[
+            "ClassAssertion(ObjectMinCardinality(2 :R :A) :a)",
+            "ClassAssertion(ObjectMaxCardinality(2 :R) :a)",
+            "ObjectPropertyAssertion(:R :a :b)",
+        ],
+        "ClassAssertion(:A :b)",
+    ),
+    (
+        &[
+            "ClassAssertion(ObjectMinCardinality(2 :R) :a)",
+            "ObjectPropertyAssertion(:R :a :b)",
+            "ClassAssertion(ObjectMaxCardinality(1 :R :B) :a)",
+            "ClassAssertion(ObjectAllValuesFrom(:R :B) :a)",
+        ],
+        "SubClassOf(owl:Thing owl:Nothing)",
+    ),
+    (
+        &[
+            "SameIndividual(:a :b)",
+            "ObjectPropertyAssertion(:R :a :c)",
+            "ClassAssertion(ObjectAllValuesFrom(:R :A) :b)",
+        ],
+        "ClassAssertion(:A :c)",
+    ),
+    (
+        &[
+            "ClassAssertion(:A :a)",
+            "ObjectPropertyAssertion(:R :a :b)",
+            "SubClassOf(:A ObjectAllValuesFrom(:R :A))",
+            "ObjectPropertyAssertion(:R :b :a)",
+        ],
+        "ClassAssertion(ObjectAllValuesFrom(:R ObjectAllValuesFrom(:R :A)) :b)",
+    ),
 ];
 
 // Whether the axiom at this place, from 0, is in the subset.

@@ -4,6 +4,7 @@ use Rattle.std.specs.Prelude.{nat_lt}
 use Rattle.std.specs.List.{list_any, range_with_len}
 use Rattle.std.proofs.lemmas.Bool.{cases_eq, or_cases, or_left, or_right, and_parts, and_from}
 use Rattle.std.proofs.lemmas.Bool.Decides.{nat_tests}
+use Rattle.std.proofs.lemmas.List.{get_or_past}
 use Rattle.shq_terms.specs.Listed.{Listed}
 use Rattle.shq_terms.specs.declared.axioms.Query.{Query}
 use Rattle.shq_meaning.specs.Truth.{Interpretation}
@@ -17,15 +18,14 @@ use Rattle.role_box.specs.Closure.{any_below}
 use Rattle.role_box.proofs.Limits.{transitive_within}
 use Rattle.search_laws.specs.Limits.{IsInLimit}
 use Rattle.calculus_specs.specs.declared.facts.Fact.{Fact}
-use Rattle.search_laws.specs.Theory.{theory_of}
+use Rattle.search_laws.specs.Theory.{question_in}
 use Rattle.tableau_specs.specs.declared.Item.{Item}
 use Rattle.tableau_specs.specs.Items.{facts_of}
 use Rattle.tableau_specs.specs.Steps.{SearchContext}
-use Rattle.tableau_specs.specs.Reached.{IsReached}
-use Rattle.search_laws.specs.Elements.{elements}
+use Rattle.tableau_specs.specs.Reached.{IsReached, context_of}
+use Rattle.search_laws.specs.Elements.{elements, IsNumberOf}
 use Rattle.search_laws.specs.Built.{IsBuilt}
 use Rattle.search_laws.specs.Computed.{leads_to, has_chain, has_pair, built}
-use Rattle.search_laws.specs.CounterModelLaws.{context_of}
 use Rattle.search_laws.proofs.CounterModelNodes.{any_in_range, member}
 use Rattle.search_laws.proofs.InLimit.{theory_is_order, names_are_listed}
 use Rattle.search_laws.proofs.CounterModelLaws.{computed_interpretations_are_built}
@@ -65,12 +65,12 @@ path_same f g n same (suc k) x y le lt mt =
     let c = path_same f g n same k k y below middle mt in
     cc
 
-module _ (o : Listed) (ks : List ℕ) (q : Query) (table : List Shape) (rows : List Row) (k : ℕ) (trail : List Item) (members : List Member) (edges : List Edge) (i : Interpretation)
-    (limit : IsInLimit o q) (reached : IsReached (theory_of o.axioms ks) q.sub q.sup table rows k trail)
-    (are : AreOfElements (context_of o ks table rows) (facts_of trail) (role_axioms o.axioms ks) members edges)
-    (given : IsInterpretation (length (elements (facts_of trail))) (length o.roles) members (role_axioms o.axioms ks) edges i) where
+module _ (o : Listed) (ks : List ℕ) (q : Query) (table : List Shape) (rows : List Row) (k : ℕ) (trail : List Item) (members : List Member) (edges : List Edge) (places : List ℕ) (i : Interpretation)
+    (limit : IsInLimit o q) (reached : IsReached (question_in o ks q) table rows k trail)
+    (are : AreOfElements (context_of (question_in o ks q) table rows) (facts_of trail) (role_axioms o.axioms ks) members edges places)
+    (given : IsInterpretation (length (elements (question_in o ks q).first (facts_of trail))) (length o.roles) members (role_axioms o.axioms ks) edges places i) where
   abbrev w : SearchContext
-  w = context_of o ks table rows
+  w = context_of (question_in o ks q) table rows
 
   abbrev fs : List (Fact ℕ)
   fs = facts_of trail
@@ -79,7 +79,7 @@ module _ (o : Listed) (ks : List ℕ) (q : Query) (table : List Shape) (rows : L
   roles = role_axioms o.axioms ks
 
   abbrev size : ℕ
-  size = length (elements fs)
+  size = length (elements w.first fs)
 
   abbrev count : ℕ
   count = length o.roles
@@ -88,7 +88,7 @@ module _ (o : Listed) (ks : List ℕ) (q : Query) (table : List Shape) (rows : L
   bound = role_limit roles
 
   computed : IsBuilt w fs (built w fs bound)
-  computed = computed_interpretations_are_built w reached.sub_number reached.not_sup_number k trail reached.follows bound (transitive_within roles)
+  computed = computed_interpretations_are_built w (question_in o ks q).at reached.sub_number reached.not_sup_number k trail reached.at_first reached.follows bound (transitive_within roles)
 
   -- the chains are the same
   same_chain : (t v u : ℕ) → v < size → u < size → has_path (leads roles edges t) size v u ≡ has_chain w fs t v u
@@ -145,7 +145,8 @@ module _ (o : Listed) (ks : List ℕ) (q : Query) (table : List Shape) (rows : L
   is_built : IsBuilt w fs i
   is_built = record {
     size_is = given.size_is;
-    individuals_are = given.individuals_are;
+    individuals_are = λ a lt. subst (IsNumberOf w.first fs a) (sym (given.individuals_are a)) (are.places_are a (omega (arith, are.as_many, lt)));
+    others_are = λ a past. given.individuals_are a ∙ get_or_past places a 0 (omega (arith, are.as_many, past));
     classes_are = λ a v lt. given.classes_are a v ∙ are.members_are a v (omega (arith, given.size_is, lt));
     roles_are = λ s v u lt mt.
         let vt : v < size = omega (arith, given.size_is, lt) in

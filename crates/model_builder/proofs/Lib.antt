@@ -2,6 +2,7 @@ pub mod Built
 pub mod Numbers
 pub mod Members
 pub mod Edges
+pub mod Placed
 pub mod Whole
 pub mod Tests
 pub mod Inserted

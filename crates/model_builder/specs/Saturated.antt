@@ -4,10 +4,11 @@ use Rattle.shq_terms.specs.declared.axioms.Query.{Query}
 use Rattle.tableau_specs.specs.declared.Item.{Item}
 use Rattle.tableau_specs.specs.Steps.{IsSaturated}
 use Rattle.tableau_specs.specs.Reached.{IsReached}
-use Rattle.search_rules.specs.RuleLists.{RuleLists, context_in}
+use Rattle.search_rules.specs.RuleLists.{RuleLists, numbers_in, context_in}
+use Rattle.search_laws.specs.Theory.{question_in}
 
 -- by some steps a search over these rules reaches the trail, which is saturated
 pub record IsSaturatedTrail (r : RuleLists) (q : Query) (trail : List Item) : Type 0 where
   pub steps : ℕ
-  pub reached : IsReached (context_in r).theory q.sub q.sup (context_in r).table (context_in r).rows steps trail
+  pub reached : IsReached (question_in r.ontology (numbers_in r) q) r.table (context_in r).rows steps trail
   pub is_saturated : IsSaturated (context_in r) trail

@@ -1,5 +1,5 @@
 -- The interpretation of a structure over role axioms.
-use Rattle.std.specs.Prelude.{◌≡◌, ℕ, ◌<◌, ◌==◌, ◌&&◌, ◌||◌, nat_lt, Bool, List}
+use Rattle.std.specs.Prelude.{◌≡◌, ℕ, ◌<◌, ◌==◌, ◌&&◌, ◌||◌, nat_lt, Bool, List, slice_index_or}
 use Rattle.std.specs.List.{list_any}
 use Rattle.shq_meaning.specs.Truth.{Interpretation}
 use Rattle.role_box.specs.declared.role_axiom.RoleAxiom.{RoleAxiom}
@@ -47,9 +47,10 @@ has_chain_by size count roles edges t s x y = is_transitive roles t && has_chain
 abbrev pub has_any_chain : ℕ → ℕ → List RoleAxiom → List Edge → ℕ → ℕ → ℕ → Bool
 has_any_chain size count roles edges s x y = any_below count (λ t. has_chain_by size count roles edges t s x y)
 
--- a class has its members; each of the first roles has the edges below it, and the chains of transitive roles below it
-pub record IsInterpretation (size count : ℕ) (members : List Member) (roles : List RoleAxiom) (edges : List Edge) (i : Interpretation) : Type 0 where
+-- A class has its members; each of the first roles has the edges below it, and the chains of transitive roles below it.
+-- An individual is the element at its place, and where there is none the number 0.
+pub record IsInterpretation (size count : ℕ) (members : List Member) (roles : List RoleAxiom) (edges : List Edge) (places : List ℕ) (i : Interpretation) : Type 0 where
   pub size_is : i.size ≡ size
   pub classes_are : (a x : ℕ) → i.in_class a x ≡ is_member_of members a x
   pub roles_are : (s x y : ℕ) → x < size → y < size → i.in_role s x y ≡ (leads_listed count roles edges s x y || has_any_chain size count roles edges s x y)
-  pub individuals_are : (a : ℕ) → i.individual a ≡ 0
+  pub individuals_are : (a : ℕ) → i.individual a ≡ slice_index_or places a 0

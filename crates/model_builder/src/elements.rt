@@ -1,6 +1,6 @@
 // The elements of a tree, by their numbers.
 ghost use Rattle.std.specs.Prelude.{◌≡◌, ◌≤◌, ◌<◌, ◌++◌, ◌∷◌, [], ◌^◌, length, OnOk, IfOk, map};
-ghost use Rattle.calculus_specs.specs.State.{node_count};
+ghost use Rattle.calculus_specs.specs.State.{node_count_from};
 ghost use Rattle.completion_tree.specs.Trail.{facts_in};
 ghost use Rattle.blocking.specs.Followed.{IsCurrent};
 ghost use Rattle.model_builder.specs.Numbered.{like_node, original_in, number_in, original_list, AreNumbered};
@@ -26,8 +26,8 @@ pub(crate) fn elements_of<A: Allocator + Copy>(
     tree: &Tree<A>,
     prints: &Blocks,
 ) -> Result<Elements, NoMemory>
-    requires { IsCurrent (facts_in tree.now) prints.now }
-    ensures numbered { IfOk result (λ e. AreNumbered (facts_in tree.now) (node_count (facts_in tree.now)) e.numbers.items e.originals.items) }
+    requires { IsCurrent tree.now.first (facts_in tree.now.entries) prints.now }
+    ensures numbered { IfOk result (λ e. AreNumbered tree.now.first (facts_in tree.now.entries) (node_count_from tree.now.first (facts_in tree.now.entries)) e.numbers.items e.originals.items) }
     ensures few { IfOk result (λ e. length e.originals.items < 2 ^ 32) }
 {
     let mut elements = Elements {
@@ -43,9 +43,9 @@ pub(crate) fn elements_of<A: Allocator + Copy>(
 
 /// The clear node that a node is like, if it is an element.
 fn original_of<A: Allocator + Copy>(tree: &Tree<A>, prints: &Blocks, node: u32) -> Option<u32>
-    requires node { node < node_count (facts_in tree.now) }
-    requires current { IsCurrent (facts_in tree.now) prints.now }
-    ensures { result ≡ like_node (facts_in tree.now) node }
+    requires node { node < node_count_from tree.now.first (facts_in tree.now.entries) }
+    requires current { IsCurrent tree.now.first (facts_in tree.now.entries) prints.now }
+    ensures { result ≡ like_node tree.now.first (facts_in tree.now.entries) node }
 {
     if tree.representative(node) != node {
         return None;

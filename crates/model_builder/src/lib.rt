@@ -8,6 +8,8 @@
 //!   one node blocks stay two elements, as 'at least 2' asks.
 //! - Each end of an edge is found by its number, in a list with a place for each node, so that all edges together cost
 //!   what they are.
+//! - An individual is the element that its node is one with (`places`). First nodes are never blocked, so that there is
+//!   one.
 //!
 //! The role axioms make an interpretation of a structure in `structure_model`, with the chains of transitive roles
 //! (`chains`).
@@ -18,6 +20,7 @@ mod elements;
 mod laws;
 mod links;
 mod model;
+mod places;
 mod structure;
 mod structure_model;
 mod successors;

@@ -1,6 +1,6 @@
 // The model of a saturated tree.
-ghost use Rattle.std.specs.Prelude.{IsTrue, IfOk, length};
-ghost use Rattle.search_laws.specs.Limits.{IsInLimit, IsWithoutIndividuals};
+ghost use Rattle.std.specs.Prelude.{◌≡◌, IsTrue, IfOk, length};
+ghost use Rattle.search_laws.specs.Limits.{IsInLimit};
 ghost use Rattle.finite_model.specs.ModelLists.{meaning};
 ghost use Rattle.finite_model.specs.Written.{uses_listed_names};
 ghost use Rattle.completion_tree.specs.Trail.{facts_in, items_of};
@@ -12,6 +12,7 @@ ghost use Rattle.model_builder.specs.Collected.{IsOfElements};
 ghost use Rattle.model_builder.specs.Saturated.{IsSaturatedTrail};
 
 use crate::elements::elements_of;
+use crate::places::places_of;
 use crate::structure::{edges_of, members_of};
 use crate::{NoMemory, interpretation};
 use blocking::Blocks;
@@ -24,8 +25,8 @@ use shq_nnf::Concepts;
 use shq_terms::Query;
 use std::alloc::{Allocator, Global};
 
-/// The finite interpretation of a saturated tree: it meets the axioms of the rules, and its first element is in the
-/// left side of the query and not in its right side.
+/// The finite interpretation of a saturated tree: it meets the axioms of the rules, and an element of it is in the left
+/// side of the query and not in its right side; where the query is on an individual, that individual is.
 ///
 /// The tree's trail is one that a search over these rules for the query reaches, and is saturated; `prints` has its
 /// blocks. The interpretation is exactly that of the trail, and uses listed names alone. It costs what the labels and
@@ -41,11 +42,11 @@ pub fn build<A: Allocator + Copy>(
     rules: &SearchRules<'_>,
     query: &Query,
 ) -> Result<Interp, NoMemory>
-    requires current { IsCurrent (facts_in tree.now) prints.now }
+    requires first { tree.now.first ≡ (context_in rules.now).first }
+    requires current { IsCurrent tree.now.first (facts_in tree.now.entries) prints.now }
     requires within { IsInLimit rules.now.ontology query.now }
-    requires without_individuals { IsWithoutIndividuals rules.now.ontology query.now }
-    requires saturated { IsSaturatedTrail rules.now query.now (items_of tree.now) }
-    ensures built { IfOk result (λ k. IsBuilt (context_in rules.now) (facts_in tree.now) (meaning k)) }
+    requires saturated { IsSaturatedTrail rules.now query.now (items_of tree.now.entries) }
+    ensures built { IfOk result (λ k. IsBuilt (context_in rules.now) (facts_in tree.now.entries) (meaning k)) }
     ensures counter_model { IfOk result (λ k. IsCounterModel rules.now.ontology (numbers_in rules.now) query.now (meaning k)) }
     ensures listed { IfOk result (λ k. IsTrue (uses_listed_names rules.now.ontology k)) }
 {
@@ -59,7 +60,8 @@ pub fn build<A: Allocator + Copy>(
 
 /// The interpretation of a tree's elements: representatives that are not under a block, in the order of their nodes. A
 /// class has the elements whose node, or what blocks it, has its name; a role below `count` has the edges of these
-/// nodes by roles below it, and the chains of transitive roles below it.
+/// nodes by roles below it, and the chains of transitive roles below it. An individual is the element that its node is
+/// one with: there is one first node more than individuals.
 ///
 /// # Errors
 ///
@@ -72,8 +74,8 @@ pub fn interpretation_of_elements<A: Allocator + Copy>(
     roles: &RoleBox,
     count: u32,
 ) -> Result<Interp, NoMemory>
-    requires { IsCurrent (facts_in tree.now) prints.now }
-    ensures { IfOk result (λ k. IsOfElements concepts.now roles.now count (facts_in tree.now) (meaning k)) }
+    requires { IsCurrent tree.now.first (facts_in tree.now.entries) prints.now }
+    ensures { IfOk result (λ k. IsOfElements concepts.now roles.now count tree.now.first (facts_in tree.now.entries) (meaning k)) }
 {
     elements_are_few();
     let elements = elements_of(alloc, tree, prints)?;
@@ -82,6 +84,7 @@ pub fn interpretation_of_elements<A: Allocator + Copy>(
     let size = originals.len() as u32;
     let members = members_of(alloc, tree, concepts, originals, size)?;
     let edges = edges_of(alloc, tree, numbers, originals, size)?;
-    let model = interpretation(alloc, size, &members, &edges, roles, count)?;
+    let places = places_of(alloc, tree, numbers, tree.first() - 1)?;
+    let model = interpretation(alloc, size, &members, &edges, roles, count, &places)?;
     Ok(model)
 }

@@ -7,7 +7,7 @@ use Rattle.std.proofs.lemmas.Bool.Decides.{nat_tests}
 use Rattle.std.specs.List.{prefix_len}
 use Rattle.shq_terms.specs.Names.{number_at, with_at, number_of, with_name}
 use Rattle.ofn_expressions.specs.Counts.{Counts}
-use Rattle.ofn_expressions.specs.Walk.{Test, shape, prefix, clash, outside, numbered, parts, nodes, class, role, number, simple, counts_after, after_all, outcomes, first_failing, verdict, walked}
+use Rattle.ofn_expressions.specs.Walk.{Test, shape, prefix, clash, outside, numbered, parts, nodes, class, role, individual, number, simple, counts_after, after_all, outcomes, first_failing, verdict, walked}
 use Rattle.ofn_expressions.specs.Classes.{Keeps, place}
 use Rattle.ofn_expressions.specs.declared.refusal.Refusal.{Refusal}
 
@@ -80,21 +80,22 @@ keeps_name v names w k is = by (position (bytes_eq v) names)
     by None = position-append (bytes_eq w) names (v ∷ []) k is
 
 pub keeps_all : (s : Counts) → Keeps s s
-keeps_all s = record { classes = λ w k is. is; roles = λ w k is. is }
+keeps_all s = record { classes = λ w k is. is; roles = λ w k is. is; individuals = λ w k is. is }
 
 pub keeps_keeps : (a b c : Counts) → Keeps a b → Keeps b c → Keeps a c
-keeps_keeps a b c f g = record { classes = λ w k is. g.classes w k (f.classes w k is); roles = λ w k is. g.roles w k (f.roles w k is) }
+keeps_keeps a b c f g = record { classes = λ w k is. g.classes w k (f.classes w k is); roles = λ w k is. g.roles w k (f.roles w k is); individuals = λ w k is. g.individuals w k (f.individuals w k is) }
 
 keeps_after : (s : Counts) (t : Test) → Keeps s (counts_after s t)
 keeps_after s (shape line fits) = keeps_all s
 keeps_after s (prefix line declared) = keeps_all s
 keeps_after s (clash line agrees) = keeps_all s
 keeps_after s (outside line construct) = keeps_all s
-keeps_after s (numbered line) = record { classes = λ w k is. is; roles = λ w k is. is }
-keeps_after s (parts line n) = record { classes = λ w k is. is; roles = λ w k is. is }
-keeps_after s (nodes line n) = record { classes = λ w k is. is; roles = λ w k is. is }
-keeps_after s (class line name) = record { classes = λ w k is. keeps_name name s.classes w k is; roles = λ w k is. is }
-keeps_after s (role line name) = record { classes = λ w k is. is; roles = λ w k is. keeps_name name s.roles w k is }
+keeps_after s (numbered line) = record { classes = λ w k is. is; roles = λ w k is. is; individuals = λ w k is. is }
+keeps_after s (parts line n) = record { classes = λ w k is. is; roles = λ w k is. is; individuals = λ w k is. is }
+keeps_after s (nodes line n) = record { classes = λ w k is. is; roles = λ w k is. is; individuals = λ w k is. is }
+keeps_after s (class line name) = record { classes = λ w k is. keeps_name name s.classes w k is; roles = λ w k is. is; individuals = λ w k is. is }
+keeps_after s (role line name) = record { classes = λ w k is. is; roles = λ w k is. keeps_name name s.roles w k is; individuals = λ w k is. is }
+keeps_after s (individual line name) = record { classes = λ w k is. is; roles = λ w k is. is; individuals = λ w k is. keeps_name name s.individuals w k is }
 keeps_after s (number line n) = keeps_all s
 keeps_after s (simple line fits) = keeps_all s
 

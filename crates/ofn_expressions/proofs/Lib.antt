@@ -6,3 +6,4 @@ pub mod Groups
 pub mod Declared
 pub mod Digits
 pub mod Operands
+pub mod IndividualLists

@@ -255,6 +255,7 @@ abbrev mutual
 pub record Keeps (old new : Counts) : Type 0 where
   pub classes : (w : List ℕ) (k : ℕ) → place w old.classes ≡ Some k → place w new.classes ≡ Some k
   pub roles : (w : List ℕ) (k : ℕ) → place w old.roles ≡ Some k → place w new.roles ≡ Some k
+  pub individuals : (w : List ℕ) (k : ℕ) → place w old.individuals ≡ Some k → place w new.individuals ≡ Some k
 
 -- the names of the expression are listed
 abbrev pub IsListed : Counts → Concept → Type 0

@@ -21,10 +21,6 @@ spelling C.DataPropertyRange = codes "DataPropertyRange"
 spelling C.FunctionalDataProperty = codes "FunctionalDataProperty"
 spelling C.DatatypeDefinition = codes "DatatypeDefinition"
 spelling C.HasKey = codes "HasKey"
-spelling C.SameIndividual = codes "SameIndividual"
-spelling C.DifferentIndividuals = codes "DifferentIndividuals"
-spelling C.ClassAssertion = codes "ClassAssertion"
-spelling C.ObjectPropertyAssertion = codes "ObjectPropertyAssertion"
 spelling C.NegativeObjectPropertyAssertion = codes "NegativeObjectPropertyAssertion"
 spelling C.DataPropertyAssertion = codes "DataPropertyAssertion"
 spelling C.NegativeDataPropertyAssertion = codes "NegativeDataPropertyAssertion"
@@ -41,6 +37,7 @@ spelling C.ObjectInverseOf = codes "ObjectInverseOf"
 spelling C.ObjectPropertyChain = codes "ObjectPropertyChain"
 spelling C.TopObjectProperty = codes "owl:topObjectProperty"
 spelling C.BottomObjectProperty = codes "owl:bottomObjectProperty"
+spelling C.AnonymousIndividual = codes "_:"
 
 -- the first of the constructs that is spelled so
 abbrev pub spelled : List Construct → List ℕ → Option Construct
@@ -53,8 +50,7 @@ excluded_axiom w =
     spelled (C.Import ∷ C.DisjointObjectProperties ∷ C.InverseObjectProperties ∷ C.InverseFunctionalObjectProperty ∷ C.ReflexiveObjectProperty
     ∷ C.IrreflexiveObjectProperty ∷ C.SymmetricObjectProperty ∷ C.AsymmetricObjectProperty ∷ C.SubDataPropertyOf ∷ C.EquivalentDataProperties
     ∷ C.DisjointDataProperties ∷ C.DataPropertyDomain ∷ C.DataPropertyRange ∷ C.FunctionalDataProperty ∷ C.DatatypeDefinition ∷ C.HasKey
-    ∷ C.SameIndividual ∷ C.DifferentIndividuals ∷ C.ClassAssertion ∷ C.ObjectPropertyAssertion ∷ C.NegativeObjectPropertyAssertion
-    ∷ C.DataPropertyAssertion ∷ C.NegativeDataPropertyAssertion ∷ []) w
+    ∷ C.NegativeObjectPropertyAssertion ∷ C.DataPropertyAssertion ∷ C.NegativeDataPropertyAssertion ∷ []) w
 
 -- where a class expression may stand
 unfoldable pub excluded_class : List ℕ → Option Construct

@@ -41,12 +41,15 @@ with_parts_counted s n = record s { counts = record s.counts { parts = s.counts.
 abbrev pub with_axiom_read : State → Axiom → ℕ → State
 with_axiom_read s a line = record s { read = s.read ++ record { «axiom» = a; line = line } ∷ [] }
 
--- a name is not listed, and there are as many classes, or roles, as may be
+-- a name is not listed, and there are as many classes, or roles, or individuals, as may be
 abbrev pub ClassesAreFull : Counts → List ℕ → Type 0
 ClassesAreFull s w = (20000 ≤ length s.classes) × (position (bytes_eq w) s.classes ≡ None)
 
 abbrev pub RolesAreFull : Counts → List ℕ → Type 0
 RolesAreFull s w = (1000 ≤ length s.roles) × (position (bytes_eq w) s.roles ≡ None)
+
+abbrev pub IndividualsAreFull : Counts → List ℕ → Type 0
+IndividualsAreFull s w = (20000 ≤ length s.individuals) × (position (bytes_eq w) s.individuals ≡ None)
 
 -- What stands after expressions or declarations were read, also where they are refused: the names that were listed
 -- stand first, and names and nodes may have come, but no axiom was begun or read whole.

@@ -4,4 +4,5 @@ pub mod Names
 pub mod Constructs
 pub mod Keywords
 pub mod Classes
+pub mod Individuals
 pub mod Parts

@@ -1,6 +1,6 @@
 -- Names as they stand in a text: which tests they meet, and which IRI they stand for.
 use Rattle.std.specs.Prelude.{ℕ, Bool, false, List, [], ◌∷◌, ◌++◌, map, nat_eq, Option, Some, None, is_some, codes, if◌then◌else◌, String, string_bytes}
-use Rattle.std.specs.List.{list_any, before_first, after_first}
+use Rattle.std.specs.List.{list_any, before_first, after_first, starts_with}
 use Rattle.std.specs.Str.{bytes_eq}
 use Rattle.ofn_tree.specs.Items.{Item, name_item, iri_item, literal_item, sign_item, group_item}
 use Rattle.ofn_expressions.specs.Walk.{Test, shape, prefix}
@@ -37,6 +37,10 @@ is_colon b = nat_eq b 58
 
 abbrev pub has_colon : List ℕ → Bool
 has_colon w = list_any is_colon w
+
+-- whether a name is that of an anonymous individual (OWL 2 Structural Specification, section 5.6.2)
+unfoldable pub is_anonymous : List ℕ → Bool
+is_anonymous w = starts_with nat_eq w (codes "_:")
 
 -- what stands before the first colon of a name, and what after it
 abbrev pub prefix_part : List ℕ → List ℕ

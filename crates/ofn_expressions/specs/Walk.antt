@@ -8,12 +8,12 @@ use Rattle.ofn_expressions.specs.declared.construct.Construct.{Construct}
 use Rattle.ofn_expressions.specs.declared.refusal.Refusal.{Refusal}
 use Rattle.ofn_expressions.specs.declared.refusal.Refusal.TheVariants.{BadShape, UnknownPrefix, PrefixClash, Outside, NotSimple, Limit, NoMemory}
 use Rattle.ofn_expressions.specs.declared.refusal.Which.{Which}
-use Rattle.ofn_expressions.specs.declared.refusal.Which.TheVariants.{Axioms, Classes, Roles, Nodes, Number, Parts}
+use Rattle.ofn_expressions.specs.declared.refusal.Which.TheVariants.{Axioms, Classes, Roles, Individuals, Nodes, Number, Parts}
 
 -- Each has its line: that an item has the shape which is asked; that a prefix name is declared; that it is not declared
 -- with another IRI; that no construct outside of the profile stands there; that one more numbered axiom is within the
--- limit; that so many more parts of axioms are; that so many more nodes are; that a class, or a role, which is listed
--- here is; that a cardinality is; that the roles which are counted are simple.
+-- limit; that so many more parts of axioms are; that so many more nodes are; that a class, a role or an individual which
+-- is listed here is; that a cardinality is; that the roles which are counted are simple.
 pub data Test : Type 0 where
   shape : ℕ → Bool → Test
   prefix : ℕ → Bool → Test
@@ -24,6 +24,7 @@ pub data Test : Type 0 where
   nodes : ℕ → ℕ → Test
   class : ℕ → List ℕ → Test
   role : ℕ → List ℕ → Test
+  individual : ℕ → List ℕ → Test
   number : ℕ → ℕ → Test
   simple : ℕ → Bool → Test
 
@@ -38,6 +39,7 @@ holds s (parts line n) = nat_le (s.parts + n) 500000
 holds s (nodes line n) = nat_le (s.nodes + n) 262144
 holds s (class line name) = nat_le (length (with_name s.classes name)) 20000
 holds s (role line name) = nat_le (length (with_name s.roles name)) 1000
+holds s (individual line name) = nat_le (length (with_name s.individuals name)) 20000
 holds s (number line n) = nat_le n 100
 holds s (simple line fits) = fits
 
@@ -52,6 +54,7 @@ refusal (parts line n) = Limit Parts line
 refusal (nodes line n) = Limit Nodes line
 refusal (class line name) = Limit Classes line
 refusal (role line name) = Limit Roles line
+refusal (individual line name) = Limit Individuals line
 refusal (number line n) = Limit Number line
 refusal (simple line fits) = NotSimple line
 
@@ -66,6 +69,7 @@ counts_after s (parts line n) = record s { parts = s.parts + n }
 counts_after s (nodes line n) = record s { nodes = s.nodes + n }
 counts_after s (class line name) = record s { classes = with_name s.classes name }
 counts_after s (role line name) = record s { roles = with_name s.roles name }
+counts_after s (individual line name) = record s { individuals = with_name s.individuals name }
 counts_after s (number line n) = s
 counts_after s (simple line fits) = s
 

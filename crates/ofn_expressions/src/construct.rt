@@ -2,7 +2,7 @@
 ghost use Rattle.std.specs.Prelude.{◌≡◌};
 ghost use Rattle.ofn_expressions.specs.Constructs.{spelling, excluded_axiom, excluded_class, excluded_role, excluded_role_name};
 
-/// A construct that is left out, named as the OWL 2 functional-style syntax spells it (sections 6 to 9 of the
+/// A construct that is left out, named as the OWL 2 functional-style syntax spells it (sections 5 to 9 of the
 /// Structural Specification).
 #[derive(Clone, Copy, Debug, PartialEq, Eq)]
 pub enum Construct {
@@ -22,10 +22,6 @@ pub enum Construct {
     FunctionalDataProperty,
     DatatypeDefinition,
     HasKey,
-    SameIndividual,
-    DifferentIndividuals,
-    ClassAssertion,
-    ObjectPropertyAssertion,
     NegativeObjectPropertyAssertion,
     DataPropertyAssertion,
     NegativeDataPropertyAssertion,
@@ -44,6 +40,8 @@ pub enum Construct {
     TopObjectProperty,
     /// `owl:bottomObjectProperty`.
     BottomObjectProperty,
+    /// An individual without a name of its own, as `_:x`.
+    AnonymousIndividual,
 }
 
 impl Construct {
@@ -69,10 +67,6 @@ impl Construct {
             Construct::FunctionalDataProperty => "FunctionalDataProperty",
             Construct::DatatypeDefinition => "DatatypeDefinition",
             Construct::HasKey => "HasKey",
-            Construct::SameIndividual => "SameIndividual",
-            Construct::DifferentIndividuals => "DifferentIndividuals",
-            Construct::ClassAssertion => "ClassAssertion",
-            Construct::ObjectPropertyAssertion => "ObjectPropertyAssertion",
             Construct::NegativeObjectPropertyAssertion => "NegativeObjectPropertyAssertion",
             Construct::DataPropertyAssertion => "DataPropertyAssertion",
             Construct::NegativeDataPropertyAssertion => "NegativeDataPropertyAssertion",
@@ -89,6 +83,7 @@ impl Construct {
             Construct::ObjectPropertyChain => "ObjectPropertyChain",
             Construct::TopObjectProperty => "owl:topObjectProperty",
             Construct::BottomObjectProperty => "owl:bottomObjectProperty",
+            Construct::AnonymousIndividual => "_:",
         }
     }
 }
@@ -115,10 +110,6 @@ pub fn excluded_axiom(text: &str) -> Option<Construct>
         "FunctionalDataProperty" => Some(Construct::FunctionalDataProperty),
         "DatatypeDefinition" => Some(Construct::DatatypeDefinition),
         "HasKey" => Some(Construct::HasKey),
-        "SameIndividual" => Some(Construct::SameIndividual),
-        "DifferentIndividuals" => Some(Construct::DifferentIndividuals),
-        "ClassAssertion" => Some(Construct::ClassAssertion),
-        "ObjectPropertyAssertion" => Some(Construct::ObjectPropertyAssertion),
         "NegativeObjectPropertyAssertion" => Some(Construct::NegativeObjectPropertyAssertion),
         "DataPropertyAssertion" => Some(Construct::DataPropertyAssertion),
         "NegativeDataPropertyAssertion" => Some(Construct::NegativeDataPropertyAssertion),

@@ -1,4 +1,4 @@
-//! Names, roles and class expressions of a document in the functional-style syntax of OWL 2 (Structural Specification,
+//! Names, roles, individuals and class expressions of a document in the functional-style syntax of OWL 2 (Structural Specification,
 //! sections 2, 5 and 8), for the description logic SHQ.
 //!
 //! What is read has two definitions. One lists the tests that a text has to pass, in the order of the text: the shapes
@@ -10,6 +10,7 @@
 
 mod classes;
 mod construct;
+mod individuals;
 mod keywords;
 mod names;
 mod numbers;
@@ -20,6 +21,7 @@ mod roles;
 
 pub use classes::{declare_class, read_class, read_class_name, read_classes};
 pub use construct::{Construct, excluded_axiom};
+pub use individuals::{read_individual, read_individuals};
 pub use names::item_line;
 pub use prefixes::Prefixes;
 pub use reading::{MAX_NODES, Reading};

@@ -1,12 +1,12 @@
 // What a reader has counted and listed so far.
 ghost use Rattle.std.specs.Prelude.{◌≡◌, ◌≢◌, ◌↔◌, Err, ◌≤◌, ◌<◌, ◌+◌, ◌∷◌, [], length, IfOk, IfErr, OnOk, OnErr, Some, position};
 ghost use Rattle.std.specs.Str.{bytes_eq};
-ghost use Rattle.ofn_expressions.specs.Counts.{Grows, ClassesAreFull, RolesAreFull, first_state, ontology_of, with_axiom_counted, with_axiom_read, with_parts_counted};
+ghost use Rattle.ofn_expressions.specs.Counts.{Grows, ClassesAreFull, RolesAreFull, IndividualsAreFull, first_state, ontology_of, with_axiom_counted, with_axiom_read, with_parts_counted};
 ghost use Rattle.ofn_expressions.specs.Classes.{IsListedAxiom};
-ghost use Rattle.ofn_expressions.specs.Walk.{Tested, add_refusal, numbered, parts, nodes, class, role};
+ghost use Rattle.ofn_expressions.specs.Walk.{Tested, add_refusal, numbered, parts, nodes, class, role, individual};
 
 use crate::{Refusal, Which};
-use shq_terms::{AddFault, Axiom, MAX_AXIOMS, MAX_CLASSES, MAX_ROLES, Ontology};
+use shq_terms::{AddFault, Axiom, MAX_AXIOMS, MAX_CLASSES, MAX_INDIVIDUALS, MAX_ROLES, Ontology};
 use std::marker::Model;
 
 /// The ontology so far, with the axioms that were begun, their parts, and the nodes of class expressions that were met.
@@ -141,6 +141,20 @@ impl Reading {
         match self.ontology.add_role(name) {
             Ok(number) => Ok(number),
             Err(fault) => Err(add_refusal(Which::Roles, line, fault)),
+        }
+    }
+
+    /// The number of an individual, which is listed here. At the limit of names nothing is listed.
+    #[tactic(auto, using(crate::proofs::Kept::place_listed, crate::proofs::Growing::grows_name, crate::proofs::Growing::grows_same))]
+    pub(crate) fn add_individual(&mut self, line: u32, name: &str) -> Result<u32, Refusal>
+        ensures tests { Tested result self.old (individual line name.now ∷ []) self.new }
+        ensures grown { Grows self.old self.new }
+        ensures number { IfOk result (λ k. position (bytes_eq name.now) self.new.counts.individuals ≡ Some k) }
+        ensures full { (result ≡ Err (Refusal.Limit Which.Individuals line)) ↔ IndividualsAreFull self.old.counts name.now }
+    {
+        match self.ontology.add_individual(name) {
+            Ok(number) => Ok(number),
+            Err(fault) => Err(add_refusal(Which::Individuals, line, fault)),
         }
     }
 

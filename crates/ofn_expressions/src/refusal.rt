@@ -17,11 +17,13 @@ pub enum Which {
     Classes,
     /// More than 1,000 role names.
     Roles,
+    /// More than 20,000 names of individuals.
+    Individuals,
     /// More than 262,144 nodes of class expressions.
     Nodes,
     /// A cardinality above 100.
     Number,
-    /// More than 500,000 parts of axioms.
+    /// More than 500,000 parts of axioms, of which each fact of an assertion is one.
     Parts,
 }
 

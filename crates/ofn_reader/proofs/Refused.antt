@@ -6,7 +6,7 @@ use Rattle.shq_terms.specs.declared.axioms.Numbered.{Numbered}
 use Rattle.ofn_tree.specs.Lexemes.{end_line}
 use Rattle.ofn_tree.specs.Items.{Item}
 use Rattle.ofn_expressions.specs.Counts.{Counts}
-use Rattle.ofn_expressions.specs.Walk.{Test, shape, prefix, clash, outside, numbered, parts, nodes, class, role, number, simple, holds, refusal, counts_after, walked}
+use Rattle.ofn_expressions.specs.Walk.{Test, shape, prefix, clash, outside, numbered, parts, nodes, class, role, individual, number, simple, holds, refusal, counts_after, walked}
 use Rattle.ofn_expressions.specs.declared.refusal.Refusal.{Refusal}
 use Rattle.ofn_expressions.specs.declared.refusal.Refusal.TheVariants.{Text, BadShape, UnknownPrefix, PrefixClash, Outside, NotSimple, Limit, NoMemory}
 use Rattle.ofn_expressions.specs.Names.{Prefix}
@@ -35,6 +35,7 @@ of_test (parts line n) = refl
 of_test (nodes line n) = refl
 of_test (class line name) = refl
 of_test (role line name) = refl
+of_test (individual line name) = refl
 of_test (number line n) = refl
 of_test (simple line fits) = refl
 

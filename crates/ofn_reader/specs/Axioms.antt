@@ -9,6 +9,7 @@ use Rattle.ofn_expressions.specs.Counts.{Counts, State}
 use Rattle.ofn_expressions.specs.Walk.{Test, shape, outside, numbered, parts}
 use Rattle.ofn_expressions.specs.Names.{Prefix, iri_of}
 use Rattle.ofn_expressions.specs.Classes.{item_count, each_class, joined, class_tests, classes_tests, class_name_tests, role_tests, roles_tests, class_named, concept_of, concepts_of, role_of, roles_of, Keeps, IsListedAxiom}
+use Rattle.ofn_expressions.specs.Individuals.{individual_tests, individuals_tests, individual_of, individuals_of}
 use Rattle.ofn_reader.specs.Keywords.{axiom_keyword}
 use Rattle.ofn_reader.specs.Groups.{without_annotations}
 use Rattle.ofn_reader.specs.Declarations.{declaration_tests}
@@ -29,16 +30,21 @@ axiom_fits K.Domain n = nat_eq n 2
 axiom_fits K.Range n = nat_eq n 2
 axiom_fits K.Functional n = nat_eq n 1
 axiom_fits K.Transitive n = nat_eq n 1
+axiom_fits K.Member n = nat_eq n 2
+axiom_fits K.Pair n = nat_eq n 3
+axiom_fits K.SameAll n = nat_le 2 n
+axiom_fits K.Different n = nat_le 2 n
 
 -- how many pairs there are of n things
 abbrev pub pair_count : ℕ → ℕ
 pair_count n = n * (n - 1) / 2
 
 -- How many parts an axiom will have, told by its kind and the number of its items, before they are read. The parts of
--- an axiom are the inclusions and ranges of which a search makes rows; a law of a crate above says that an axiom that
--- is made of so many items has exactly so many. Equivalent classes are each in the next, and the last in the first;
--- disjoint classes are each in the complement of each later one; of a disjoint union, its first class is in the union
--- of the others, each of them is in the first, and they are disjoint.
+-- an axiom are the inclusions and ranges of which a search makes rows, and the facts that an assertion gives; a law of a
+-- crate above says that an axiom that is made of so many items has exactly so many. Equivalent classes are each in the
+-- next, and the last in the first; disjoint classes are each in the complement of each later one; of a disjoint union,
+-- its first class is in the union of the others, each of them is in the first, and they are disjoint. Individuals that
+-- are the same are each the same as the next, and those that are different are each apart from each later one.
 abbrev pub parts_by_item_count : AxiomKind → ℕ → ℕ
 parts_by_item_count K.SubClassOf n = 1
 parts_by_item_count K.EquivalentClasses n = n
@@ -50,6 +56,10 @@ parts_by_item_count K.Domain n = 1
 parts_by_item_count K.Range n = 1
 parts_by_item_count K.Functional n = 1
 parts_by_item_count K.Transitive n = 0
+parts_by_item_count K.Member n = 1
+parts_by_item_count K.Pair n = 1
+parts_by_item_count K.SameAll n = n - 1
+parts_by_item_count K.Different n = pair_count n
 
 -- a role, and then class expressions
 abbrev pub role_and_class_tests : List Prefix → Items → List Test
@@ -60,6 +70,16 @@ role_and_class_tests ps (item r is) = role_tests ps r ++ joined (each_class ps i
 abbrev pub name_and_class_tests : List Prefix → Items → List Test
 name_and_class_tests ps no_items = []
 name_and_class_tests ps (item c is) = class_name_tests ps c ++ joined (each_class ps is)
+
+-- a class expression, and then individuals
+abbrev pub class_and_individual_tests : List Prefix → Items → List Test
+class_and_individual_tests ps no_items = []
+class_and_individual_tests ps (item c is) = class_tests ps c ++ individuals_tests ps is
+
+-- a role, and then individuals
+abbrev pub role_and_individual_tests : List Prefix → Items → List Test
+role_and_individual_tests ps no_items = []
+role_and_individual_tests ps (item r is) = role_tests ps r ++ individuals_tests ps is
 
 -- The items of an axiom. Where they are fewer or more than its kind asks, a test before them fails.
 abbrev pub operand_tests : List Prefix → AxiomKind → Items → List Test
@@ -73,8 +93,12 @@ operand_tests ps K.Domain is = role_and_class_tests ps is
 operand_tests ps K.Range is = role_and_class_tests ps is
 operand_tests ps K.Functional is = roles_tests ps is
 operand_tests ps K.Transitive is = roles_tests ps is
+operand_tests ps K.Member is = class_and_individual_tests ps is
+operand_tests ps K.Pair is = role_and_individual_tests ps is
+operand_tests ps K.SameAll is = individuals_tests ps is
+operand_tests ps K.Different is = individuals_tests ps is
 
--- the same for two items, by what each must be, and for a class name before class expressions
+-- the same for two or three items, by what each must be, and for a class name before class expressions
 abbrev pub class_pair_tests : List Prefix → Item → Item → List Test
 class_pair_tests ps c d = class_tests ps c ++ (class_tests ps d ++ [])
 
@@ -83,6 +107,12 @@ role_pair_tests ps r s = role_tests ps r ++ (role_tests ps s ++ [])
 
 abbrev pub role_then_class_tests : List Prefix → Item → Item → List Test
 role_then_class_tests ps r c = role_tests ps r ++ (class_tests ps c ++ [])
+
+abbrev pub member_tests : List Prefix → Item → Item → List Test
+member_tests ps c a = class_tests ps c ++ (individual_tests ps a ++ [])
+
+abbrev pub pair_tests : List Prefix → Item → Item → Item → List Test
+pair_tests ps r a b = role_tests ps r ++ (individual_tests ps a ++ (individual_tests ps b ++ []))
 
 abbrev pub name_then_classes_tests : List Prefix → Item → List Item → List Test
 name_then_classes_tests ps c is = class_name_tests ps c ++ classes_tests ps is
@@ -148,6 +178,14 @@ abbrev pub transitive_made : List Prefix → Counts → Items → List Axiom
 transitive_made ps s (item r is) = A.Transitive (role_of ps s r) ∷ []
 transitive_made ps s no_items = []
 
+abbrev pub member_made : List Prefix → Counts → Items → List Axiom
+member_made ps s (item c (item a is)) = A.Member (concept_of ps s c) (individual_of ps s a) ∷ []
+member_made ps s _ = []
+
+abbrev pub pair_made : List Prefix → Counts → Items → List Axiom
+pair_made ps s (item r (item a (item b is))) = A.Pair (role_of ps s r) (individual_of ps s a) (individual_of ps s b) ∷ []
+pair_made ps s _ = []
+
 abbrev pub axiom_made : List Prefix → Counts → AxiomKind → Items → List Axiom
 axiom_made ps s K.SubClassOf is = sub_class_made ps s is
 axiom_made ps s K.EquivalentClasses is = A.EquivalentClasses (part_list (concepts_of ps s is)) ∷ []
@@ -159,6 +197,10 @@ axiom_made ps s K.Domain is = domain_made ps s is
 axiom_made ps s K.Range is = range_made ps s is
 axiom_made ps s K.Functional is = functional_made ps s is
 axiom_made ps s K.Transitive is = transitive_made ps s is
+axiom_made ps s K.Member is = member_made ps s is
+axiom_made ps s K.Pair is = pair_made ps s is
+axiom_made ps s K.SameAll is = A.SameAll (individuals_of ps s is) ∷ []
+axiom_made ps s K.Different is = A.Different (individuals_of ps s is) ∷ []
 
 abbrev pub numbered_at : ℕ → List Axiom → List Numbered
 numbered_at line [] = []

@@ -4,6 +4,7 @@ use Rattle.ofn_tree.specs.Items.{Item, name_item, iri_item, literal_item, sign_i
 use Rattle.ofn_expressions.specs.Walk.{Test, shape}
 use Rattle.ofn_expressions.specs.Names.{Prefix}
 use Rattle.ofn_expressions.specs.Classes.{item_count, declared_class_tests, declared_role_tests}
+use Rattle.ofn_expressions.specs.Individuals.{individual_tests}
 use Rattle.ofn_reader.specs.Keywords.{entity_keyword}
 use Rattle.ofn_reader.specs.declared.keywords.EntityKeyword.{EntityKeyword}
 use Rattle.ofn_reader.specs.declared.keywords.EntityKeyword.TheVariants as E
@@ -16,10 +17,16 @@ abbrev pub declared_roles_tests : List Prefix → Items → List Test
 declared_roles_tests ps no_items = []
 declared_roles_tests ps (item i is) = declared_role_tests ps i
 
--- An entity is a group of one item. A class and a role are listed as names; of the others the item is not looked at.
+abbrev pub declared_individuals_tests : List Prefix → Items → List Test
+declared_individuals_tests ps no_items = []
+declared_individuals_tests ps (item i is) = individual_tests ps i
+
+-- An entity is a group of one item. A class, a role and an individual are listed as names; of the others the item is not
+-- looked at.
 abbrev pub entity_group_tests : List Prefix → EntityKeyword → ℕ → Items → List Test
 entity_group_tests ps E.Class line is = shape line (nat_eq (item_count is) 1) ∷ declared_classes_tests ps is
 entity_group_tests ps E.Role line is = shape line (nat_eq (item_count is) 1) ∷ declared_roles_tests ps is
+entity_group_tests ps E.Individual line is = shape line (nat_eq (item_count is) 1) ∷ declared_individuals_tests ps is
 entity_group_tests ps E.Unlisted line is = shape line (nat_eq (item_count is) 1) ∷ []
 entity_group_tests ps E.Unknown line is = shape line false ∷ []
 

@@ -26,6 +26,10 @@ axiom_keyword w =
     else if bytes_eq w (codes "ObjectPropertyRange") then Numbered K.Range
     else if bytes_eq w (codes "FunctionalObjectProperty") then Numbered K.Functional
     else if bytes_eq w (codes "TransitiveObjectProperty") then Numbered K.Transitive
+    else if bytes_eq w (codes "ClassAssertion") then Numbered K.Member
+    else if bytes_eq w (codes "ObjectPropertyAssertion") then Numbered K.Pair
+    else if bytes_eq w (codes "SameIndividual") then Numbered K.SameAll
+    else if bytes_eq w (codes "DifferentIndividuals") then Numbered K.Different
     else if bytes_eq w (codes "Declaration") then Declaration
     else if bytes_eq w (codes "Annotation") then Annotation
     else if bytes_eq w (codes "AnnotationAssertion") then Annotation
@@ -34,13 +38,13 @@ axiom_keyword w =
     else if bytes_eq w (codes "AnnotationPropertyRange") then Annotation
     else axiom_else (excluded_axiom w)
 
--- what kind of entity is declared; of these only classes and roles are listed
+-- what kind of entity is declared; of these only classes, roles and individuals are listed
 unfoldable pub entity_keyword : List ℕ → EntityKeyword
 entity_keyword w =
     if bytes_eq w (codes "Class") then E.Class
     else if bytes_eq w (codes "ObjectProperty") then E.Role
+    else if bytes_eq w (codes "NamedIndividual") then E.Individual
     else if bytes_eq w (codes "DataProperty") then E.Unlisted
     else if bytes_eq w (codes "AnnotationProperty") then E.Unlisted
     else if bytes_eq w (codes "Datatype") then E.Unlisted
-    else if bytes_eq w (codes "NamedIndividual") then E.Unlisted
     else E.Unknown

@@ -1,9 +1,10 @@
 -- What a text says as a query on a document: an axiom, or a class expression.
 use Rattle.std.specs.Prelude.{◌≡◌, ◌≢◌, ℕ, ◌^◌, ◌≤◌, ◌<◌, Bool, true, false, List, [], ◌∷◌, ◌++◌, length, Some, None, Result, Ok, Err, IfOk, nat_eq}
-use Rattle.shq_terms.specs.Concept.{Concept}
+use Rattle.shq_terms.specs.Concept.{Concept, top}
 use Rattle.shq_terms.specs.Listed.{Listed}
 use Rattle.shq_terms.specs.declared.axioms.Numbered.{Numbered}
-use Rattle.shq_terms.specs.declared.axioms.On.TheVariants.{Any}
+use Rattle.shq_terms.specs.declared.axioms.On.{On}
+use Rattle.shq_terms.specs.declared.axioms.On.TheVariants.{Any, Individual}
 use Rattle.shq_terms.specs.declared.axioms.Query.{Query}
 use Rattle.role_box.specs.Counted.{counted_roles, counted_by_query}
 use Rattle.role_box.specs.Simple.{are_simple, all_role_axioms}
@@ -13,21 +14,24 @@ use Rattle.ofn_expressions.specs.Counts.{Counts}
 use Rattle.ofn_expressions.specs.Walk.{Test, shape, outside, simple, after_all, walked, Judged}
 use Rattle.ofn_expressions.specs.Names.{Prefix, item_line}
 use Rattle.ofn_expressions.specs.Classes.{item_count, each_class, joined, class_tests, concept_of, Keeps, IsListed}
+use Rattle.ofn_expressions.specs.Individuals.{individual_of, IsListedIndividual}
 use Rattle.ofn_expressions.specs.declared.refusal.Refusal.{Refusal}
 use Rattle.ofn_expressions.specs.declared.refusal.Refusal.TheVariants.{BadShape, NotSimple, Limit, NoMemory}
 use Rattle.ofn_expressions.specs.declared.refusal.Which.TheVariants as which
 use Rattle.ofn_reader.specs.Keywords.{axiom_keyword}
 use Rattle.ofn_reader.specs.DocumentContext.{DocumentContext}
 use Rattle.ofn_reader.specs.Groups.{without_annotations}
+use Rattle.ofn_reader.specs.Axioms.{class_and_individual_tests}
 use Rattle.ofn_reader.specs.Texts.{HasItems, IsRefusedBy}
 use Rattle.ofn_reader.specs.declared.keywords.AxiomKind.TheVariants as K
 use Rattle.ofn_reader.specs.declared.keywords.AxiomKeyword.{AxiomKeyword}
 use Rattle.ofn_reader.specs.declared.keywords.AxiomKeyword.TheVariants as W
 
--- A query is an axiom `SubClassOf`, which is not numbered and has no parts. One that is left out is outside; each other
--- is no query.
+-- A query is an axiom `SubClassOf` or `ClassAssertion`, which is not numbered and has no parts. One that is left out is
+-- outside; each other is no query.
 abbrev pub query_group_tests : List Prefix → AxiomKeyword → ℕ → Items → List Test
 query_group_tests ps (W.Numbered K.SubClassOf) line is = shape line (nat_eq (item_count is) 2) ∷ joined (each_class ps is)
+query_group_tests ps (W.Numbered K.Member) line is = shape line (nat_eq (item_count is) 2) ∷ class_and_individual_tests ps is
 query_group_tests ps (W.Excluded c) line is = outside line c ∷ []
 query_group_tests ps _ line is = shape line false ∷ []
 
@@ -60,13 +64,24 @@ query_form_tests ps end is = alone_tests (axiom_query_tests ps) end is
 abbrev pub class_form_tests : List Prefix → ℕ → List Item → List Test
 class_form_tests ps end is = alone_tests (class_tests ps) end is
 
--- the two class expressions of a query
+-- the two class expressions of a query on each element
 abbrev pub pair_in : List Prefix → Counts → Items → List Query
 pair_in ps s (item c (item d is)) = record { sub = concept_of ps s c; sup = concept_of ps s d; on = Any } ∷ []
 pair_in ps s _ = []
 
+-- the class expression and the individual of a query on this individual alone: whether it is in the class
+abbrev pub member_in : List Prefix → Counts → Items → List Query
+member_in ps s (item c (item a is)) = record { sub = top; sup = concept_of ps s c; on = Individual (individual_of ps s a) } ∷ []
+member_in ps s _ = []
+
+abbrev pub group_query : List Prefix → Counts → AxiomKeyword → Items → List Query
+group_query ps s (W.Numbered K.SubClassOf) is = pair_in ps s is
+group_query ps s (W.Numbered K.Member) is = member_in ps s is
+group_query ps s _ is = []
+
 abbrev pub query_in : List Prefix → Counts → Item → List Query
-query_in ps s (group_item h is line) = pair_in ps s (without_annotations is)
+query_in ps s (group_item (Some w) is line) = group_query ps s (axiom_keyword w) (without_annotations is)
+query_in ps s (group_item None is line) = []
 query_in ps s (name_item w line) = []
 query_in ps s (iri_item w line) = []
 query_in ps s (literal_item line) = []
@@ -167,16 +182,33 @@ TestsRoles {X = X} counted axioms line read result =
     → IfOk read (λ x. xs ≡ x ∷ [])
     → Judged result s (ts ++ roles_test axioms line (counted xs)) new
 
--- which two class expressions the items of a query stand for, whatever names are listed later
+-- the individual that a query is on, if it is on one, is listed
+abbrev pub IsListedOn : Counts → On → Type 0
+IsListedOn s Any = Unit {0}
+IsListedOn s (Individual a) = IsListedIndividual s a
+
+-- the names of both expressions are listed, and so is the individual
+abbrev pub IsListedQuery : Counts → Query → Type 0
+IsListedQuery s q = IsListed s q.sub × IsListed s q.sup × IsListedOn s q.on
+
+-- what is asked, whatever names are listed later
+abbrev pub Asks : Counts → (Counts → List Query) → Query → Type 0
+Asks s asked q = (later : Counts) → Keeps s later → (asked later ≡ q ∷ []) × IsListedQuery later q
+
+-- which two class expressions the items of a query stand for, and which query the items of a group with this keyword
 abbrev pub MeansPair : List Prefix → Counts → Items → Query → Type 0
-MeansPair ps s is q = (later : Counts) → Keeps s later → (pair_in ps later is ≡ q ∷ []) × IsListed later q.sub × IsListed later q.sup
+MeansPair ps s is q = Asks s (λ later. pair_in ps later is) q
+
+abbrev pub MeansGroupQuery : List Prefix → Counts → AxiomKeyword → Items → Query → Type 0
+MeansGroupQuery ps s k is q = Asks s (λ later. group_query ps later k is) q
 
 abbrev pub MeansQuery : List Prefix → Counts → Item → Query → Type 0
-MeansQuery ps s i q = (later : Counts) → Keeps s later → (query_in ps later i ≡ q ∷ []) × IsListed later q.sub × IsListed later q.sup
+MeansQuery ps s i q = Asks s (λ later. query_in ps later i) q
 
--- the names of both expressions are listed
-abbrev pub AreBothListed : Counts → Query → Type 0
-AreBothListed s q = IsListed s q.sub × IsListed s q.sup
+-- which class expression and which individual two items stand for
+abbrev pub MeansMember : List Prefix → Counts → Item → Item → Concept → ℕ → Type 0
+MeansMember ps s c a d n =
+    (later : Counts) → Keeps s later → (concept_of ps later c ≡ d) × (individual_of ps later a ≡ n) × IsListed later d × IsListedIndividual later n
 
 -- what the tests of a query on a document with these names and axioms say, whose expressions have so many nodes
 abbrev pub query_walk : List Prefix → ℕ → Listed → ℕ → List Item → Result Counts Refusal
@@ -188,7 +220,7 @@ class_walk ps nodes o end is = walked (query_start o nodes) (class_query_tests p
 -- the items are a query, whose names are listed last
 abbrev pub QueryIsRead : List Prefix → ℕ → Listed → ℕ → List Item → Listed → Query → Type 0
 QueryIsRead ps nodes old end is new q =
-    (behind : Counts) × (query_walk ps nodes old end is ≡ Ok behind) × (first_query ps behind is ≡ q ∷ []) × AreBothListed behind q × (new ≡ record old { classes = behind.classes; roles = behind.roles; individuals = behind.individuals })
+    (behind : Counts) × (query_walk ps nodes old end is ≡ Ok behind) × (first_query ps behind is ≡ q ∷ []) × IsListedQuery behind q × (new ≡ record old { classes = behind.classes; roles = behind.roles; individuals = behind.individuals })
 
 abbrev pub ClassIsRead : List Prefix → ℕ → Listed → ℕ → List Item → Listed → Concept → Type 0
 ClassIsRead ps nodes old end is new c =
@@ -198,7 +230,7 @@ ClassIsRead ps nodes old end is new c =
 -- one, which else is the old one.
 abbrev pub IsQueryOn : DocumentContext → Listed → List ℕ → Listed → Query → Type 0
 IsQueryOn kept old text new q =
-    (behind : Counts) × IsQuery kept.prefixes old.axioms (query_start old kept.nodes) text behind q × AreBothListed behind q × (new ≡ record old { classes = behind.classes; roles = behind.roles; individuals = behind.individuals })
+    (behind : Counts) × IsQuery kept.prefixes old.axioms (query_start old kept.nodes) text behind q × IsListedQuery behind q × (new ≡ record old { classes = behind.classes; roles = behind.roles; individuals = behind.individuals })
 
 abbrev pub IsNoQueryOn : DocumentContext → Listed → List ℕ → Refusal → Type 0
 IsNoQueryOn kept old text e = IsNoQuery kept.prefixes old.axioms (query_start old kept.nodes) text e

@@ -5,11 +5,11 @@ ghost use Rattle.ofn_expressions.specs.Walk.{Tested};
 ghost use Rattle.ofn_reader.specs.Declarations.{declaration_tests, entity_tests, entity_items_tests};
 
 use crate::keywords::{EntityKeyword, entity_keyword};
-use ofn_expressions::{Prefixes, Reading, Refusal, declare_class, declare_role};
+use ofn_expressions::{Prefixes, Reading, Refusal, declare_class, declare_role, read_individual};
 use ofn_tree::{Form, Tree};
 use std::alloc::Global;
 
-/// Reads a declaration, whose items these are, and lists its class or role.
+/// Reads a declaration, whose items these are, and lists its class, role or individual.
 ///
 /// # Errors
 ///
@@ -71,6 +71,10 @@ fn read_entity_group(
     match keyword {
         EntityKeyword::Class => declare_class(alloc, &items[0], prefixes, state),
         EntityKeyword::Role => declare_role(alloc, &items[0], prefixes, state),
+        EntityKeyword::Individual => {
+            read_individual(alloc, &items[0], prefixes, state)?;
+            Ok(())
+        }
         EntityKeyword::Unlisted => Ok(()),
         EntityKeyword::Unknown => Err(Refusal::BadShape(line)),
     }

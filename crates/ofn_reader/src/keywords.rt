@@ -17,6 +17,10 @@ pub enum AxiomKind {
     Range,
     Functional,
     Transitive,
+    Member,
+    Pair,
+    SameAll,
+    Different,
 }
 
 /// What the name of a group says where an axiom must stand.
@@ -35,6 +39,7 @@ pub(crate) enum AxiomKeyword {
 pub(crate) enum EntityKeyword {
     Class,
     Role,
+    Individual,
     /// An entity that is not listed.
     Unlisted,
     Unknown,
@@ -55,6 +60,10 @@ pub(crate) fn axiom_keyword(text: &str) -> AxiomKeyword
         "ObjectPropertyRange" => AxiomKeyword::Numbered(AxiomKind::Range),
         "FunctionalObjectProperty" => AxiomKeyword::Numbered(AxiomKind::Functional),
         "TransitiveObjectProperty" => AxiomKeyword::Numbered(AxiomKind::Transitive),
+        "ClassAssertion" => AxiomKeyword::Numbered(AxiomKind::Member),
+        "ObjectPropertyAssertion" => AxiomKeyword::Numbered(AxiomKind::Pair),
+        "SameIndividual" => AxiomKeyword::Numbered(AxiomKind::SameAll),
+        "DifferentIndividuals" => AxiomKeyword::Numbered(AxiomKind::Different),
         "Declaration" => AxiomKeyword::Declaration,
         "Annotation" => AxiomKeyword::Annotation,
         "AnnotationAssertion" => AxiomKeyword::Annotation,
@@ -75,10 +84,10 @@ pub(crate) fn entity_keyword(text: &str) -> EntityKeyword
     match text {
         "Class" => EntityKeyword::Class,
         "ObjectProperty" => EntityKeyword::Role,
+        "NamedIndividual" => EntityKeyword::Individual,
         "DataProperty" => EntityKeyword::Unlisted,
         "AnnotationProperty" => EntityKeyword::Unlisted,
         "Datatype" => EntityKeyword::Unlisted,
-        "NamedIndividual" => EntityKeyword::Unlisted,
         _ => EntityKeyword::Unknown,
     }
 }

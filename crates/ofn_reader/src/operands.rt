@@ -6,13 +6,15 @@ ghost use Rattle.ofn_tree.specs.Items.{items_of};
 ghost use Rattle.ofn_expressions.specs.Counts.{Grows};
 ghost use Rattle.ofn_expressions.specs.Walk.{Tested};
 ghost use Rattle.ofn_expressions.specs.Classes.{classes_tests, role_tests, roles_tests};
-ghost use Rattle.ofn_reader.specs.Axioms.{axiom_fits, class_pair_tests, role_pair_tests, role_then_class_tests, name_then_classes_tests, operand_tests, ItemsSay};
-ghost use Rattle.ofn_reader.specs.Queries.{MeansPair};
+ghost use Rattle.ofn_expressions.specs.Individuals.{individuals_tests};
+ghost use Rattle.ofn_reader.specs.Axioms.{axiom_fits, class_pair_tests, role_pair_tests, role_then_class_tests, member_tests, pair_tests, name_then_classes_tests, operand_tests, ItemsSay};
+ghost use Rattle.ofn_reader.specs.Queries.{MeansPair, MeansMember};
 ghost use Rattle.ofn_reader.specs.declared.keywords.AxiomKind.TheVariants as K;
 
 use crate::keywords::AxiomKind;
 use ofn_expressions::{
-    Prefixes, Reading, Refusal, read_class, read_class_name, read_classes, read_role, read_roles,
+    Prefixes, Reading, Refusal, read_class, read_class_name, read_classes, read_individual,
+    read_individuals, read_role, read_roles,
 };
 use ofn_tree::Tree;
 use shq_terms::{Axiom, Concept, On, Query};
@@ -221,6 +223,118 @@ fn read_transitive(
     Ok(Axiom::Transitive(role))
 }
 
+/// A class expression, and an individual that is said to be in it.
+#[derive(Drop)]
+pub(crate) struct Membership {
+    pub(crate) class: Concept,
+    pub(crate) individual: u32,
+}
+
+/// A class expression and an individual.
+///
+/// # Errors
+///
+/// What is wrong first, in the order of the tests, and `NoMemory`.
+#[tactic(auto, using(ofn_expressions::proofs::Walks::walked_append, ofn_expressions::proofs::Growing::grows_grows, ofn_expressions::proofs::Growing::grows_same))]
+pub(crate) fn read_member(
+    alloc: Global,
+    class: &Tree<'_>,
+    individual: &Tree<'_>,
+    prefixes: &Prefixes,
+    state: &mut Reading,
+) -> Result<Membership, Refusal>
+    ensures tests { Tested result state.old (member_tests prefixes.now class.now individual.now) state.new }
+    ensures grown { Grows state.old state.new }
+    ensures value { IfOk result (λ m. MeansMember prefixes.now state.new.counts class.now individual.now m.class m.individual) }
+{
+    let class = read_class(alloc, class, prefixes, state)?;
+    let individual = read_individual(alloc, individual, prefixes, state);
+    member_of(class, individual)
+}
+
+fn member_of(class: Concept, individual: Result<u32, Refusal>) -> Result<Membership, Refusal>
+    ensures { result ≡ result_map_both (λ a. record { class = class; individual = a }) (λ e. e) individual }
+{
+    match individual {
+        Ok(individual) => Ok(Membership { class, individual }),
+        Err(refusal) => {
+            drop(class);
+            Err(refusal)
+        }
+    }
+}
+
+fn member_axiom(member: Membership) -> Axiom
+    ensures { result ≡ axioms.Member member.class member.individual }
+{
+    Axiom::Member(member.class, member.individual)
+}
+
+#[tactic(auto, using(ofn_expressions::proofs::Growing::grows_grows, ofn_expressions::proofs::Growing::grows_same))]
+fn read_member_axiom(
+    alloc: Global,
+    class: &Tree<'_>,
+    individual: &Tree<'_>,
+    prefixes: &Prefixes,
+    state: &mut Reading,
+) -> Result<Axiom, Refusal>
+    ensures tests { Tested result state.old (member_tests prefixes.now class.now individual.now) state.new }
+    ensures grown { Grows state.old state.new }
+    ensures value { IfOk result (ItemsSay prefixes.now state.new.counts K.Member (class.now ∷ individual.now ∷ [])) }
+{
+    let member = read_member(alloc, class, individual, prefixes, state)?;
+    Ok(member_axiom(member))
+}
+
+#[tactic(auto, using(ofn_expressions::proofs::Walks::walked_append, ofn_expressions::proofs::Growing::grows_grows, ofn_expressions::proofs::Growing::grows_same))]
+fn read_pair_axiom(
+    alloc: Global,
+    role: &Tree<'_>,
+    from: &Tree<'_>,
+    to: &Tree<'_>,
+    prefixes: &Prefixes,
+    state: &mut Reading,
+) -> Result<Axiom, Refusal>
+    ensures tests { Tested result state.old (pair_tests prefixes.now role.now from.now to.now) state.new }
+    ensures grown { Grows state.old state.new }
+    ensures value { IfOk result (ItemsSay prefixes.now state.new.counts K.Pair (role.now ∷ from.now ∷ to.now ∷ [])) }
+{
+    let role = read_role(alloc, role, prefixes, state)?;
+    let from = read_individual(alloc, from, prefixes, state)?;
+    let to = read_individual(alloc, to, prefixes, state)?;
+    Ok(Axiom::Pair(role, from, to))
+}
+
+#[tactic(auto, using(ofn_expressions::proofs::Growing::grows_grows, ofn_expressions::proofs::Growing::grows_same))]
+fn read_same(
+    alloc: Global,
+    items: &[Tree<'_>],
+    prefixes: &Prefixes,
+    state: &mut Reading,
+) -> Result<Axiom, Refusal>
+    ensures tests { Tested result state.old (individuals_tests prefixes.now (items_of items.now)) state.new }
+    ensures grown { Grows state.old state.new }
+    ensures value { IfOk result (ItemsSay prefixes.now state.new.counts K.SameAll items.now) }
+{
+    let individuals = read_individuals(alloc, items, prefixes, state)?;
+    Ok(Axiom::SameAll(individuals))
+}
+
+#[tactic(auto, using(ofn_expressions::proofs::Growing::grows_grows, ofn_expressions::proofs::Growing::grows_same))]
+fn read_different(
+    alloc: Global,
+    items: &[Tree<'_>],
+    prefixes: &Prefixes,
+    state: &mut Reading,
+) -> Result<Axiom, Refusal>
+    ensures tests { Tested result state.old (individuals_tests prefixes.now (items_of items.now)) state.new }
+    ensures grown { Grows state.old state.new }
+    ensures value { IfOk result (ItemsSay prefixes.now state.new.counts K.Different items.now) }
+{
+    let individuals = read_individuals(alloc, items, prefixes, state)?;
+    Ok(Axiom::Different(individuals))
+}
+
 /// The axiom that as many items say as its kind asks.
 ///
 /// # Errors
@@ -252,5 +366,11 @@ pub(crate) fn read_operands(
         AxiomKind::Range => read_range(alloc, &items[0], &items[1], prefixes, state),
         AxiomKind::Functional => read_functional(alloc, &items[0], prefixes, state),
         AxiomKind::Transitive => read_transitive(alloc, &items[0], prefixes, state),
+        AxiomKind::Member => read_member_axiom(alloc, &items[0], &items[1], prefixes, state),
+        AxiomKind::Pair => {
+            read_pair_axiom(alloc, &items[0], &items[1], &items[2], prefixes, state)
+        }
+        AxiomKind::SameAll => read_same(alloc, items, prefixes, state),
+        AxiomKind::Different => read_different(alloc, items, prefixes, state),
     }
 }

@@ -14,13 +14,18 @@ fn fits(kind: AxiomKind, count: usize) -> bool
     ensures { result ≡ axiom_fits kind count }
 {
     match kind {
-        AxiomKind::EquivalentClasses | AxiomKind::DisjointClasses | AxiomKind::EquivalentRoles => {
-            count >= 2
-        }
+        AxiomKind::EquivalentClasses
+        | AxiomKind::DisjointClasses
+        | AxiomKind::EquivalentRoles
+        | AxiomKind::SameAll
+        | AxiomKind::Different => count >= 2,
         AxiomKind::DisjointUnion => count >= 3,
-        AxiomKind::SubClassOf | AxiomKind::SubRole | AxiomKind::Domain | AxiomKind::Range => {
-            count == 2
-        }
+        AxiomKind::SubClassOf
+        | AxiomKind::SubRole
+        | AxiomKind::Domain
+        | AxiomKind::Range
+        | AxiomKind::Member => count == 2,
+        AxiomKind::Pair => count == 3,
         AxiomKind::Functional | AxiomKind::Transitive => count == 1,
     }
 }
@@ -41,10 +46,17 @@ fn parts_by_item_count(kind: AxiomKind, count: u64) -> u64
     ensures { result ≡ parts_by_item_count kind count }
 {
     match kind {
-        AxiomKind::SubClassOf | AxiomKind::Domain | AxiomKind::Range | AxiomKind::Functional => 1,
+        AxiomKind::SubClassOf
+        | AxiomKind::Domain
+        | AxiomKind::Range
+        | AxiomKind::Functional
+        | AxiomKind::Member
+        | AxiomKind::Pair => 1,
         AxiomKind::EquivalentClasses => count,
         AxiomKind::DisjointClasses => pair_count(count),
         AxiomKind::DisjointUnion => count + pair_count(count.saturating_sub(1)),
+        AxiomKind::SameAll => count.saturating_sub(1),
+        AxiomKind::Different => pair_count(count),
         AxiomKind::SubRole | AxiomKind::EquivalentRoles | AxiomKind::Transitive => 0,
     }
 }

@@ -4,23 +4,52 @@ ghost use Rattle.ofn_tree.specs.Items.{items_of};
 ghost use Rattle.ofn_expressions.specs.Counts.{Grows};
 ghost use Rattle.ofn_expressions.specs.Walk.{Tested, RefusalAgrees};
 ghost use Rattle.ofn_expressions.specs.Classes.{IsListed};
+ghost use Rattle.shq_terms.specs.Concept.{top};
 ghost use Rattle.ofn_expressions.specs.declared.refusal.Refusal.TheVariants.{NoMemory};
+ghost use Rattle.ofn_reader.specs.Axioms.{member_tests};
 ghost use Rattle.ofn_reader.specs.Texts.{HasItems};
-ghost use Rattle.ofn_reader.specs.Queries.{query_items_tests, axiom_query_tests, query_form_tests, class_form_tests, counted_by_first, counted_in_first, first_line, first_query, first_class, query_walk, class_walk, QueryIsRead, ClassIsRead, IsQueryOn, IsNoQueryOn, IsClassOn, IsNoClassOn, QueryTextIsRefused, TestsRoles, read_alone, read_simple, MeansPair, MeansQuery, AreBothListed};
+ghost use Rattle.ofn_reader.specs.Queries.{query_items_tests, axiom_query_tests, query_form_tests, class_form_tests, counted_by_first, counted_in_first, first_line, first_query, first_class, query_walk, class_walk, QueryIsRead, ClassIsRead, IsQueryOn, IsNoQueryOn, IsClassOn, IsNoClassOn, QueryTextIsRefused, TestsRoles, read_alone, read_simple, MeansGroupQuery, MeansQuery, Asks, member_in, IsListedQuery};
 
 use crate::groups::without_annotations;
 use crate::keywords::{AxiomKeyword, AxiomKind, axiom_keyword};
-use crate::operands::read_pair;
+use crate::operands::{Membership, read_member, read_pair};
 use crate::texts::read_items;
 use crate::{Context, Prefixes, Refusal, Which};
 use ofn_expressions::{MAX_NODES, Reading, item_line};
 use ofn_tree::{Form, Tree, end_line};
 use role_box::{class_is_simple, query_is_simple};
-use shq_terms::{Concept, Ontology, Query};
+use shq_terms::{Concept, Node, On, Ontology, Query};
 use std::alloc::Global;
 use std::mem;
 
 const MAX_TEXT: usize = 1 << 24;
+
+fn member_query(member: Membership) -> Query
+    ensures { result ≡ record { sub = top; sup = member.class; on = On.Individual member.individual } }
+{
+    Query {
+        sub: Concept { node: Node::Top },
+        sup: member.class,
+        on: On::Individual(member.individual),
+    }
+}
+
+// The question whether an individual is in a class expression.
+#[tactic(auto, using(ofn_expressions::proofs::Growing::grows_grows, ofn_expressions::proofs::Growing::grows_same))]
+fn read_member_query(
+    alloc: Global,
+    class: &Tree<'_>,
+    individual: &Tree<'_>,
+    prefixes: &Prefixes,
+    state: &mut Reading,
+) -> Result<Query, Refusal>
+    ensures tests { Tested result state.old (member_tests prefixes.now class.now individual.now) state.new }
+    ensures grown { Grows state.old state.new }
+    ensures value { IfOk result (Asks state.new.counts (λ later. member_in prefixes.now later (items_of (class.now ∷ individual.now ∷ [])))) }
+{
+    let member = read_member(alloc, class, individual, prefixes, state)?;
+    Ok(member_query(member))
+}
 
 #[tactic(auto, using(ofn_expressions::proofs::Lists::item_count_is, ofn_expressions::proofs::Growing::grows_same))]
 fn read_query_group(
@@ -33,7 +62,7 @@ fn read_query_group(
 ) -> Result<Query, Refusal>
     ensures tests { Tested result state.old (query_items_tests prefixes.now keyword line items.now) state.new }
     ensures grown { Grows state.old state.new }
-    ensures value { IfOk result (MeansPair prefixes.now state.new.counts (items_of items.now)) }
+    ensures value { IfOk result (MeansGroupQuery prefixes.now state.new.counts keyword (items_of items.now)) }
 {
     match keyword {
         AxiomKeyword::Numbered(AxiomKind::SubClassOf) => {
@@ -41,6 +70,12 @@ fn read_query_group(
                 return Err(Refusal::BadShape(line));
             }
             read_pair(alloc, &items[0], &items[1], prefixes, state)
+        }
+        AxiomKeyword::Numbered(AxiomKind::Member) => {
+            if items.len() != 2 {
+                return Err(Refusal::BadShape(line));
+            }
+            read_member_query(alloc, &items[0], &items[1], prefixes, state)
         }
         AxiomKeyword::Excluded(construct) => Err(Refusal::Outside(line, construct)),
         AxiomKeyword::Numbered(
@@ -52,7 +87,10 @@ fn read_query_group(
             | AxiomKind::Domain
             | AxiomKind::Range
             | AxiomKind::Functional
-            | AxiomKind::Transitive,
+            | AxiomKind::Transitive
+            | AxiomKind::Pair
+            | AxiomKind::SameAll
+            | AxiomKind::Different,
         )
         | AxiomKeyword::Declaration
         | AxiomKeyword::Annotation
@@ -124,7 +162,7 @@ fn read_query_items(
     ensures tests { Tested result state.old (query_form_tests prefixes.now end_line items.now) state.new }
     ensures grown { Grows state.old state.new }
     ensures pair { IfOk result (λ q. first_query prefixes.now state.new.counts items.now ≡ q ∷ []) }
-    ensures listed { IfOk result (AreBothListed state.new.counts) }
+    ensures listed { IfOk result (IsListedQuery state.new.counts) }
 {
     if items.is_empty() {
         return Err(Refusal::BadShape(end_line));
@@ -280,9 +318,9 @@ fn read_class_on(
     class
 }
 
-/// Reads a query on a document: one axiom `SubClassOf` of two class expressions, which may begin with annotations and
-/// uses the document's prefixes. New names are listed last, and the counts of names and nodes go on from those of the
-/// document.
+/// Reads a query on a document: one axiom `SubClassOf` of two class expressions, or one axiom `ClassAssertion` of a
+/// class expression and an individual, which may begin with annotations and uses the document's prefixes. New names are
+/// listed last, and the counts of names and nodes go on from those of the document.
 ///
 /// # Errors
 ///

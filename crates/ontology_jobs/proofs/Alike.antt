@@ -99,12 +99,12 @@ by_job_alike (decide question budget) bytes out text s t log more r known a b =
 by_job_alike (classify budget) bytes out text s t log more r known a b =
     two_ends (RefusesDocument bytes) (IsReadDocument bytes) (λ p so why. alone_not_refused bytes so.0 so.1 why.0 so.2 why.1) (documents_alike bytes) bytes out text s t log more r
     (class_ended budget bytes out s log (faultless s r) a) (class_ended budget bytes text t more known b)
-by_job_alike (pinpoint w inclusion budget) bytes out text s t log more r known a b =
-    two_ends (IsRefusedQuestion (follows inclusion) bytes) (IsReadBy (follows inclusion) bytes) (λ p so why. questions_not_refused (follows inclusion) bytes so.0 so.1 p so.2 why) (question_refusals (follows inclusion) bytes) bytes out text s t log
-    more r (list_ended w inclusion budget bytes out s log (faultless s r) a) (list_ended w inclusion budget bytes text t more known b)
-by_job_alike (evidence inclusion budget) bytes out text s t log more r known a b =
-    two_ends (IsRefusedQuestion (follows inclusion) bytes) (IsReadBy (follows inclusion) bytes) (λ p so why. questions_not_refused (follows inclusion) bytes so.0 so.1 p so.2 why) (question_refusals (follows inclusion) bytes) bytes out text s t log
-    more r (evidence_ended inclusion budget bytes out s log (faultless s r) a) (evidence_ended inclusion budget bytes text t more known b)
+by_job_alike (pinpoint w statement budget) bytes out text s t log more r known a b =
+    two_ends (IsRefusedQuestion (follows statement) bytes) (IsReadBy (follows statement) bytes) (λ p so why. questions_not_refused (follows statement) bytes so.0 so.1 p so.2 why) (question_refusals (follows statement) bytes) bytes out text s t log
+    more r (list_ended w statement budget bytes out s log (faultless s r) a) (list_ended w statement budget bytes text t more known b)
+by_job_alike (evidence statement budget) bytes out text s t log more r known a b =
+    two_ends (IsRefusedQuestion (follows statement) bytes) (IsReadBy (follows statement) bytes) (λ p so why. questions_not_refused (follows statement) bytes so.0 so.1 p so.2 why) (question_refusals (follows statement) bytes) bytes out text s t log
+    more r (evidence_ended statement budget bytes out s log (faultless s r) a) (evidence_ended statement budget bytes text t more known b)
 
 no_refused_workload : (number budget : ℕ) (out : List ℕ) (s : Status) (log : List Entry) → IsRefusal s → (s ≡ Done) ⊎ (s ≡ Undecided) → ⊥
 no_refused_workload number budget out s log r (inl is) = subst IsRefusal is r

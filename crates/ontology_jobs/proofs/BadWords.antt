@@ -27,8 +27,8 @@ no_job (audit query) bytes out log (inl long) = no_limit bytes out log long
 no_job (audit query) bytes out log (inr (short, ((end, says, is), none))) = not_audited BadWords refl end out is
 no_job (decide question budget) bytes out log answer = no_end _ _ bytes out log (question_ended question budget bytes out BadWords log tt answer)
 no_job (classify budget) bytes out log answer = no_end _ _ bytes out log (class_ended budget bytes out BadWords log tt answer)
-no_job (pinpoint w inclusion budget) bytes out log answer = no_end _ _ bytes out log (list_ended w inclusion budget bytes out BadWords log tt answer)
-no_job (evidence inclusion budget) bytes out log answer = no_end _ _ bytes out log (evidence_ended inclusion budget bytes out BadWords log tt answer)
+no_job (pinpoint w statement budget) bytes out log answer = no_end _ _ bytes out log (list_ended w statement budget bytes out BadWords log tt answer)
+no_job (evidence statement budget) bytes out log answer = no_end _ _ bytes out log (evidence_ended statement budget bytes out BadWords log tt answer)
 
 no_workload : (number budget : ℕ) (bytes out : List ℕ) (log : List Entry) → AnswersRequest (generated number budget) bytes out BadWords log → ⊥
 no_workload number budget bytes out log answer =

@@ -145,14 +145,14 @@ jobs_are_done (classify budget) bytes out s log readable left known answer =
     let so = undecided (classify budget) bytes out s log is answer in
     left_of_tests budget log left (spends_all (on_input (classify budget)) bytes out log so) (class_test_spent budget bytes out log so))
     (class_ended budget bytes out s log known answer)
-jobs_are_done (pinpoint w inclusion budget) bytes out s log readable left known answer =
-    done_by (IsRefusedQuestion (follows inclusion) bytes) (IsReadBy (follows inclusion) bytes) (λ r so why. questions_not_refused (follows inclusion) bytes so.0 so.1 r so.2 why) bytes out log s readable.short readable.read
-    (λ is. some_left (spent_of log) budget left (spends_all (on_input (pinpoint w inclusion budget)) bytes out log (undecided (pinpoint w inclusion budget) bytes out s log is answer)))
-    (list_ended w inclusion budget bytes out s log known answer)
-jobs_are_done (evidence inclusion budget) bytes out s log readable left known answer =
-    done_by (IsRefusedQuestion (follows inclusion) bytes) (IsReadBy (follows inclusion) bytes) (λ r so why. questions_not_refused (follows inclusion) bytes so.0 so.1 r so.2 why) bytes out log s readable.short readable.read
-    (λ is. some_left (spent_of log) budget left (spends_all (on_input (evidence inclusion budget)) bytes out log (undecided (evidence inclusion budget) bytes out s log is answer)))
-    (evidence_ended inclusion budget bytes out s log known answer)
+jobs_are_done (pinpoint w statement budget) bytes out s log readable left known answer =
+    done_by (IsRefusedQuestion (follows statement) bytes) (IsReadBy (follows statement) bytes) (λ r so why. questions_not_refused (follows statement) bytes so.0 so.1 r so.2 why) bytes out log s readable.short readable.read
+    (λ is. some_left (spent_of log) budget left (spends_all (on_input (pinpoint w statement budget)) bytes out log (undecided (pinpoint w statement budget) bytes out s log is answer)))
+    (list_ended w statement budget bytes out s log known answer)
+jobs_are_done (evidence statement budget) bytes out s log readable left known answer =
+    done_by (IsRefusedQuestion (follows statement) bytes) (IsReadBy (follows statement) bytes) (λ r so why. questions_not_refused (follows statement) bytes so.0 so.1 r so.2 why) bytes out log s readable.short readable.read
+    (λ is. some_left (spent_of log) budget left (spends_all (on_input (evidence statement budget)) bytes out log (undecided (evidence statement budget) bytes out s log is answer)))
+    (evidence_ended statement budget bytes out s log known answer)
 
 pub workloads_are_done : WorkloadsAreDone
 workloads_are_done number budget bytes out s log left known answer =

@@ -111,13 +111,13 @@ finished_ends : (b : Bool) → (end_status b ≡ Done) ⊎ (end_status b ≡ Und
 finished_ends true = inl refl
 finished_ends false = inr refl
 
-pub list_ended : (w : Wanted) (inclusion : List ℕ) (budget : ℕ) (bytes out : List ℕ) (s : Status) (log : List Entry) → IsFaultless s → AnswersJob (pinpoint w inclusion budget) bytes out s log
-    → Ended (IsRefusedQuestion (follows inclusion) bytes) (IsReadBy (follows inclusion) bytes) bytes out s log
-list_ended w inclusion budget bytes out s log known answer =
-    elim (by_job (pinpoint w inclusion budget) bytes out s log known answer) [
+pub list_ended : (w : Wanted) (statement : List ℕ) (budget : ℕ) (bytes out : List ℕ) (s : Status) (log : List Entry) → IsFaultless s → AnswersJob (pinpoint w statement budget) bytes out s log
+    → Ended (IsRefusedQuestion (follows statement) bytes) (IsReadBy (follows statement) bytes) bytes out s log
+list_ended w statement budget bytes out s log known answer =
+    elim (by_job (pinpoint w statement budget) bytes out s log known answer) [
       | inl long ↦ too_long long
       | inr read ↦
-          elim (by_begun out s (HasBegun (follows inclusion) bytes log (λ o q. IsPinpointingLog o q budget log)) (IsRefused (follows inclusion) bytes out s log ⊎ IsPinpointed w inclusion budget bytes out s log) known read.1) [
+          elim (by_begun out s (HasBegun (follows statement) bytes log (λ o q. IsPinpointingLog o q budget log)) (IsRefused (follows statement) bytes out s log ⊎ IsPinpointed w statement budget bytes out s log) known read.1) [
             | inl r ↦ is_refused read.0 r.reply r.refused r.answer r.unlogged
             | inr p ↦
                 elim (finished_ends p.listed.finished) [
@@ -127,13 +127,13 @@ list_ended w inclusion budget bytes out s log known answer =
           ]
     ]
 
-pub evidence_ended : (inclusion : List ℕ) (budget : ℕ) (bytes out : List ℕ) (s : Status) (log : List Entry) → IsFaultless s → AnswersJob (evidence inclusion budget) bytes out s log
-    → Ended (IsRefusedQuestion (follows inclusion) bytes) (IsReadBy (follows inclusion) bytes) bytes out s log
-evidence_ended inclusion budget bytes out s log known answer =
-    elim (by_job (evidence inclusion budget) bytes out s log known answer) [
+pub evidence_ended : (statement : List ℕ) (budget : ℕ) (bytes out : List ℕ) (s : Status) (log : List Entry) → IsFaultless s → AnswersJob (evidence statement budget) bytes out s log
+    → Ended (IsRefusedQuestion (follows statement) bytes) (IsReadBy (follows statement) bytes) bytes out s log
+evidence_ended statement budget bytes out s log known answer =
+    elim (by_job (evidence statement budget) bytes out s log known answer) [
       | inl long ↦ too_long long
       | inr read ↦
-          elim (by_begun out s (HasBegun (follows inclusion) bytes log (λ o q. IsEvidenceLog o q budget log)) (IsRefused (follows inclusion) bytes out s log ⊎ IsEvidenced inclusion budget bytes out s log) known read.1) [
+          elim (by_begun out s (HasBegun (follows statement) bytes log (λ o q. IsEvidenceLog o q budget log)) (IsRefused (follows statement) bytes out s log ⊎ IsEvidenced statement budget bytes out s log) known read.1) [
             | inl r ↦ is_refused read.0 r.reply r.refused r.answer r.unlogged
             | inr e ↦
                 elim (finished_ends e.answer.finished) [

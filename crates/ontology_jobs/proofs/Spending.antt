@@ -102,12 +102,12 @@ spends_all (on_input (decide question budget)) bytes out log (inr (short, inl re
 spends_all (on_input (decide question budget)) bytes out log (inr (short, inr decided)) = decided_spent question budget bytes out log decided
 spends_all (on_input (classify budget)) bytes out log (inl long) = absurd (too_long bytes out log long)
 spends_all (on_input (classify budget)) bytes out log (inr (short, on)) = on.so.ends.whole
-spends_all (on_input (pinpoint wanted inclusion budget)) bytes out log (inl long) = absurd (too_long bytes out log long)
-spends_all (on_input (pinpoint wanted inclusion budget)) bytes out log (inr (short, inl refused)) = absurd (no_refusal (follows inclusion) bytes out log refused)
-spends_all (on_input (pinpoint wanted inclusion budget)) bytes out log (inr (short, inr p)) = listed_spent wanted p.ontology p.query budget log out p.listed
-spends_all (on_input (evidence inclusion budget)) bytes out log (inl long) = absurd (too_long bytes out log long)
-spends_all (on_input (evidence inclusion budget)) bytes out log (inr (short, inl refused)) = absurd (no_refusal (follows inclusion) bytes out log refused)
-spends_all (on_input (evidence inclusion budget)) bytes out log (inr (short, inr e)) = evidence_spent e.ontology e.query budget log out e.answer
+spends_all (on_input (pinpoint wanted statement budget)) bytes out log (inl long) = absurd (too_long bytes out log long)
+spends_all (on_input (pinpoint wanted statement budget)) bytes out log (inr (short, inl refused)) = absurd (no_refusal (follows statement) bytes out log refused)
+spends_all (on_input (pinpoint wanted statement budget)) bytes out log (inr (short, inr p)) = listed_spent wanted p.ontology p.query budget log out p.listed
+spends_all (on_input (evidence statement budget)) bytes out log (inl long) = absurd (too_long bytes out log long)
+spends_all (on_input (evidence statement budget)) bytes out log (inr (short, inl refused)) = absurd (no_refusal (follows statement) bytes out log refused)
+spends_all (on_input (evidence statement budget)) bytes out log (inr (short, inr e)) = evidence_spent e.ontology e.query budget log out e.answer
 spends_all (generated number budget) bytes out log m = counted_spent number m.ontology m.query budget log out m.counted
 
 pub answered_spends : (held : Option (List ℕ)) (words : List (List ℕ)) (out : List ℕ) (s : Status) (log : List Entry) → AnswersAll held words out s log → s ≡ Undecided → HasSpentAll (request_of words) log

@@ -38,8 +38,8 @@ AnswersRead (check query) bytes out s log = Checked query bytes out s × (log �
 AnswersRead (audit query) bytes out s log = Audited query bytes out s × (log ≡ [])
 AnswersRead (decide question budget) bytes out s log = AnswersQuestion question budget bytes out s log
 AnswersRead (classify budget) bytes out s log = AnswersClassification budget bytes out s log
-AnswersRead (pinpoint wanted inclusion budget) bytes out s log = AnswersPinpointing wanted inclusion budget bytes out s log
-AnswersRead (evidence inclusion budget) bytes out s log = AnswersEvidence inclusion budget bytes out s log
+AnswersRead (pinpoint wanted statement budget) bytes out s log = AnswersPinpointing wanted statement budget bytes out s log
+AnswersRead (evidence statement budget) bytes out s log = AnswersEvidence statement budget bytes out s log
 
 -- the answer of a job to an input; memory may be refused before it is read, and then nothing is logged
 abbrev pub AnswersJob : Job → List ℕ → List ℕ → Status → List Entry → Type 0

@@ -35,8 +35,8 @@ IsRead (check query) bytes = BeginsWithDocument query bytes
 IsRead (audit query) bytes = BeginsWithDocument query bytes
 IsRead (decide question budget) bytes = (o : Listed) × (q : Asked) × IsQuestion question bytes o q
 IsRead (classify budget) bytes = (o : Listed) × (kept : DocumentContext) × IsDocumentAlone bytes o kept
-IsRead (pinpoint wanted inclusion budget) bytes = (o : Listed) × (q : Asked) × IsQuestion (follows inclusion) bytes o q
-IsRead (evidence inclusion budget) bytes = (o : Listed) × (q : Asked) × IsQuestion (follows inclusion) bytes o q
+IsRead (pinpoint wanted statement budget) bytes = (o : Listed) × (q : Asked) × IsQuestion (follows statement) bytes o q
+IsRead (evidence statement budget) bytes = (o : Listed) × (q : Asked) × IsQuestion (follows statement) bytes o q
 
 -- the input of a job is within its length, and is read
 pub record IsReadable (job : Job) (bytes : List ℕ) : Type 0 where
@@ -52,8 +52,8 @@ HasLeft (on_input (check query)) log = Unit {0}
 HasLeft (on_input (audit query)) log = Unit {0}
 HasLeft (on_input (decide question budget)) log = (spent_of log < budget) ⊎ (list_any is_spent log ≡ false)
 HasLeft (on_input (classify budget)) log = (spent_of log < budget) ⊎ (list_any is_spent log ≡ false)
-HasLeft (on_input (pinpoint wanted inclusion budget)) log = spent_of log < budget
-HasLeft (on_input (evidence inclusion budget)) log = spent_of log < budget
+HasLeft (on_input (pinpoint wanted statement budget)) log = spent_of log < budget
+HasLeft (on_input (evidence statement budget)) log = spent_of log < budget
 HasLeft (generated number budget) log = spent_of log < budget
 
 -- ---- how the run ends
@@ -89,8 +89,8 @@ EndsWell (on_input (check query)) s = IsJudged s
 EndsWell (on_input (audit query)) s = IsJudged s
 EndsWell (on_input (decide question budget)) s = IsDone s
 EndsWell (on_input (classify budget)) s = IsDone s
-EndsWell (on_input (pinpoint wanted inclusion budget)) s = IsDone s
-EndsWell (on_input (evidence inclusion budget)) s = IsDone s
+EndsWell (on_input (pinpoint wanted statement budget)) s = IsDone s
+EndsWell (on_input (evidence statement budget)) s = IsDone s
 EndsWell (generated number budget) s = IsDone s
 
 -- ---- the two together

@@ -40,8 +40,8 @@ AsksForNoSearch (Some (on_input (check query))) = Unit {0}
 AsksForNoSearch (Some (on_input (audit query))) = Unit {0}
 AsksForNoSearch (Some (on_input (decide question budget))) = ⊥
 AsksForNoSearch (Some (on_input (classify budget))) = ⊥
-AsksForNoSearch (Some (on_input (pinpoint wanted inclusion budget))) = ⊥
-AsksForNoSearch (Some (on_input (evidence inclusion budget))) = ⊥
+AsksForNoSearch (Some (on_input (pinpoint wanted statement budget))) = ⊥
+AsksForNoSearch (Some (on_input (evidence statement budget))) = ⊥
 AsksForNoSearch (Some (generated number budget)) = ⊥
 
 abbrev pub AnswersAreUnique : Type 0
@@ -55,8 +55,8 @@ SpendsAll (on_input (check query)) log = ⊥
 SpendsAll (on_input (audit query)) log = ⊥
 SpendsAll (on_input (decide question budget)) log = spent_of log ≡ budget
 SpendsAll (on_input (classify budget)) log = spent_of log ≡ budget
-SpendsAll (on_input (pinpoint wanted inclusion budget)) log = spent_of log ≡ budget
-SpendsAll (on_input (evidence inclusion budget)) log = spent_of log ≡ budget
+SpendsAll (on_input (pinpoint wanted statement budget)) log = spent_of log ≡ budget
+SpendsAll (on_input (evidence statement budget)) log = spent_of log ≡ budget
 SpendsAll (generated number budget) log = spent_of log ≡ budget
 
 -- the same of what words ask for; those of no job spend nothing

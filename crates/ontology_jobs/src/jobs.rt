@@ -130,10 +130,10 @@ fn do_on(alloc: Global, job: Job<'_>, input: &[u8], log: &mut RunLog) -> (Status
         Job::Audit(query) => verify_audit(alloc, query, input),
         Job::Decide(question, budget) => answer(alloc, question, budget, input, log),
         Job::Classify(budget) => classify(alloc, budget, input, log),
-        Job::Pinpoint(wanted, inclusion, budget) => {
-            pinpoint(alloc, wanted, inclusion, budget, input, log)
+        Job::Pinpoint(wanted, statement, budget) => {
+            pinpoint(alloc, wanted, statement, budget, input, log)
         }
-        Job::Evidence(inclusion, budget) => { find_evidence(alloc, inclusion, budget, input, log) }
+        Job::Evidence(statement, budget) => { find_evidence(alloc, statement, budget, input, log) }
     }
 }
 

@@ -1,6 +1,6 @@
 -- The limits of an ontology and of a query on it, together: what is read is within them, and each later call asks for
 -- them.
-use Rattle.std.specs.Prelude.{◌≡◌, ℕ, ◌+◌, ◌≤◌, Bool, true, not, ◌&&◌, List, [], ◌∷◌, length, nat_le, nat_lt}
+use Rattle.std.specs.Prelude.{◌≡◌, ℕ, ◌+◌, ◌≤◌, Bool, true, ◌&&◌, List, [], ◌∷◌, length, nat_le, nat_lt}
 use Rattle.std.specs.List.{list_all}
 use Rattle.role_box.specs.Concept.{Concept, top, bottom, name, complement, intersection, union, some_of, all_of, at_least, at_most, exactly, Parts, no_parts, part, parts_of, part_list}
 use Rattle.role_box.specs.Listed.{Listed}
@@ -14,7 +14,7 @@ use Rattle.role_box.specs.On.TheVariants.{Any, Individual}
 use Rattle.role_box.specs.Counted.{counted_by_query}
 use Rattle.role_box.specs.Simple.{are_simple, counts_simple, all_role_axioms}
 use Rattle.shq_nnf.specs.Counts.{has_counts_within}
-use Rattle.shq_nnf.specs.Meeting.{is_assertion}
+use Rattle.shq_nnf.specs.Facts.{facts_of}
 use Rattle.shq_nnf.specs.Parts.{axiom_parts, axiom_has_counts_within}
 
 -- ---- numbers of items (OWL 2 Structural Specification, sections 8.1, 9.1 and 9.2)
@@ -58,10 +58,10 @@ has_enough_items (Different as_) = nat_le 2 (length as_)
 
 -- ---- the limits
 
--- how many parts axioms have together
+-- how many parts axioms have together, of which each fact of an assertion is one
 abbrev pub part_count : List Numbered → ℕ
 part_count [] = 0
-part_count (a ∷ as_) = length (axiom_parts a.axiom) + part_count as_
+part_count (a ∷ as_) = length (axiom_parts a.axiom) + length (facts_of a.axiom) + part_count as_
 
 -- The names of an ontology's axioms are listed, their groups have as many items as they need, no cardinality is above
 -- 100, each role that is counted is simple, and there are not too many axioms, names and parts.
@@ -89,16 +89,3 @@ pub record IsInLimit (o : Listed) (q : Query) : Type 0 where
   pub counts : (has_counts_within 100 q.sub && has_counts_within 100 q.sup) ≡ true
   pub simple : are_simple (all_role_axioms o.axioms) (counted_by_query q) ≡ true
   pub on_listed : is_on_listed (length o.individuals) q.on ≡ true
-
--- ---- what is searched
-
--- no individual is listed, and no axiom is an assertion
-pub record IsOntologyWithoutIndividuals (o : Listed) : Type 0 where
-  pub none_listed : o.individuals ≡ []
-  pub no_assertions : list_all (λ (a : Numbered). not (is_assertion a.axiom)) o.axioms ≡ true
-
--- The same of an ontology and a query on it, which speaks of each element. It is no limit: searches, which know nothing
--- of individuals yet, ask for it beside the limits.
-pub record IsWithoutIndividuals (o : Listed) (q : Query) : Type 0 where
-  pub ontology : IsOntologyWithoutIndividuals o
-  pub on_any : q.on ≡ Any

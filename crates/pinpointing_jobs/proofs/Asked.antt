@@ -19,7 +19,7 @@ use Rattle.job_inputs.specs.declared.status.Status.{Status}
 use Rattle.job_inputs.specs.declared.status.Status.TheVariants.{Done, Rejected, BadWords, BadText, Outside, Limit, ReadFault, WriteFault, Undecided, NoMemory}
 use Rattle.job_inputs.specs.Questions.{Text, follows, document, query, IsDocumentAlone, IsQuestion, IsReadQuestion, IsUnreadDocument, IsUnreadQuestion}
 use Rattle.job_inputs.proofs.OneReading.{questions_not_refused}
-use Rattle.job_inputs.proofs.ReadInLimit.{question_in_limit, question_without_individuals}
+use Rattle.job_inputs.proofs.ReadInLimit.{question_in_limit}
 use Rattle.pinpointing_jobs.specs.declared.asking.Input.{Input}
 use Rattle.pinpointing_jobs.specs.Asked.{IsInput, IsNoInput}
 use Rattle.pinpointing_jobs.specs.declared.wanted.Wanted.{Wanted}
@@ -29,40 +29,39 @@ use Rattle.run_log.specs.HonestLog.{IsPinpointingLog}
 use Rattle.pinpointing_jobs.specs.Begun.{HasSearched}
 use Rattle.pinpointing_jobs.specs.Laws.{WorkloadsAreQuestions}
 
-pub is_input : (inclusion bytes : List ℕ) (o : Listed) (kept : DocumentContext) (input : Input) → IsDocumentAlone bytes o kept → IsReadQuestion o kept (follows inclusion) input.ontology input.query → IsInput inclusion bytes input
-is_input inclusion bytes o kept input d x = record {
+pub is_input : (statement bytes : List ℕ) (o : Listed) (kept : DocumentContext) (input : Input) → IsDocumentAlone bytes o kept → IsReadQuestion o kept (follows statement) input.ontology input.query → IsInput statement bytes input
+is_input statement bytes o kept input d x = record {
   is_question = record { document = o; kept = kept; counts = x.counts; is_document = d; is_asked = x.is_asked; both_are = x.both_are };
-  in_limit = question_in_limit bytes o kept (follows inclusion) input.ontology input.query d x;
-  without_individuals = question_without_individuals bytes o kept (follows inclusion) input.ontology input.query d x;
+  in_limit = question_in_limit bytes o kept (follows statement) input.ontology input.query d x;
 }
 
-pub no_document : (inclusion bytes : List ℕ) (u : Unread) → IsUnreadDocument bytes u → IsNoInput inclusion bytes u
-no_document inclusion bytes (U.Document e) why = document e why
-no_document inclusion bytes (U.Query e) why = absurd why
-no_document inclusion bytes (U.Line n) why = absurd why
-no_document inclusion bytes U.NoMemory why = tt
+pub no_document : (statement bytes : List ℕ) (u : Unread) → IsUnreadDocument bytes u → IsNoInput statement bytes u
+no_document statement bytes (U.Document e) why = document e why
+no_document statement bytes (U.Query e) why = absurd why
+no_document statement bytes (U.Line n) why = absurd why
+no_document statement bytes U.NoMemory why = tt
 
-pub no_query : (inclusion bytes : List ℕ) (o : Listed) (kept : DocumentContext) (u : Unread) → IsDocumentAlone bytes o kept → IsUnreadQuestion o kept (follows inclusion) u → IsNoInput inclusion bytes u
-no_query inclusion bytes o kept (U.Query e) d why = query o kept e d why
-no_query inclusion bytes o kept (U.Document e) d why = absurd why
-no_query inclusion bytes o kept (U.Line n) d why = absurd why
-no_query inclusion bytes o kept U.NoMemory d why = tt
+pub no_query : (statement bytes : List ℕ) (o : Listed) (kept : DocumentContext) (u : Unread) → IsDocumentAlone bytes o kept → IsUnreadQuestion o kept (follows statement) u → IsNoInput statement bytes u
+no_query statement bytes o kept (U.Query e) d why = query o kept e d why
+no_query statement bytes o kept (U.Document e) d why = absurd why
+no_query statement bytes o kept (U.Line n) d why = absurd why
+no_query statement bytes o kept U.NoMemory d why = tt
 
 -- ---- what was asked of an input
 
 -- nothing was asked, or this is so of what was
-pub has_begun : {E : Type 0} (inclusion bytes : List ℕ) (input : Input) (log : List E) (is_so : Listed → Asked → Type 0) → IsInput inclusion bytes input → (log ≡ []) ⊎ is_so input.ontology input.query → HasBegun (follows inclusion) bytes log is_so
-has_begun inclusion bytes input log is_so read (inl none) = nothing none
-has_begun inclusion bytes input log is_so read (inr so) = asked input.ontology input.query read.is_question so
+pub has_begun : {E : Type 0} (statement bytes : List ℕ) (input : Input) (log : List E) (is_so : Listed → Asked → Type 0) → IsInput statement bytes input → (log ≡ []) ⊎ is_so input.ontology input.query → HasBegun (follows statement) bytes log is_so
+has_begun statement bytes input log is_so read (inl none) = nothing none
+has_begun statement bytes input log is_so read (inr so) = asked input.ontology input.query read.is_question so
 
-pub begun : (inclusion bytes : List ℕ) (budget : ℕ) (input : Input) (log : List Entry) → IsInput inclusion bytes input → HasSearched input.ontology input.query budget log → HasBegun (follows inclusion) bytes log (λ o q. IsPinpointingLog o q budget log)
-begun inclusion bytes budget input log = has_begun inclusion bytes input log (λ o q. IsPinpointingLog o q budget log)
+pub begun : (statement bytes : List ℕ) (budget : ℕ) (input : Input) (log : List Entry) → IsInput statement bytes input → HasSearched input.ontology input.query budget log → HasBegun (follows statement) bytes log (λ o q. IsPinpointingLog o q budget log)
+begun statement bytes budget input log = has_begun statement bytes input log (λ o q. IsPinpointingLog o q budget log)
 
-pub no_input : {E : Type 0} (inclusion bytes : List ℕ) (log : List E) (is_so : Listed → Asked → Type 0) (u : Unread) → log ≡ [] → IsNoInput inclusion bytes u → IsUnanswered (follows inclusion) bytes log is_so u
-no_input inclusion bytes log is_so (U.Document e) none why = (why, none)
-no_input inclusion bytes log is_so (U.Query e) none why = (why, none)
-no_input inclusion bytes log is_so (U.Line n) none why = absurd why
-no_input inclusion bytes log is_so U.NoMemory none why = nothing none
+pub no_input : {E : Type 0} (statement bytes : List ℕ) (log : List E) (is_so : Listed → Asked → Type 0) (u : Unread) → log ≡ [] → IsNoInput statement bytes u → IsUnanswered (follows statement) bytes log is_so u
+no_input statement bytes log is_so (U.Document e) none why = (why, none)
+no_input statement bytes log is_so (U.Query e) none why = (why, none)
+no_input statement bytes log is_so (U.Line n) none why = absurd why
+no_input statement bytes log is_so U.NoMemory none why = nothing none
 
 -- ---- answers
 
@@ -118,9 +117,9 @@ module _ {E : Type 0} (question : Text) (bytes out : List ℕ) (s : Status) (log
   unread_gives (U.Line n) why gives = absurd why
   unread_gives U.NoMemory why gives = out_of_memory out s begins answers gives why
 
-pub unread_answers : (w : Wanted) (inclusion : List ℕ) (budget : ℕ) (bytes out : List ℕ) (s : Status) (log : List Entry) (u : Unread) → IsUnanswered (follows inclusion) bytes log (λ o q. IsPinpointingLog o q budget log) u → Gives (unread_answer u) out s
-    → AnswersPinpointing w inclusion budget bytes out s log
-unread_answers w inclusion budget bytes out s log = unread_gives (follows inclusion) bytes out s log (λ o q. IsPinpointingLog o q budget log) (IsPinpointed w inclusion budget bytes out s log)
+pub unread_answers : (w : Wanted) (statement : List ℕ) (budget : ℕ) (bytes out : List ℕ) (s : Status) (log : List Entry) (u : Unread) → IsUnanswered (follows statement) bytes log (λ o q. IsPinpointingLog o q budget log) u → Gives (unread_answer u) out s
+    → AnswersPinpointing w statement budget bytes out s log
+unread_answers w statement budget bytes out s log = unread_gives (follows statement) bytes out s log (λ o q. IsPinpointingLog o q budget log) (IsPinpointed w statement budget bytes out s log)
 
 -- ---- the document of a workload
 

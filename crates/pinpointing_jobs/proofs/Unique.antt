@@ -95,8 +95,8 @@ same_sets w o p q r xs ys e f first second =
     ))
 
 pub unique : ListsAreUnique
-unique w inclusion b c bytes out text log more first second =
-    let same = questions (follows inclusion) bytes first.ontology second.ontology first.query second.query first.is_question second.is_question in
+unique w statement b c bytes out text log more first second =
+    let same = questions (follows statement) bytes first.ontology second.ontology first.query second.query first.is_question second.is_question in
     let one = first.listed in
     let other = second.listed in
     let all = all_listed w first.ontology first.query b log one.sets one.finished one.status one.listing in

@@ -15,18 +15,18 @@ use Rattle.pinpointing_jobs.specs.Memory.{UnlessNoMemory}
 
 -- ---- lists of sets
 
--- the inclusion is a query on the document that the bytes are, and its sets were listed
-pub record IsPinpointed (w : Wanted) (inclusion : List ℕ) (budget : ℕ) (bytes out : List ℕ) (s : Status) (log : List Entry) : Type 0 where
+-- the statement is a query on the document that the bytes are, and its sets were listed
+pub record IsPinpointed (w : Wanted) (statement : List ℕ) (budget : ℕ) (bytes out : List ℕ) (s : Status) (log : List Entry) : Type 0 where
   pub ontology : Listed
   pub query : Asked
-  pub is_question : IsQuestion (follows inclusion) bytes ontology query
+  pub is_question : IsQuestion (follows statement) bytes ontology query
   pub listed : IsListAnswer w ontology query budget log s out
 
--- the document or the inclusion is refused, or its sets were listed
+-- the document or the statement is refused, or its sets were listed
 abbrev pub AnswersPinpointing : Wanted → List ℕ → ℕ → List ℕ → List ℕ → Status → List Entry → Type 0
-AnswersPinpointing w inclusion budget bytes out s log =
-    UnlessNoMemory s out (HasBegun (follows inclusion) bytes log (λ o q. IsPinpointingLog o q budget log))
-    (IsRefused (follows inclusion) bytes out s log ⊎ IsPinpointed w inclusion budget bytes out s log)
+AnswersPinpointing w statement budget bytes out s log =
+    UnlessNoMemory s out (HasBegun (follows statement) bytes log (λ o q. IsPinpointingLog o q budget log))
+    (IsRefused (follows statement) bytes out s log ⊎ IsPinpointed w statement budget bytes out s log)
 
 -- ---- workloads
 

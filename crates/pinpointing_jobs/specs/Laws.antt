@@ -11,8 +11,8 @@ use Rattle.pinpointing_jobs.specs.Answers.{IsPinpointed, workload_query}
 
 -- two finished answers to one question are the same text, whatever the budgets
 abbrev pub ListsAreUnique : Type 0
-ListsAreUnique = (w : Wanted) (inclusion : List ℕ) (b c : ℕ) (bytes out text : List ℕ) (log more : List Entry)
-    → IsPinpointed w inclusion b bytes out Done log → IsPinpointed w inclusion c bytes text Done more → out ≡ text
+ListsAreUnique = (w : Wanted) (statement : List ℕ) (b c : ℕ) (bytes out text : List ℕ) (log more : List Entry)
+    → IsPinpointed w statement b bytes out Done log → IsPinpointed w statement c bytes text Done more → out ≡ text
 
 -- the text of a workload is a document with nothing behind it, and the query of workloads is one on it
 abbrev pub WorkloadsAreQuestions : Type 0

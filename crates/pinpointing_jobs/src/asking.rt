@@ -15,36 +15,36 @@ pub struct Input {
     pub query: Query,
 }
 
-/// Reads a document with nothing else after it, and an inclusion on it.
+/// Reads a document with nothing else after it, and a statement on it.
 ///
 /// # Errors
 ///
 /// What is refused, the document before the query, and `NoMemory`.
-pub fn read_input(alloc: Global, inclusion: &str, bytes: &[u8]) -> Result<Input, Unread>
+pub fn read_input(alloc: Global, statement: &str, bytes: &[u8]) -> Result<Input, Unread>
     requires { length bytes.now ≤ 4294967293 }
-    ensures input { IfOk result (IsInput inclusion.now bytes.now) }
-    ensures unread { IfErr result (IsNoInput inclusion.now bytes.now) }
+    ensures input { IfOk result (IsInput statement.now bytes.now) }
+    ensures unread { IfErr result (IsNoInput statement.now bytes.now) }
 {
     let (ontology, context) = read_document(alloc, bytes)?;
-    let outcome = read_query(alloc, inclusion, bytes, ontology, &context);
+    let outcome = read_query(alloc, statement, bytes, ontology, &context);
     drop(context);
     outcome
 }
 
-// Reads an inclusion on a document.
+// Reads a statement on a document.
 fn read_query(
     alloc: Global,
-    inclusion: &str,
+    statement: &str,
     bytes: &[u8],
     mut ontology: Ontology,
     context: &Context,
 ) -> Result<Input, Unread>
     requires { IsDocumentAlone bytes.now ontology context.now }
-    ensures input { IfOk result (IsInput inclusion.now bytes.now) }
-    ensures unread { IfErr result (IsNoInput inclusion.now bytes.now) }
+    ensures input { IfOk result (IsInput statement.now bytes.now) }
+    ensures unread { IfErr result (IsNoInput statement.now bytes.now) }
 {
     let _document = bytes;
-    match read_question(alloc, Question::Follows(inclusion), &mut ontology, context) {
+    match read_question(alloc, Question::Follows(statement), &mut ontology, context) {
         Ok(query) => Ok(Input { ontology, query }),
         Err(unread) => {
             drop(ontology);

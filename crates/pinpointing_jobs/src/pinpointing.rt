@@ -1,6 +1,6 @@
 // From the question and the bytes of a document to the list of its sets.
 ghost use Rattle.std.specs.Prelude.{◌≡◌, ◌≤◌, false, [], IfOk, IfErr, OnErr, length};
-ghost use Rattle.ontology_limits.specs.Limits.{IsInLimit, IsWithoutIndividuals};
+ghost use Rattle.ontology_limits.specs.Limits.{IsInLimit};
 ghost use Rattle.job_inputs.specs.Answer.{text_bytes, is_fault};
 ghost use Rattle.job_inputs.specs.Questions.{follows};
 ghost use Rattle.job_inputs.specs.Refusals.{IsUnanswered};
@@ -17,45 +17,45 @@ use run_log::RunLog;
 use shq_terms::{NoMemory, Ontology, Query};
 use std::alloc::Global;
 
-/// All justifications or all repairs of an inclusion on the document that the bytes are: how the run ends, and the list
+/// All justifications or all repairs of a statement on the document that the bytes are: how the run ends, and the list
 /// as text. The log gets what was asked.
 ///
-/// `inclusion` is the text of a `SubClassOf`, and `budget` the number of steps and nodes that the search may take.
-/// Where it does not suffice, the list has what was found, and the run ends `Undecided`.
+/// `statement` is the text of a `SubClassOf` or a `ClassAssertion`, and `budget` the number of steps and nodes that the
+/// search may take. Where it does not suffice, the list has what was found, and the run ends `Undecided`.
 pub fn pinpoint(
     alloc: Global,
     wanted: Wanted,
-    inclusion: &str,
+    statement: &str,
     budget: u32,
     bytes: &[u8],
     log: &mut RunLog,
 ) -> (Status, Text)
     requires small { length bytes.now ≤ 4294967293 }
     requires unlogged { log.old ≡ [] }
-    ensures answer { AnswersPinpointing wanted inclusion.now budget bytes.now (text_bytes result.1) result.0 log.new }
+    ensures answer { AnswersPinpointing wanted statement.now budget bytes.now (text_bytes result.1) result.0 log.new }
     ensures no_fault { is_fault result.0 ≡ false }
 {
-    match pinpointed(alloc, wanted, inclusion, budget, bytes, log) {
+    match pinpointed(alloc, wanted, statement, budget, bytes, log) {
         Ok(answer) => answer,
         Err(unread) => unread_reply(alloc, unread),
     }
 }
 
-// The list, unless the document or the inclusion is refused.
+// The list, unless the document or the statement is refused.
 fn pinpointed(
     alloc: Global,
     wanted: Wanted,
-    inclusion: &str,
+    statement: &str,
     budget: u32,
     bytes: &[u8],
     log: &mut RunLog,
 ) -> Result<(Status, Text), Unread>
     requires small { length bytes.now ≤ 4294967293 }
     requires unlogged { log.old ≡ [] }
-    ensures answer { IfOk result (λ a. IsPinpointed wanted inclusion.now budget bytes.now (text_bytes a.1) a.0 log.new) }
-    ensures unread { IfErr result (IsUnanswered (follows inclusion.now) bytes.now log.new (λ o q. IsPinpointingLog o q budget log.new)) }
+    ensures answer { IfOk result (λ a. IsPinpointed wanted statement.now budget bytes.now (text_bytes a.1) a.0 log.new) }
+    ensures unread { IfErr result (IsUnanswered (follows statement.now) bytes.now log.new (λ o q. IsPinpointingLog o q budget log.new)) }
 {
-    let input = read_input(alloc, inclusion, bytes)?;
+    let input = read_input(alloc, statement, bytes)?;
     let answer = listed(alloc, wanted, budget, input, log)?;
     Ok(answer)
 }
@@ -69,7 +69,6 @@ fn listed(
     log: &mut RunLog,
 ) -> Result<(Status, Text), NoMemory>
     requires in_limit { IsInLimit input.ontology input.query }
-    requires without_individuals { IsWithoutIndividuals input.ontology input.query }
     requires unlogged { log.old ≡ [] }
     ensures listed { IfOk result (λ a. IsListAnswer wanted input.ontology input.query budget log.new a.0 (text_bytes a.1)) }
     ensures begun { OnErr result (HasSearched input.ontology input.query budget log.new) }
@@ -89,7 +88,6 @@ fn list(
     log: &mut RunLog,
 ) -> Result<(Status, Text), NoMemory>
     requires in_limit { IsInLimit ontology.now query.now }
-    requires without_individuals { IsWithoutIndividuals ontology.now query.now }
     requires unlogged { log.old ≡ [] }
     ensures listed { IfOk result (λ a. IsListAnswer wanted ontology.now query.now budget log.new a.0 (text_bytes a.1)) }
     ensures begun { OnErr result (HasSearched ontology.now query.now budget log.new) }

@@ -1,6 +1,6 @@
 // The search for justifications and repairs.
 ghost use Rattle.std.specs.Prelude.{◌≡◌, [], IfOk, OnErr};
-ghost use Rattle.ontology_limits.specs.Limits.{IsInLimit, IsWithoutIndividuals};
+ghost use Rattle.ontology_limits.specs.Limits.{IsInLimit};
 ghost use Rattle.pinpointing_jobs.specs.Searched.{IsSearched};
 ghost use Rattle.pinpointing_jobs.specs.Begun.{HasSearched};
 
@@ -26,7 +26,6 @@ pub(crate) fn search(
     log: &mut RunLog,
 ) -> Result<Found, NoMemory>
     requires in_limit { IsInLimit ontology.now query.now }
-    requires without_individuals { IsWithoutIndividuals ontology.now query.now }
     requires unlogged { log.old ≡ [] }
     ensures found { IfOk result (IsSearched ontology.now query.now budget log.new) }
     ensures begun { OnErr result (HasSearched ontology.now query.now budget log.new) }

@@ -1,6 +1,6 @@
 // The numbers of the sets of a generated document.
 ghost use Rattle.std.specs.Prelude.{◌≡◌, ◌≤◌, false, [], IfOk, OnErr};
-ghost use Rattle.ontology_limits.specs.Limits.{IsInLimit, IsWithoutIndividuals};
+ghost use Rattle.ontology_limits.specs.Limits.{IsInLimit};
 ghost use Rattle.workload.specs.WorkloadText.{workload_text};
 ghost use Rattle.job_inputs.specs.Answer.{text_bytes, is_fault};
 ghost use Rattle.job_inputs.specs.Questions.{follows};
@@ -92,7 +92,6 @@ fn counted(
     log: &mut RunLog,
 ) -> Result<(Status, Text), NoMemory>
     requires in_limit { IsInLimit input.ontology input.query }
-    requires without_individuals { IsWithoutIndividuals input.ontology input.query }
     requires unlogged { log.old ≡ [] }
     ensures counted { IfOk result (λ a. IsCounted number input.ontology input.query budget log.new a.0 (text_bytes a.1)) }
     ensures begun { OnErr result (HasSearched input.ontology input.query budget log.new) }
@@ -112,7 +111,6 @@ fn count(
     log: &mut RunLog,
 ) -> Result<(Status, Text), NoMemory>
     requires in_limit { IsInLimit ontology.now query.now }
-    requires without_individuals { IsWithoutIndividuals ontology.now query.now }
     requires unlogged { log.old ≡ [] }
     ensures counted { IfOk result (λ a. IsCounted number ontology.now query.now budget log.new a.0 (text_bytes a.1)) }
     ensures begun { OnErr result (HasSearched ontology.now query.now budget log.new) }

@@ -1,4 +1,4 @@
-// The module of a query on an ontology with assertions, which is made here, as no document has any.
+// The module of a query on an ontology with assertions, which is made here statement by statement.
 ghost use Rattle.std.specs.Prelude.{◌≡◌, ◌≤◌, ◌∷◌, [], IfOk, OnOk, length};
 ghost use Rattle.shq_terms.specs.Concept.{name};
 

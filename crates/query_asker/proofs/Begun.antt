@@ -7,7 +7,7 @@ use Rattle.std.proofs.lemmas.List.{append-nil}
 use Rattle.std.proofs.lemmas.List.Elements.{All-nil}
 use Rattle.axiom_sets.specs.Sets.{Limited}
 use Rattle.shq_terms.specs.declared.axioms.Query.{Query}
-use Rattle.ontology_limits.specs.Limits.{IsInLimit, IsWithoutIndividuals}
+use Rattle.ontology_limits.specs.Limits.{IsInLimit}
 use Rattle.run_log.specs.declared.entry.Entry.{Entry}
 use Rattle.run_log.specs.Entries.{spent_of, is_spent}
 use Rattle.run_log.specs.HonestLog.{IsHonestEntry, EndsWhenSpent, IsTestOf, AsksNoAnswer, IsTestIn}
@@ -45,14 +45,14 @@ module _ (o : OracleLists) (q : Query) (among : Option Limited) where
         few = inl (omega arith);
       }
 
-  pub begins : (first : ℕ) (memo : Memo) → first ≡ length o.log → spent_of o.log ≤ o.budget → list_any is_spent o.log ≡ false → AreTestsOfOthers q o.log → IsInLimit o.ontology q → IsWithoutIndividuals o.ontology q
+  pub begins : (first : ℕ) (memo : Memo) → first ≡ length o.log → spent_of o.log ≤ o.budget → list_any is_spent o.log ≡ false → AreTestsOfOthers q o.log → IsInLimit o.ontology q
       → IfSome among (λ m. m.limit ≡ length o.ontology.axioms) → KeepsAnswers o.ontology.axioms q (part_of o.ontology among) → ((log : List Entry) → IsMemo memo log) → IsAsker o q among first memo 0
-  begins first memo e within none others in_limit without limit keeps remembers =
+  begins first memo e within none others in_limit limit keeps remembers =
       let same = is_begun first e in
       record {
         first_within = omega (arith, e);
         limit = limit;
-        can_ask = subst CanAsk (sym same) (record { in_limit = in_limit; without_individuals = without; others = others; keeps = keeps });
+        can_ask = subst CanAsk (sym same) (record { in_limit = in_limit; others = others; keeps = keeps });
         is_log = subst IsAskerLog (sym same) (begun_log within none);
         remembers = remembers (drop first o.log);
       }

@@ -79,7 +79,7 @@ asker_logged o q among first memo asks asks' e h may =
     record {
       first_within = omega (arith, h.first_within, length-append o.log (e ∷ []));
       limit = h.limit;
-      can_ask = subst CanAsk (sym same) (record { in_limit = h.can_ask.in_limit; without_individuals = h.can_ask.without_individuals; others = h.can_ask.others; keeps = h.can_ask.keeps });
+      can_ask = subst CanAsk (sym same) (record { in_limit = h.can_ask.in_limit; others = h.can_ask.others; keeps = h.can_ask.keeps });
       is_log = subst IsAskerLog (sym same) (log_with (lists_of o q among first asks) e asks' h.is_log may);
       remembers = subst (IsMemo memo) (sym (drop-append-le first o.log (e ∷ []) h.first_within)) (memo_still memo (drop first o.log) (e ∷ []) h.remembers);
     }
@@ -89,7 +89,7 @@ pub asker_counted : (o : OracleLists) (q : Query) (among : Option Limited) (firs
 asker_counted o q among first memo asks h = record {
   first_within = h.first_within;
   limit = h.limit;
-  can_ask = record { in_limit = h.can_ask.in_limit; without_individuals = h.can_ask.without_individuals; others = h.can_ask.others; keeps = h.can_ask.keeps };
+  can_ask = record { in_limit = h.can_ask.in_limit; others = h.can_ask.others; keeps = h.can_ask.keeps };
   is_log = log_counted (lists_of o q among first asks) h.is_log;
   remembers = h.remembers;
 }

@@ -6,7 +6,7 @@ use Rattle.axiom_sets.specs.Sets.{Limited}
 use Rattle.pinpointing_specs.specs.Smallest.{numbers_to}
 use Rattle.shq_terms.specs.Listed.{Listed}
 use Rattle.shq_terms.specs.declared.axioms.Query.{Query}
-use Rattle.ontology_limits.specs.Limits.{IsInLimit, IsWithoutIndividuals}
+use Rattle.ontology_limits.specs.Limits.{IsInLimit}
 use Rattle.pinpointing_specs.specs.LocalModule.{FollowsFrom}
 use Rattle.set_questions.specs.Asked.{Answers}
 use Rattle.set_questions.specs.declared.entail.Reply.{Reply}
@@ -35,7 +35,6 @@ lists_of o q among first asks =
 -- what no call changes and each needs
 pub record CanAsk (a : AskerLists) : Type 0 where
   pub in_limit : IsInLimit a.ontology a.query
-  pub without_individuals : IsWithoutIndividuals a.ontology a.query
   pub others : AreTestsOfOthers a.query a.before
   pub keeps : KeepsAnswers a.ontology.axioms a.query a.local_part
 

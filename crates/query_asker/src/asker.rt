@@ -4,7 +4,7 @@ ghost use Rattle.std.specs.List.{list_any, Contains};
 ghost use Rattle.std.specs.FinSet as set;
 ghost use Rattle.lane_sieve.specs.Sets.{IsPart};
 ghost use Rattle.pinpointing_specs.specs.Smallest.{numbers_to};
-ghost use Rattle.ontology_limits.specs.Limits.{IsInLimit, IsWithoutIndividuals};
+ghost use Rattle.ontology_limits.specs.Limits.{IsInLimit};
 ghost use Rattle.set_questions.specs.Asked.{Answers, IsUnknownIf, ShowsNoOther, Takes};
 ghost use Rattle.set_questions.specs.Meaning.{Keeps, ShowsTheSame, one_more};
 ghost use Rattle.run_log.specs.Entries.{is_spent, nodes_of, IsAnswered};
@@ -66,7 +66,6 @@ impl<'a> Asker<'a> {
     /// none of an equal query. The memory that it takes is `alloc`'s.
     pub fn new(alloc: Global, oracle: Oracle<'a>, query: &'a Query) -> Asker<'a>
         requires in_limit { IsInLimit oracle.ontology query.now }
-        requires without_individuals { IsWithoutIndividuals oracle.ontology query.now }
         requires goes_on { list_any is_spent oracle.log ≡ false }
         requires others { AreTestsOfOthers query.now oracle.log }
         ensures { result ≡ record {
@@ -91,7 +90,6 @@ impl<'a> Asker<'a> {
         local_module: AxiomSet,
     ) -> Asker<'a>
         requires in_limit { IsInLimit oracle.ontology query.now }
-        requires without_individuals { IsWithoutIndividuals oracle.ontology query.now }
         requires goes_on { list_any is_spent oracle.log ≡ false }
         requires others { AreTestsOfOthers query.now oracle.log }
         requires limit { local_module.limit ≡ length oracle.ontology.axioms }
@@ -117,7 +115,6 @@ impl<'a> Asker<'a> {
         among: Option<AxiomSet>,
     ) -> Asker<'a>
         requires in_limit { IsInLimit oracle.ontology query.now }
-        requires without_individuals { IsWithoutIndividuals oracle.ontology query.now }
         requires goes_on { list_any is_spent oracle.log ≡ false }
         requires others { AreTestsOfOthers query.now oracle.log }
         requires limit { IfSome among (λ m. m.limit ≡ length oracle.ontology.axioms) }

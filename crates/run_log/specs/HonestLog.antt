@@ -11,11 +11,12 @@ use Rattle.shq_terms.specs.declared.axioms.On.TheVariants.{Any}
 use Rattle.shq_terms.specs.declared.axioms.Query.{Query}
 use Rattle.shq_meaning.specs.Truth.{Entails}
 use Rattle.pinpointing_specs.specs.LocalModule.{IsLocalModule, IsJustification}
-use Rattle.calculus_specs.specs.Rows.{Theory, Row}
-use Rattle.refutation_truth.specs.Theory.{named_axioms, theory_of}
+use Rattle.calculus_specs.specs.Rows.{Row}
+use Rattle.calculus_specs.specs.Rules.{Question}
+use Rattle.refutation_truth.specs.Theory.{named_axioms, question_in}
 use Rattle.tableau_specs.specs.declared.Item.{Item}
 use Rattle.tableau_specs.specs.Steps.{IsLegal}
-use Rattle.tableau_specs.specs.Reached.{IsReached, Costs}
+use Rattle.tableau_specs.specs.Reached.{context_of, IsReached, Costs}
 use Rattle.run_log.specs.Trails.{TrailLists}
 use Rattle.run_log.specs.declared.entry.Entry.{Entry}
 use Rattle.run_log.specs.declared.entry.Entry.TheVariants.{Test, Node}
@@ -38,8 +39,9 @@ pub record IsWhole (o : Listed) (s : Limited) : Type 0 where
 abbrev pub axioms_of : Listed → Limited → List Axiom
 axioms_of o s = named_axioms o.axioms (member_list s)
 
-abbrev pub theory_in : Listed → Limited → Theory
-theory_in o s = theory_of o.axioms (member_list s)
+-- what a search of the axioms of the set for a counter-example to the query asks
+abbrev pub asked_of : Listed → Limited → Query → Question
+asked_of o s q = question_in o (member_list s) q
 
 -- the query follows from the axioms of the set
 abbrev pub FollowsIn : Listed → Limited → Query → Type 0
@@ -49,7 +51,7 @@ FollowsIn o s q = Entails (axioms_of o s) q
 
 -- so many legal steps decide whether the query follows from the axioms of the set
 abbrev pub CostsSteps : Listed → Limited → Query → ℕ → Type 0
-CostsSteps o s q steps = Costs (theory_in o s) q.sub q.sup (FollowsIn o s q) steps
+CostsSteps o s q steps = Costs (asked_of o s q) (FollowsIn o s q) steps
 
 -- the query follows from the axioms u, which are part of the set, and so many steps decide
 pub record IsHonestYes (o : Listed) (s : Limited) (q : Query) (steps : ℕ) (u : Limited) : Type 0 where
@@ -66,9 +68,9 @@ pub record IsHonestNo (o : Listed) (s : Limited) (q : Query) (steps : ℕ) : Typ
 -- so many legal steps over some rows reach the trail, and over these rows one more step is legal
 pub record GoesOn (o : Listed) (s : Limited) (q : Query) (steps : ℕ) (t : TrailLists) : Type 0 where
   pub rows : List Row
-  pub reached : IsReached (theory_in o s) q.sub q.sup t.table rows steps t.items
+  pub reached : IsReached (asked_of o s q) t.table rows steps t.items
   pub next : List Item
-  pub is_legal : IsLegal (record { theory = theory_in o s; table = t.table; rows = rows }) t.items next
+  pub is_legal : IsLegal (context_of (asked_of o s q) t.table rows) t.items next
 
 -- what the end of a test of the set says is so
 abbrev pub IsHonestEnd : Listed → Limited → Query → ℕ → TestEnd → Type 0

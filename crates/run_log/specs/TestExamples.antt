@@ -1,5 +1,5 @@
 -- Worked tests: what a log may say of the end of a test, and what it may not.
-use Rattle.std.specs.Prelude.{◌≡◌, ℕ, zero, suc, ◌+◌, ◌<◌, true, false, ◌==◌, List, [], ◌∷◌, ◌++◌, length, Some, None, slice_get, Contains, if◌then◌else◌, refl}
+use Rattle.std.specs.Prelude.{◌≡◌, ℕ, zero, suc, ◌+◌, ◌-◌, ◌<◌, true, false, ◌==◌, List, [], ◌∷◌, ◌++◌, length, Some, None, slice_get, Contains, if◌then◌else◌, refl}
 use Rattle.std.proofs.Common.{lit<, ap, sym, subst, ◌∙◌, arith, inl, inr}
 use Rattle.std.proofs.lemmas.Bool.Decides.{nat_tests}
 use Rattle.std.proofs.lemmas.List.Elements.{All-nil, All-cons, All-head, All-same}
@@ -11,31 +11,31 @@ use Rattle.std.proofs.Math.Bool.{and-not_self}
 use Rattle.axiom_sets.specs.Sets.{Limited, member_list}
 use Rattle.shq_terms.specs.Concept.{top, bottom, name, intersection, parts_of}
 use Rattle.shq_terms.specs.declared.axioms.Axiom.{Axiom}
-use Rattle.shq_terms.specs.declared.axioms.On.TheVariants.{Any}
+use Rattle.shq_terms.specs.declared.axioms.On.TheVariants.{Any, Individual}
 use Rattle.shq_terms.specs.declared.axioms.Query.{Query}
 use Rattle.shq_meaning.specs.Truth.{Interpretation, Entails}
 use Rattle.calculus_specs.specs.Shape.{Shape, shape_of, has_parts_below, is_normal, IsTable}
 use Rattle.calculus_specs.specs.Shape.Shape.{top as top_shape, bottom as bottom_shape, name as name_shape, not_name, intersection as intersection_shape, at_most}
 use Rattle.calculus_specs.specs.Tree.{tree_of, trees_of, tree_over}
-use Rattle.calculus_specs.specs.Rows.{Row, NumberedPart, IsRowOf, IsChoice, is_row_of, is_numbered}
+use Rattle.calculus_specs.specs.Rows.{Row, NumberedPart, IsRowOf, IsChoice, is_row_of, is_numbered, is_among}
 use Rattle.calculus_specs.proofs.Unique.{tree_of_shape, numbers_unique}
 use Rattle.calculus_specs.specs.declared.facts.Fact.{Fact}
 use Rattle.calculus_specs.specs.declared.facts.Fact.TheVariants.{Has}
 use Rattle.calculus_specs.specs.State.{has}
-use Rattle.refutation_truth.specs.Theory.{named_axioms, named_parts, theory_of}
+use Rattle.refutation_truth.specs.Theory.{named_axioms, named_parts, theory_of, listed_fact, fact_in, fact_of_axiom, question_of}
 use Rattle.tableau_specs.specs.declared.Item.{Item}
 use Rattle.tableau_specs.specs.declared.Item.TheVariants.{Fact as Says}
 use Rattle.tableau_specs.specs.declared.Branch.{Branch}
 use Rattle.tableau_specs.specs.Items.{facts_of}
 use Rattle.tableau_specs.specs.Clash.IsClash.{of_names}
-use Rattle.tableau_specs.specs.Clash.IsPlainClash.{plain_bottom, plain_names, plain_most}
-use Rattle.tableau_specs.specs.Steps.{SearchContext, IsCarried, Adds, Generates, MayBranch, IsLegal, IsSaturated, HasPlainClash}
+use Rattle.tableau_specs.specs.Clash.IsPlainClash.{plain_bottom, plain_names, plain_most, plain_differ}
+use Rattle.tableau_specs.specs.Steps.{SearchContext, IsGiven, IsCarried, Adds, Generates, MayBranch, IsLegal, IsSaturated, HasPlainClash}
 use Rattle.tableau_specs.specs.Steps.Adds.{by_and, by_all, by_carry, by_row}
 use Rattle.tableau_specs.specs.Steps.Generates.{by_some, by_least}
 use Rattle.tableau_specs.specs.Steps.MayBranch.{on_union, on_filler, on_pair}
 use Rattle.tableau_specs.specs.Steps.IsLegal.{add}
 use Rattle.tableau_specs.proofs.End.{end_of_search}
-use Rattle.tableau_specs.specs.Reached.{start, IsReached}
+use Rattle.tableau_specs.specs.Reached.{FactsHaveNumbers, start, context_of, IsReached}
 use Rattle.run_log.specs.Trails.{TrailLists}
 use Rattle.run_log.specs.declared.entry.Entry.{Entry}
 use Rattle.run_log.specs.declared.entry.Entry.TheVariants.{Test}
@@ -140,15 +140,23 @@ none_are_chosen : (ks : List ℕ) (shapes : List Shape) (rows : List Row) → Is
 none_are_chosen ks shapes [] h = refl
 none_are_chosen ks shapes (row ∷ rows) h = absurd (no_row_fits ks shapes row (All-head (IsRowOf (theory_of [] ks) shapes) row rows h.rows_fit))
 
--- ---- where node 0 has top alone, nothing is left to do
+-- ---- given facts, of which there are none
+
+no_facts : (n : ℕ) (ks : List ℕ) (a p : ℕ) → fact_of_axiom n [] ks a p ≡ None
+no_facts n ks a p = elim (is_among ks a) as (λ b. (if b then listed_fact n (fact_in (slice_get [] (a - 1)) p) else None) ≡ None) [ true ↦ refl | false ↦ refl ]
+
+have_numbers : (ks : List ℕ) (q : Query) (shapes : List Shape) → FactsHaveNumbers (question_of 1 [] ks q) shapes
+have_numbers ks q shapes a p f given = let k : None ≡ Some f = sym (no_facts 1 ks a p) ∙ given in cc
+
+-- ---- where node 1 has top alone, and nothing is given, nothing is left to do; node 0 is that of the individual
 
 abbrev at_top : List (Fact ℕ)
-at_top = facts_of (start 0 0)
+at_top = facts_of (start 1 0 0)
 
 only_top : (x c : ℕ) → has at_top x c ≡ true → c ≡ 0
 only_top x c h = grind (arith, nat_tests)
 
-module _ (w : SearchContext) (begins : shape_of w.table 0 ≡ top_shape) (no_row : w.rows ≡ []) where
+module _ (w : SearchContext) (begins : shape_of w.table 0 ≡ top_shape) (no_row : w.rows ≡ []) (no_fact : (a p : ℕ) → w.fact_of a p ≡ None) where
   is_top_shape : (x c : ℕ) → has at_top x c ≡ true → shape_of w.table c ≡ top_shape
   is_top_shape x c h = ap (shape_of w.table) (only_top x c h) ∙ begins
 
@@ -157,6 +165,9 @@ module _ (w : SearchContext) (begins : shape_of w.table 0 ≡ top_shape) (no_row
   nothing_to_add x d (by_all z _ c s e lt mt h sh edge) = let k = is_top_shape z c h in cc
   nothing_to_add x d (by_carry z _ c s t e _ carried sh) = let k = is_top_shape z c carried.holds in let m = carried.shape in cc
   nothing_to_add x d (by_row _ row lt there used) = let k = subst (λ (rows : List Row). Contains rows row) no_row there in absurd (omega (arith, k.1))
+
+  nothing_to_give : (f : Fact ℕ) → ¬ IsGiven w f
+  nothing_to_give f given = let k = sym (no_fact given.axiom_number given.place) ∙ given.is_there in cc
 
   nothing_to_carry : (x y c s t e : ℕ) → ¬ IsCarried w at_top x y c s t e
   nothing_to_carry x y c s t e carried = let k = is_top_shape x c carried.holds in let m = carried.shape in cc
@@ -170,15 +181,17 @@ module _ (w : SearchContext) (begins : shape_of w.table 0 ≡ top_shape) (no_row
   nothing_to_choose _ (on_filler x c n s e y lt h sh edge out other) = let k = is_top_shape x c h in cc
   nothing_to_choose _ (on_pair x c n s e y z lt h sh more first second differ apart) = let k = is_top_shape x c h in cc
 
-  nothing_clashes : ¬ HasPlainClash w (start 0 0)
+  nothing_clashes : ¬ HasPlainClash w (start 1 0 0)
   nothing_clashes (plain_bottom x c lt h sh) = let k = is_top_shape x c h in cc
   nothing_clashes (plain_names x c d a lt h sh g th) = let k = is_top_shape x c h in cc
   nothing_clashes (plain_most x c n s e lt h sh more every) = let k = is_top_shape x c h in cc
+  nothing_clashes (plain_differ y z lt mt differ same) = cc
 
-  top_is_saturated : IsSaturated w (start 0 0)
+  top_is_saturated : IsSaturated w (start 1 0 0)
   top_is_saturated = record {
     no_clash = nothing_clashes;
     no_add = nothing_to_add;
+    no_give = λ f given. absurd (nothing_to_give f given);
     no_carry = λ x y c s t e carried. absurd (nothing_to_carry x y c s t e carried);
     no_generate = nothing_to_make;
     no_choose = λ b f may alt. nothing_to_choose b may;
@@ -192,18 +205,18 @@ tree_of_first shapes t = tree_of_shape shapes 0 t.has_top (t.parts_below 0 t.has
 is_first_number : (shapes : List Shape) → IsTable shapes → (c : ℕ) → c < length shapes → tree_of shapes c ≡ top → c ≡ 0
 is_first_number shapes t c lt reads = numbers_unique shapes t c 0 lt t.has_top (reads ∙ sym (tree_of_first shapes t))
 
--- over whatever rows, the first trail has node 0 with top alone, from which no step is legal
-module _ (ks : List ℕ) (shapes : List Shape) (rows : List Row) (k : ℕ) (trail : List Item) (r : IsReached (theory_of [] ks) top bottom shapes rows k trail) where
+-- over whatever rows, the first trail has node 1 with top alone, from which no step is legal
+module _ (ks : List ℕ) (shapes : List Shape) (rows : List Row) (k : ℕ) (trail : List Item) (r : IsReached (question_of 1 [] ks absurdity) shapes rows k trail) where
   abbrev context : SearchContext
-  context = record { theory = theory_of [] ks; table = shapes; rows = rows }
+  context = context_of (question_of 1 [] ks absurdity) shapes rows
 
-  begins_at_top : start r.sub_number r.not_sup_number ≡ start 0 0
-  begins_at_top = λ i. start (is_first_number shapes r.is_table r.sub_number r.sub_listed r.sub_reads i) (is_first_number shapes r.is_table r.not_sup_number r.not_sup_listed r.not_sup_reads i)
+  begins_at_top : start 1 r.sub_number r.not_sup_number ≡ start 1 0 0
+  begins_at_top = λ i. start 1 (is_first_number shapes r.is_table r.sub_number r.sub_listed r.sub_reads i) (is_first_number shapes r.is_table r.not_sup_number r.not_sup_listed r.not_sup_reads i)
 
-  no_step_from_top : (new : List Item) → ¬ IsLegal context (start 0 0) new
-  no_step_from_top new = (end_of_search context 0 0 0 (start 0 0) refl).0 (top_is_saturated context r.is_table.begins_with_top (none_are_chosen ks shapes rows r.is_choice)) new
+  no_step_from_top : (new : List Item) → ¬ IsLegal context (start 1 0 0) new
+  no_step_from_top new = (end_of_search context 1 0 0 0 (start 1 0 0) (lit< tt) refl).0 (top_is_saturated context r.is_table.begins_with_top (none_are_chosen ks shapes rows r.is_choice) (no_facts 1 ks)) new
 
-  no_first_step : (first new : List Item) → first ≡ start r.sub_number r.not_sup_number → ¬ IsLegal context first new
+  no_first_step : (first new : List Item) → first ≡ start 1 r.sub_number r.not_sup_number → ¬ IsLegal context first new
   no_first_step first new is legal = no_step_from_top new (subst (λ (t : List Item). IsLegal context t new) (is ∙ begins_at_top) legal)
 
 -- ---- ends of tests
@@ -219,10 +232,12 @@ itself_costs_nothing : CostsSteps bare no_axioms itself 0
 itself_costs_nothing = record {
   table = table;
   rows = [];
-  trail = start 1 2;
+  trail = start 1 1 2;
   reached = record {
     is_table = is_table;
     is_choice = no_rows numbers;
+    facts_have_numbers = have_numbers numbers itself table;
+    at_first = lit< tt;
     sub_number = 1;
     sub_listed = lit< tt;
     sub_reads = refl;
@@ -231,13 +246,15 @@ itself_costs_nothing = record {
     not_sup_reads = refl;
     follows = refl;
   };
-  ends = inr (of_names 0 1 2 0 (lit< tt) refl refl refl refl, itself_follows no_axioms);
+  ends = inr (of_names 1 1 2 0 (lit< tt) refl refl refl refl, itself_follows no_axioms);
 }
 
-absurdity_is_reached : IsReached (theory_of [] numbers) top bottom table [] 0 (start 0 0)
+absurdity_is_reached : IsReached (question_of 1 [] numbers absurdity) table [] 0 (start 1 0 0)
 absurdity_is_reached = record {
   is_table = is_table;
   is_choice = no_rows numbers;
+  facts_have_numbers = have_numbers numbers absurdity table;
+  at_first = lit< tt;
   sub_number = 0;
   sub_listed = lit< tt;
   sub_reads = refl;
@@ -248,7 +265,7 @@ absurdity_is_reached = record {
 }
 
 absurdity_costs_nothing : CostsSteps bare no_axioms absurdity 0
-absurdity_costs_nothing = record { table = table; rows = []; trail = start 0 0; reached = absurdity_is_reached; ends = inl (top_is_saturated (record { theory = theory_of [] numbers; table = table; rows = [] }) refl refl) }
+absurdity_costs_nothing = record { table = table; rows = []; trail = start 1 0 0; reached = absurdity_is_reached; ends = inl (top_is_saturated (context_of (question_of 1 [] numbers absurdity) table []) refl refl (no_facts 1 numbers)) }
 
 pub is_yes : IsHonestYes bare no_axioms itself 0 no_axioms
 is_yes = record { of_axioms = no_axioms_are_a_set; part = λ k h. h; follows = itself_follows no_axioms; cost = itself_costs_nothing }
@@ -272,10 +289,12 @@ is_one_step_too_many h =
     no_first_step numbers c.table c.rows 1 c.trail c.reached f.0 c.trail f.1 f.2
 
 -- the intersection is split by one step more
-goes_on_from : IsReached (theory_of [] numbers) apart.sub apart.sup table [] 0 (start 4 0)
+goes_on_from : IsReached (question_of 1 [] numbers apart) table [] 0 (start 1 4 0)
 goes_on_from = record {
   is_table = is_table;
   is_choice = no_rows numbers;
+  facts_have_numbers = have_numbers numbers apart table;
+  at_first = lit< tt;
   sub_number = 4;
   sub_listed = lit< tt;
   sub_reads = refl;
@@ -286,7 +305,7 @@ goes_on_from = record {
 }
 
 abbrev split : SearchContext
-split = record { theory = theory_of [] numbers; table = table; rows = [] }
+split = context_of (question_of 1 [] numbers apart) table []
 
 -- no number of the table is bottom or an 'at most', and only 2 is the complement of a class
 abbrev IsPlain : Shape → ℕ → Type 0
@@ -303,21 +322,48 @@ plain_each (suc (suc (suc zero))) = tt
 plain_each (suc (suc (suc (suc zero)))) = tt
 plain_each (suc (suc (suc (suc (suc c))))) = tt
 
-not_two : (x : ℕ) → has (facts_of (start 4 0)) x 2 ≡ true → ⊥
+not_two : (x : ℕ) → has (facts_of (start 1 4 0)) x 2 ≡ true → ⊥
 not_two x h = grind (arith, nat_tests)
 
-split_has_no_clash : ¬ HasPlainClash split (start 4 0)
+split_has_no_clash : ¬ HasPlainClash split (start 1 4 0)
 split_has_no_clash (plain_bottom x c lt h sh) = subst (λ (s : Shape). IsPlain s c) sh (plain_each c)
 split_has_no_clash (plain_names x c d a lt h sh g th) =
     let e : d ≡ 2 = subst (λ (s : Shape). IsPlain s d) th (plain_each d) in
-    not_two x (subst (λ (n : ℕ). has (facts_of (start 4 0)) x n ≡ true) e g)
+    not_two x (subst (λ (n : ℕ). has (facts_of (start 1 4 0)) x n ≡ true) e g)
 split_has_no_clash (plain_most x c n s e lt h sh more every) = subst (λ (t : Shape). IsPlain t c) sh (plain_each c)
+split_has_no_clash (plain_differ y z lt mt differ same) = cc
 
-splits : IsLegal split (start 4 0) (start 4 0 ++ Says (Has 0 1) ∷ [])
-splits = add 0 1 split_has_no_clash (by_and 0 4 1 (1 ∷ 3 ∷ []) (lit< tt) refl refl (0, lit< tt, refl)) refl
+splits : IsLegal split (start 1 4 0) (start 1 4 0 ++ Says (Has 1 1) ∷ [])
+splits = add 1 1 split_has_no_clash (by_and 1 4 1 (1 ∷ 3 ∷ []) (lit< tt) refl refl (0, lit< tt, refl)) refl
 
-pub goes_on : GoesOn bare no_axioms apart 0 (record { items = start 4 0; table = table })
-goes_on = record { rows = []; reached = goes_on_from; next = start 4 0 ++ Says (Has 0 1) ∷ []; is_legal = splits }
+pub goes_on : GoesOn bare no_axioms apart 0 (record { items = start 1 4 0; table = table })
+goes_on = record { rows = []; reached = goes_on_from; next = start 1 4 0 ++ Says (Has 1 1) ∷ []; is_legal = splits }
+
+-- asked of the individual, a search begins with its node
+abbrev apart_at_one : Query
+apart_at_one = record { sub = apart.sub; sup = apart.sup; on = Individual 0 }
+
+pub begins_with_individual : IsReached (question_of 1 [] numbers apart_at_one) table [] 0 (start 0 4 0)
+begins_with_individual = record {
+  is_table = is_table;
+  is_choice = no_rows numbers;
+  facts_have_numbers = have_numbers numbers apart_at_one table;
+  at_first = lit< tt;
+  sub_number = 4;
+  sub_listed = lit< tt;
+  sub_reads = refl;
+  not_sup_number = 0;
+  not_sup_listed = lit< tt;
+  not_sup_reads = refl;
+  follows = refl;
+}
+
+-- and at no other node
+pub begins_nowhere_else : ¬ IsReached (question_of 1 [] numbers apart_at_one) table [] 0 (start 1 4 0)
+begins_nowhere_else h = let k : Has 1 4 ≡ Has 0 h.sub_number = first_fact (h.follows) in cc
+  where
+    first_fact : {a b : ℕ} → start 1 4 0 ≡ start 0 a b → Has 1 4 ≡ Has 0 a
+    first_fact e = cc
 
 -- where the search was at its end, it was not the budget that ended it
 pub does_not_go_on : (t : TrailLists) → ¬ GoesOn bare no_axioms absurdity 0 t

@@ -16,15 +16,17 @@ use Rattle.calculus_specs.specs.Rows.{Part, NumberedPart, is_among, is_numbered,
 use Rattle.calculus_specs.specs.Rows.Part.{inclusion, range}
 use Rattle.calculus_specs.specs.Rows.Trigger.{always, names, edge, end_of}
 use Rattle.calculus_specs.specs.Roles.{IsBelow, itself, by_step}
+use Rattle.calculus_specs.specs.declared.facts.Fact.TheVariants.{Has, Edge}
 use Rattle.shq_nnf.specs.Parts.{disjoint_parts, chain_parts, equivalent_parts, union_parts, axiom_parts}
 use Rattle.role_box.specs.Counted.{counted_roles, counted_in, counted_by}
 use Rattle.role_box.specs.declared.role_axiom.RoleAxiom.{RoleAxiom}
 use Rattle.role_box.specs.RoleAxioms.{role_part, role_part_at, role_axioms}
 use Rattle.role_box.specs.Steps.{is_among as among, leads_by, leads, Leads, is_transitive_by, is_transitive}
 use Rattle.role_box.proofs.Limits.{test_is_below}
-use Rattle.refutation_truth.specs.Theory.{parts_in, parts_at, numbered_parts, named_parts, theory_of}
+use Rattle.refutation_truth.specs.Theory.{parts_in, parts_at, numbered_parts, named_parts, theory_of, fact_of_axiom}
 use Rattle.tableau_specs.specs.KeptKinds.{IsKept}
 use Rattle.search_laws.proofs.CounterModelNodes.{all_in}
+use Rattle.search_laws.proofs.AllowedFacts.{given_allowed}
 use Rattle.search_laws.proofs.Allowed.{IsAllowed, AreAllowed, to_parts, allowed_parts_of, allowed_append, allowed_conjuncts_in, allowed_or, used_parts, counted_parts, allowed_normal, allowed_negated}
 
 some_if : (b : Bool) (x t : Concept) → cond b (Some x) None ≡ Some t → x ≡ t
@@ -261,8 +263,9 @@ module _ (classes roles individuals : ℕ) (p : ℕ → Bool) where
   contained_allowed (d ∷ cs) c h (zero, lt, is) = subst Allowed is h.0
   contained_allowed (d ∷ cs) c h (suc k, lt, is) = contained_allowed cs c h.1 (k, omega arith, is)
 
-  pub allowed_kept : (axioms : List Numbered) (ks : List ℕ) → AxiomsAllowed axioms → IsKept (theory_of axioms ks) (IsAllowed classes roles p) (λ r. ltb r roles ≡ true)
-  allowed_kept axioms ks all = record {
+  pub allowed_kept : (k : ℕ) (axioms : List Numbered) (ks : List ℕ) → AxiomsAllowed axioms
+      → IsKept (theory_of axioms ks) (fact_of_axiom k axioms ks) (IsAllowed classes roles p) (λ r. ltb r roles ≡ true)
+  allowed_kept k axioms ks all = record {
     top_is = (refl, refl);
     conjunct = λ cs c h m. contained_allowed cs c (allowed_parts_of classes roles p cs h) m;
     disjunct = λ cs c h m. contained_allowed cs c (allowed_parts_of classes roles p cs h) m;
@@ -274,7 +277,9 @@ module _ (classes roles individuals : ℕ) (p : ℕ → Bool) where
     carried = λ s t c h tr b.
         let filler = (used_parts classes roles p s c h).1 in
         (and_from (ltb t roles) (uses_listed classes roles c) (lt-ltb t roles (all_transitive_listed axioms all.0 ks t tr)) filler.0, filler.1);
-    row = λ a k q t c there is. part_row_allowed q t c (theory_allowed axioms ks all a k q there) is;
+    row = λ a n q t c there is. part_row_allowed q t c (theory_allowed axioms ks all a n q there) is;
+    member = λ a n x c there. given_allowed classes roles individuals p k axioms ks all.0 all.1 a n (Has x c) there;
+    pair = λ a n r x y there. given_allowed classes roles individuals p k axioms ks all.0 all.1 a n (Edge r x y) there;
     edge_of_some = λ r c h. (used_parts classes roles p r c h).0;
     edge_of_least = λ n r c h. (counted_parts classes roles p r c h).0.0;
   }

@@ -4,6 +4,7 @@ use Rattle.std.proofs.lemmas.List.{append-nil, get_or_push}
 use Rattle.std.proofs.lemmas.List.Elements.{All-weaker}
 use Rattle.std.proofs.lemmas.Bool.{cases_Bool, cases_lt, eqb-true}
 use Rattle.calculus_specs.specs.Concept.{Concept, name}
+use Rattle.calculus_specs.specs.Rules.{Question}
 use Rattle.calculus_specs.specs.Normal.{normal_form}
 use Rattle.calculus_specs.specs.Shape.{Shape, shape_of, IsTable}
 use Rattle.calculus_specs.specs.Shape.Shape.{top, not_name}
@@ -14,10 +15,11 @@ use Rattle.shq_nnf.proofs.Grown.{table_with_new}
 use Rattle.shq_nnf.proofs.Numbers.{shape_tree}
 use Rattle.tableau_specs.specs.declared.Item.{Item}
 use Rattle.tableau_specs.specs.Steps.{IsSaturated}
-use Rattle.tableau_specs.specs.Reached.{start}
+use Rattle.tableau_specs.specs.Reached.{FactsHaveNumbers, start, context_of}
 use Rattle.tableau_specs.proofs.Listed.{listed}
 use Rattle.search_laws.specs.Runs.{IsRun, LeavesOut}
-use Rattle.search_laws.specs.ReuseLaws.{EndsSaturated, OneRunAnswersMore}
+use Rattle.search_laws.specs.ReuseLaws.{EndsSaturated, IsUnnamed, with_sup, OneRunAnswersMore}
+use Rattle.search_laws.proofs.LongerGiven.{facts_up}
 use Rattle.search_laws.proofs.ReuseSetting.{short}
 use Rattle.search_laws.proofs.Stepping.{saturated}
 use Rattle.search_laws.proofs.Running.{followed, setting}
@@ -66,25 +68,28 @@ choice_up theory table more rows h = record {
 
 -- ---- the law
 
-module _ (theory : Theory) (sub : Concept) (table : List Shape) (rows : List Row) (number a : ℕ) (trail : List Item) (earlier : List (List Item)) (good : IsTable table)
-    (fits : IsChoice theory table rows) (number_listed : number < length table) (number_reads : tree_of table number ≡ normal_form sub)
-    (run : IsRun (record { theory = theory; table = table; rows = rows }) (start number 0) (trail ∷ earlier))
-    (sat : IsSaturated (record { theory = theory; table = table; rows = rows }) trail) (out : LeavesOut table (trail ∷ earlier) a) where
+module _ (q : Question) (table : List Shape) (rows : List Row) (number a : ℕ) (trail : List Item) (earlier : List (List Item)) (good : IsTable table)
+    (fits : IsChoice q.theory table rows) (have : FactsHaveNumbers q table) (is_first : q.at < q.first) (unnamed : IsUnnamed q)
+    (number_listed : number < length table) (number_reads : tree_of table number ≡ normal_form q.sub)
+    (run : IsRun (context_of q table rows) (start q.at number 0) (trail ∷ earlier))
+    (sat : IsSaturated (context_of q table rows) trail) (out : LeavesOut q.at table (trail ∷ earlier) a) where
   -- over the table, or one that has grown
-  answers : (more : List Shape) (n : ℕ) → IsTable (table ++ more) → shape_of (table ++ more) n ≡ not_name a → EndsSaturated theory sub (name a) (length earlier)
+  answers : (more : List Shape) (n : ℕ) → IsTable (table ++ more) → shape_of (table ++ more) n ≡ not_name a → EndsSaturated (with_sup q (name a)) (length earlier)
   answers more n longer shape_n =
-      let f = followed theory table more rows good fits n a shape_n number number_listed trail earlier run out in
-      let w = short theory table more rows in
-      let set = setting theory table more rows good fits n a shape_n number number_listed f.rest earlier (subst (λ (is : List Item). IsRun w (start number 0) (is ∷ earlier)) f.splits run)
-      (subst (λ (is : List Item). LeavesOut table (is ∷ earlier) a) f.splits out) in
+      let f = followed q table more rows good fits n a shape_n is_first unnamed number number_listed trail earlier run out in
+      let w = short q table more rows in
+      let set = setting q table more rows good fits n a shape_n is_first unnamed number number_listed f.rest earlier (subst (λ (is : List Item). IsRun w (start q.at number 0) (is ∷ earlier)) f.splits run)
+      (subst (λ (is : List Item). LeavesOut q.at table (is ∷ earlier) a) f.splits out) in
       let n_listed : n < length (table ++ more) = listed (table ++ more) n (λ k. (let l = sym shape_n ∙ k in cc)) in
       record {
         table = table ++ more;
         rows = rows;
-        trail = start number n ++ f.rest;
+        trail = start q.at number n ++ f.rest;
         reached = record {
           is_table = longer;
-          is_choice = choice_up theory table more rows fits;
+          is_choice = choice_up q.theory table more rows fits;
+          facts_have_numbers = facts_up q table more rows have;
+          at_first = is_first;
           sub_number = number;
           sub_listed = omega (arith, number_listed, length-append table more);
           sub_reads = tree_of-append table more number number_listed ∙ number_reads;
@@ -93,10 +98,10 @@ module _ (theory : Theory) (sub : Concept) (table : List Shape) (rows : List Row
           not_sup_reads = shape_tree (table ++ more) longer n n_listed ∙ ap (tree_over (trees_of (table ++ more))) shape_n;
           follows = f.follows;
         };
-        is_saturated = saturated theory table more rows good n a shape_n number f.rest set longer (subst (IsSaturated w) f.splits sat);
+        is_saturated = saturated q table more rows good n a shape_n unnamed number f.rest set longer have (subst (IsSaturated w) f.splits sat);
       }
 
-  answered : EndsSaturated theory sub (name a) (length earlier)
+  answered : EndsSaturated (with_sup q (name a)) (length earlier)
   answered = elim (complement_below table a (length table)) [
     | inl found ↦
         answers [] found.0 (subst IsTable (sym (append-nil table)) good) (ap (λ (t : List Shape). shape_of t found.0) (append-nil table) ∙ found.2)
@@ -105,5 +110,5 @@ module _ (theory : Theory) (sub : Concept) (table : List Shape) (rows : List Row
   ]
 
 pub one_run_answers_more : OneRunAnswersMore
-one_run_answers_more theory sub table rows number k a trail earlier good fits lt reads run steps sat out =
-    subst (EndsSaturated theory sub (name a)) steps (answered theory sub table rows number a trail earlier good fits lt reads run sat out)
+one_run_answers_more q table rows number k a trail earlier good fits have is_first unnamed lt reads run steps sat out =
+    subst (EndsSaturated (with_sup q (name a))) steps (answered q table rows number a trail earlier good fits have is_first unnamed lt reads run sat out)

@@ -9,7 +9,7 @@ use Rattle.calculus_specs.specs.Shape.Shape.{some_of, at_least}
 use Rattle.calculus_specs.specs.declared.facts.Fact.{Fact}
 use Rattle.calculus_specs.specs.declared.facts.Fact.TheVariants.{Has, Edge, Apart, Same}
 use Rattle.calculus_specs.specs.Joins.{rep}
-use Rattle.calculus_specs.specs.State.{node_count, gives_concept, gives_edge, gives_apart, has, has_edge, are_apart, all_apart, new_nodes, apart_from, pairwise_apart, fresh_facts}
+use Rattle.calculus_specs.specs.State.{node_count_from, gives_concept, gives_edge, gives_apart, has, has_edge, are_apart, all_apart, new_nodes, apart_from, pairwise_apart, fresh_facts}
 use Rattle.calculus_specs.proofs.Joined.{by_last, rep-snoc, after-same}
 use Rattle.tableau_specs.specs.Clash.{filled_successors}
 use Rattle.tableau_specs.proofs.PlainClash.{filled_parts}
@@ -42,7 +42,7 @@ module _ (fs gs : List (Fact ℕ)) where
   abbrev m' : ℕ → ℕ
   m' = rep (fs ++ gs)
 
-  eqb_stays : (y x : ℕ) → eqb (m y) (m x) ≡ true → eqb (m' y) (m' x) ≡ true
+  pub eqb_stays : (y x : ℕ) → eqb (m y) (m x) ≡ true → eqb (m' y) (m' x) ≡ true
   eqb_stays y x h = eq-eqb (m' y) (m' x) (same_stays fs gs y x (eqb-true (m y) (m x) h))
 
   concept_stays : (x d : ℕ) (f : Fact ℕ) → gives_concept (λ e. eqb e d) m (m x) f ≡ true → gives_concept (λ e. eqb e d) m' (m' x) f ≡ true
@@ -51,7 +51,7 @@ module _ (fs gs : List (Fact ℕ)) where
   concept_stays x d (Apart y z) h = absurd (cc)
   concept_stays x d (Same y z) h = absurd (cc)
 
-  has_stays : (x d : ℕ) → has fs x d ≡ true → has (fs ++ gs) x d ≡ true
+  pub has_stays : (x d : ℕ) → has fs x d ≡ true → has (fs ++ gs) x d ≡ true
   has_stays x d h = elim (or_cases (eqb d 0) (list_any (gives_concept (λ e. eqb e d) m (m x)) fs) h) [
     | inl zero' ↦ or_left (eqb d 0) (list_any (gives_concept (λ e. eqb e d) m' (m' x)) (fs ++ gs)) zero'
     | inr given ↦
@@ -68,7 +68,7 @@ module _ (fs gs : List (Fact ℕ)) where
   edge_fact_stays roles x y (Apart u v) h = absurd (cc)
   edge_fact_stays roles x y (Same u v) h = absurd (cc)
 
-  edge_stays : (roles : ℕ → Bool) (x y : ℕ) → has_edge fs roles x y ≡ true → has_edge (fs ++ gs) roles x y ≡ true
+  pub edge_stays : (roles : ℕ → Bool) (x y : ℕ) → has_edge fs roles x y ≡ true → has_edge (fs ++ gs) roles x y ≡ true
   edge_stays roles x y h = any_stays (gives_edge roles m (m x) (m y)) (gives_edge roles m' (m' x) (m' y)) (edge_fact_stays roles x y) fs gs h
 
   apart_fact_stays : (y z : ℕ) (f : Fact ℕ) → gives_apart m (m y) (m z) f ≡ true → gives_apart m' (m' y) (m' z) f ≡ true
@@ -84,7 +84,7 @@ module _ (fs gs : List (Fact ℕ)) where
   apart_fact_stays y z (Edge r u v) h = absurd (cc)
   apart_fact_stays y z (Same u v) h = absurd (cc)
 
-  apart_stays : (y z : ℕ) → are_apart fs y z ≡ true → are_apart (fs ++ gs) y z ≡ true
+  pub apart_stays : (y z : ℕ) → are_apart fs y z ≡ true → are_apart (fs ++ gs) y z ≡ true
   apart_stays y z h = any_stays (gives_apart m (m y) (m z)) (gives_apart m' (m' y) (m' z)) (apart_fact_stays y z) fs gs h
 
   each_stays : (p q : ℕ → Bool) → ((y : ℕ) → p y ≡ true → q y ≡ true) → (ys : List ℕ) → list_all p ys ≡ true → list_all q ys ≡ true
@@ -98,21 +98,21 @@ module _ (fs gs : List (Fact ℕ)) where
       and_from (list_all (are_apart (fs ++ gs) y) ys) (all_apart (fs ++ gs) ys) (each_stays (are_apart fs y) (are_apart (fs ++ gs) y) (apart_stays y) ys t.0) (all_apart_stays ys t.1)
 
   module _ (w : SearchContext) where
-    filler_stays : (x s e z : ℕ) → is_filled_successor (below_of w) fs x s e z ≡ true → is_filled_successor (below_of w) (fs ++ gs) x s e z ≡ true
+    filler_stays : (x s e z : ℕ) → is_filled_successor w.first (below_of w) fs x s e z ≡ true → is_filled_successor w.first (below_of w) (fs ++ gs) x s e z ≡ true
     filler_stays x s e z h =
         let roles : ℕ → Bool = λ r. below_of w r s in
-        let t = and_parts (ltb z (node_count fs) && has_edge fs roles x z) (has fs z e) h in
-        let u = and_parts (ltb z (node_count fs)) (has_edge fs roles x z) t.0 in
-        let count = count_front fs gs in
-        let lt = ltb-true z (node_count fs) u.0 in
-        and_from (ltb z (node_count (fs ++ gs)) && has_edge (fs ++ gs) roles x z) (has (fs ++ gs) z e)
-        (and_from (ltb z (node_count (fs ++ gs))) (has_edge (fs ++ gs) roles x z) (lt-ltb z (node_count (fs ++ gs)) (omega arith)) (edge_stays roles x z u.1)) (has_stays z e t.1)
+        let t = and_parts (ltb z (node_count_from w.first fs) && has_edge fs roles x z) (has fs z e) h in
+        let u = and_parts (ltb z (node_count_from w.first fs)) (has_edge fs roles x z) t.0 in
+        let count = count_front w.first fs gs in
+        let lt = ltb-true z (node_count_from w.first fs) u.0 in
+        and_from (ltb z (node_count_from w.first (fs ++ gs)) && has_edge (fs ++ gs) roles x z) (has (fs ++ gs) z e)
+        (and_from (ltb z (node_count_from w.first (fs ++ gs))) (has_edge (fs ++ gs) roles x z) (lt-ltb z (node_count_from w.first (fs ++ gs)) (omega arith)) (edge_stays roles x z u.1)) (has_stays z e t.1)
 
     run_stays : (x s e n y : ℕ) → is_run w fs x s e n y ≡ true → is_run w (fs ++ gs) x s e n y ≡ true
     run_stays x s e n y h =
-        let t = and_parts (list_all (is_filled_successor (below_of w) fs x s e) (range_with_len y n)) (all_apart fs (range_with_len y n)) h in
-        and_from (list_all (is_filled_successor (below_of w) (fs ++ gs) x s e) (range_with_len y n)) (all_apart (fs ++ gs) (range_with_len y n))
-        (each_stays (is_filled_successor (below_of w) fs x s e) (is_filled_successor (below_of w) (fs ++ gs) x s e) (filler_stays x s e) (range_with_len y n) t.0) (all_apart_stays (range_with_len y n) t.1)
+        let t = and_parts (list_all (is_filled_successor w.first (below_of w) fs x s e) (range_with_len y n)) (all_apart fs (range_with_len y n)) h in
+        and_from (list_all (is_filled_successor w.first (below_of w) (fs ++ gs) x s e) (range_with_len y n)) (all_apart (fs ++ gs) (range_with_len y n))
+        (each_stays (is_filled_successor w.first (below_of w) fs x s e) (is_filled_successor w.first (below_of w) (fs ++ gs) x s e) (filler_stays x s e) (range_with_len y n) t.0) (all_apart_stays (range_with_len y n) t.1)
 
 -- ---- what a node asks for by a concept
 
@@ -152,17 +152,17 @@ found_below (suc n) p h = elim (or_cases (p n) (any_below n p) h) [
 
 -- the nodes that x asks for by c are there
 abbrev pub is_met : SearchContext → List (Fact ℕ) → ℕ → ℕ → Bool
-is_met w fs x c = any_below (node_count fs) (is_run w fs x (by_role (shape_of w.table c)) (with_concept (shape_of w.table c)) (many (shape_of w.table c)))
+is_met w fs x c = any_below (node_count_from w.first fs) (is_run w fs x (by_role (shape_of w.table c)) (with_concept (shape_of w.table c)) (many (shape_of w.table c)))
 
 pub met_stays : (w : SearchContext) (fs gs : List (Fact ℕ)) (x c : ℕ) → is_met w fs x c ≡ true → is_met w (fs ++ gs) x c ≡ true
 met_stays w fs gs x c h =
     let s = by_role (shape_of w.table c) in
     let e = with_concept (shape_of w.table c) in
     let n = many (shape_of w.table c) in
-    let r = found_below (node_count fs) (is_run w fs x s e n) h in
+    let r = found_below (node_count_from w.first fs) (is_run w fs x s e n) h in
     let lt = r.1 in
-    let count = count_front fs gs in
-    one_below (node_count (fs ++ gs)) (is_run w (fs ++ gs) x s e n) r.0 (omega arith) (run_stays fs gs w x s e n r.0 r.2)
+    let count = count_front w.first fs gs in
+    one_below (node_count_from w.first (fs ++ gs)) (is_run w (fs ++ gs) x s e n) r.0 (omega arith) (run_stays fs gs w x s e n r.0 r.2)
 
 -- ---- new nodes are what was asked for
 
@@ -208,26 +208,26 @@ pairs_in_range fs a (suc n) imp =
     (each_in_range (are_apart fs a) (a + 1) n (λ z from before. imp a z (omega arith) (omega arith) (omega arith)))
     (pairs_in_range fs (a + 1) n (λ y z from less before. imp y z (omega arith) less (omega arith)))
 
-edge_at : (roles : ℕ → Bool) (m : ℕ → ℕ) (s x z : ℕ) → roles s ≡ true → gives_edge {C = ℕ} roles m (m x) (m z) (Edge s x z) ≡ true
+pub edge_at : (roles : ℕ → Bool) (m : ℕ → ℕ) (s x z : ℕ) → roles s ≡ true → gives_edge {C = ℕ} roles m (m x) (m z) (Edge s x z) ≡ true
 edge_at roles m s x z h = and_from (roles s && eqb (m x) (m x)) (eqb (m z) (m z)) (and_from (roles s) (eqb (m x) (m x)) h (eq-eqb (m x) (m x) refl)) (eq-eqb (m z) (m z) refl)
 
-apart_at : (m : ℕ → ℕ) (y z : ℕ) → gives_apart {C = ℕ} m (m y) (m z) (Apart y z) ≡ true
+pub apart_at : (m : ℕ → ℕ) (y z : ℕ) → gives_apart {C = ℕ} m (m y) (m z) (Apart y z) ≡ true
 apart_at m y z = or_left (eqb (m y) (m y) && eqb (m z) (m z)) (eqb (m y) (m z) && eqb (m z) (m y)) (and_from (eqb (m y) (m y)) (eqb (m z) (m z)) (eq-eqb (m y) (m y) refl) (eq-eqb (m z) (m z) refl))
 
 module _ (w : SearchContext) (fs : List (Fact ℕ)) (x s e n : ℕ) (itself : w.theory.below s s ≡ true) where
   abbrev first : ℕ
-  first = node_count fs
+  first = node_count_from w.first fs
 
   abbrev now : List (Fact ℕ)
   now = fs ++ fresh_facts x s e first (suc n)
 
-  new_filler : (z : ℕ) → first ≤ z → z < first + suc n → is_filled_successor (below_of w) now x s e z ≡ true
+  new_filler : (z : ℕ) → first ≤ z → z < first + suc n → is_filled_successor w.first (below_of w) now x s e z ≡ true
   new_filler z from before =
       let roles : ℕ → Bool = λ r. below_of w r s in
       let pairs = pairwise_apart first (suc n) in
-      let count = count-fresh fs x s e (suc n) in
-      and_from (ltb z (node_count now) && has_edge now roles x z) (has now z e)
-      (and_from (ltb z (node_count now)) (has_edge now roles x z) (lt-ltb z (node_count now) (omega arith))
+      let count = count-fresh w.first fs x s e (suc n) in
+      and_from (ltb z (node_count_from w.first now) && has_edge now roles x z) (has now z e)
+      (and_from (ltb z (node_count_from w.first now)) (has_edge now roles x z) (lt-ltb z (node_count_from w.first now) (omega arith))
       (any_right (gives_edge roles (rep now) (rep now x) (rep now z)) fs (fresh_facts x s e first (suc n))
       (edge_there (gives_edge roles (rep now) (rep now x) (rep now z)) x s e first (suc n) z pairs from before (edge_at roles (rep now) s x z itself))))
       (had now z e (any_right (is_has z e) fs (fresh_facts x s e first (suc n)) (concept_there (is_has z e) x s e first (suc n) z pairs from before (self_has z e))))
@@ -238,10 +238,10 @@ module _ (w : SearchContext) (fs : List (Fact ℕ)) (x s e n : ℕ) (itself : w.
       any_right p fs (fresh_facts x s e first (suc n)) (any_right p (new_nodes x s e first (suc n)) (pairwise_apart first (suc n)) (pair_there p first (suc n) y z from less before (apart_at (rep now) y z)))
 
   new_run : is_run w now x s e (suc n) first ≡ true
-  new_run = and_from (list_all (is_filled_successor (below_of w) now x s e) (range_with_len first (suc n))) (all_apart now (range_with_len first (suc n))) (each_in_range (is_filled_successor (below_of w) now x s e) first (suc n) new_filler) (pairs_in_range now first (suc n) new_apart)
+  new_run = and_from (list_all (is_filled_successor w.first (below_of w) now x s e) (range_with_len first (suc n))) (all_apart now (range_with_len first (suc n))) (each_in_range (is_filled_successor w.first (below_of w) now x s e) first (suc n) new_filler) (pairs_in_range now first (suc n) new_apart)
 
-  pub new_some : any_below (node_count now) (is_run w now x s e (suc n)) ≡ true
-  new_some = let count = count-fresh fs x s e (suc n) in one_below (node_count now) (is_run w now x s e (suc n)) first (omega arith) new_run
+  pub new_some : any_below (node_count_from w.first now) (is_run w now x s e (suc n)) ≡ true
+  new_some = let count = count-fresh w.first fs x s e (suc n) in one_below (node_count_from w.first now) (is_run w now x s e (suc n)) first (omega arith) new_run
 
 -- ---- a Generate
 
@@ -255,7 +255,7 @@ pub record IsMaking (w : SearchContext) (fs new : List (Fact ℕ)) : Type 0 wher
   pub is_shape : (shape_of w.table by ≡ some_of (by_role (shape_of w.table by)) (with_concept (shape_of w.table by)))
       ⊎ (shape_of w.table by ≡ at_least (suc more) (by_role (shape_of w.table by)) (with_concept (shape_of w.table by)))
   pub are_many : many (shape_of w.table by) ≡ suc more
-  pub is_new : new ≡ fresh_facts at (by_role (shape_of w.table by)) (with_concept (shape_of w.table by)) (node_count fs) (suc more)
+  pub is_new : new ≡ fresh_facts at (by_role (shape_of w.table by)) (with_concept (shape_of w.table by)) (node_count_from w.first fs) (suc more)
   pub not_met : is_met w fs at by ≡ false
 
 no_member : (q : ℕ) (ys : List ℕ) → ys ≡ [] → ¬ (list_any (eqb q) ys ≡ true)
@@ -263,16 +263,16 @@ no_member q [] e h = cc
 no_member q (y ∷ ys) e h = cc
 
 module _ (w : SearchContext) (fs : List (Fact ℕ)) (x c : ℕ) where
-  unmet_some : (s e : ℕ) → shape_of w.table c ≡ some_of s e → filled_successors (below_of w) fs x s e ≡ [] → is_met w fs x c ≡ false
-  unmet_some s e sh none = rw sh (false_from_ne_true (any_below (node_count fs) (is_run w fs x s e 1)) (λ h.
-      let r = found_below (node_count fs) (is_run w fs x s e 1) h in
-      let t = and_parts (list_all (is_filled_successor (below_of w) fs x s e) (r.0 ∷ [])) (all_apart fs (r.0 ∷ [])) r.2 in
-      let u = and_parts (is_filled_successor (below_of w) fs x s e r.0) true t.0 in
-      no_member (rep fs r.0) (filled_successors (below_of w) fs x s e) none (filled_is_counted w fs x s e r.0 (filled_parts (below_of w) fs x s e r.0 u.0))))
+  unmet_some : (s e : ℕ) → shape_of w.table c ≡ some_of s e → filled_successors w.first (below_of w) fs x s e ≡ [] → is_met w fs x c ≡ false
+  unmet_some s e sh none = rw sh (false_from_ne_true (any_below (node_count_from w.first fs) (is_run w fs x s e 1)) (λ h.
+      let r = found_below (node_count_from w.first fs) (is_run w fs x s e 1) h in
+      let t = and_parts (list_all (is_filled_successor w.first (below_of w) fs x s e) (r.0 ∷ [])) (all_apart fs (r.0 ∷ [])) r.2 in
+      let u = and_parts (is_filled_successor w.first (below_of w) fs x s e r.0) true t.0 in
+      no_member (rep fs r.0) (filled_successors w.first (below_of w) fs x s e) none (filled_is_counted w fs x s e r.0 (filled_parts w.first (below_of w) fs x s e r.0 u.0))))
 
   unmet_least : (n s e : ℕ) → shape_of w.table c ≡ at_least n s e → ((y : ℕ) → is_run w fs x s e n y ≡ false) → is_met w fs x c ≡ false
-  unmet_least n s e sh none = rw sh (false_from_ne_true (any_below (node_count fs) (is_run w fs x s e n)) (λ h.
-      let r = found_below (node_count fs) (is_run w fs x s e n) h in
+  unmet_least n s e sh none = rw sh (false_from_ne_true (any_below (node_count_from w.first fs) (is_run w fs x s e n)) (λ h.
+      let r = found_below (node_count_from w.first fs) (is_run w fs x s e n) h in
       let k = none r.0 in
       let l = r.2 in
       cc))
@@ -286,7 +286,7 @@ making w fs new (by_some x c s e at h sh none) = record {
   holds = h;
   is_shape = inl (rw sh refl);
   are_many = ap many sh;
-  is_new = ap (λ (t : Shape). fresh_facts x (by_role t) (with_concept t) (node_count fs) 1) (sym sh);
+  is_new = ap (λ (t : Shape). fresh_facts x (by_role t) (with_concept t) (node_count_from w.first fs) 1) (sym sh);
   not_met = unmet_some w fs x c s e sh none;
 }
 making w fs new (by_least x c zero s e at h sh none) = absurd (not_none w fs x s e none)
@@ -298,7 +298,7 @@ making w fs new (by_least x c (suc n) s e at h sh none) = record {
   holds = h;
   is_shape = inr (rw sh refl);
   are_many = ap many sh;
-  is_new = ap (λ (t : Shape). fresh_facts x (by_role t) (with_concept t) (node_count fs) (suc n)) (sym sh);
+  is_new = ap (λ (t : Shape). fresh_facts x (by_role t) (with_concept t) (node_count_from w.first fs) (suc n)) (sym sh);
   not_met = unmet_least w fs x c (suc n) s e sh none;
 }
 

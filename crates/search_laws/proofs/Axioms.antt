@@ -1,11 +1,13 @@
--- An interpretation that meets a theory of named axioms meets these axioms.
-use Rattle.std.proofs.Common.{◌≡◌, ℕ, zero, suc, ◌+◌, ◌-◌, ◌<◌, ◌&&◌, eqb, leb, Bool, true, false, not, cond, List, [], ◌∷◌, length, get_or, Option, Some, None, refl, ap, ◌∙◌, sym, subst, arith, inl, inr, eq-eqb}
+-- An interpretation that meets a theory of named axioms, and the facts that they give, meets these axioms.
+use Rattle.std.proofs.Common.{◌≡◌, ℕ, suc, ◌+◌, ◌-◌, ◌<◌, ◌&&◌, eqb, leb, Bool, true, false, cond, List, [], ◌∷◌, length, get_or, Option, Some, None, refl, ap, ◌∙◌, sym, subst, arith, inl, inr, eq-eqb}
 use Rattle.std.specs.Prelude.{slice_get}
 use Rattle.std.specs.List.{list_any, list_all, Contains}
-use Rattle.std.proofs.lemmas.Bool.{and_from, and_parts, or_cases, or_left, or_right, le-leb, eqb-true, not-true, false≢true}
+use Rattle.std.proofs.lemmas.Bool.{and_from, or_cases, or_left, or_right, le-leb, eqb-true, false≢true}
 use Rattle.std.proofs.lemmas.List.{get_or_default}
 use Rattle.std.proofs.lemmas.List.Folds.{list_all-append, list_any-append, list_any_at}
-use Rattle.shq_terms.specs.Concept.{top}
+use Rattle.shq_terms.specs.Concept.{Concept, top}
+use Rattle.shq_terms.specs.Uses.{all_use_listed}
+use Rattle.calculus_specs.specs.declared.facts.Fact.{Fact}
 use Rattle.shq_terms.specs.declared.axioms.Axiom.{Axiom}
 use Rattle.shq_terms.specs.declared.axioms.Axiom.TheVariants.{SubClassOf, EquivalentClasses, DisjointClasses, DisjointUnion, SubRole, EquivalentRoles, Domain, Range, Functional, Transitive, Member, Pair, SameAll, Different}
 use Rattle.shq_terms.specs.declared.axioms.Numbered.{Numbered}
@@ -17,16 +19,21 @@ use Rattle.shq_meaning.specs.Truth.{Interpretation, implies, included, roles_equ
 use Rattle.shq_meaning.proofs.Members.{all_pass}
 use Rattle.shq_meaning.proofs.Implied.{implies_from}
 use Rattle.shq_nnf.specs.Parts.{axiom_parts, part_in}
-use Rattle.shq_nnf.specs.Meeting.{meets_part, meets_parts, is_assertion}
+use Rattle.shq_nnf.specs.Meeting.{meets_part, meets_parts, is_true}
+use Rattle.shq_nnf.specs.Facts.{facts_of, fact_at}
 use Rattle.shq_nnf.proofs.Meeting.{axiom_is_parts}
+use Rattle.shq_nnf.proofs.Facts.{assertion_is_facts}
 use Rattle.role_box.specs.declared.role_axiom.RoleAxiom.{RoleAxiom}
 use Rattle.role_box.specs.RoleAxioms.{role_part, role_part_at, role_axioms}
 use Rattle.role_box.specs.Steps.{leads_by, leads, is_transitive_by, is_transitive, is_among as among}
 use Rattle.role_box.proofs.Limits.{test_is_below}
-use Rattle.refutation_truth.specs.Theory.{axioms_in, named_axioms, parts_in, parts_at, theory_of}
+use Rattle.refutation_truth.specs.Theory.{axioms_in, named_axioms, parts_in, parts_at, theory_of, fact_in, fact_of_axiom}
 use Rattle.refutation_truth.proofs.Below.{all_from}
 use Rattle.refutation_truth.proofs.Lines.{MeetsTheory}
 use Rattle.refutation_truth.proofs.Numbered.{numbered}
+use Rattle.refutation_truth.proofs.Asserted.{all_given}
+use Rattle.search_laws.specs.Theories.{MeetsFacts}
+use Rattle.search_laws.proofs.GivenFacts.{at_place}
 
 -- what an axiom of one of the numbers says of roles, the axioms of the numbers say
 said_among : (axioms : List Numbered) (p : RoleAxiom → Bool) (ls : List ℕ) (k : ℕ) → is_among ls k ≡ true → list_any p (role_part_at (slice_get axioms (k - 1))) ≡ true → list_any p (role_axioms axioms ls) ≡ true
@@ -40,17 +47,13 @@ said_among axioms p (l ∷ ls) k is h =
       | inr later ↦ or_right here_said later_said (said_among axioms p ls k later h)
     ]
 
--- an axiom that is no assertion, where there is one
-abbrev IsPlainAt : Option Numbered → Type 0
-IsPlainAt None = Unit {0}
-IsPlainAt (Some n) = is_assertion n.axiom ≡ false
+-- a test that all facts at the places of a list pass
+all_at_places : (p : Fact Concept → Bool) (fs : List (Fact Concept)) → ((place : ℕ) (f : Fact Concept) → slice_get fs place ≡ Some f → p f ≡ true) → list_all p fs ≡ true
+all_at_places p [] each = refl
+all_at_places p (f ∷ fs) each = and_from (p f) (list_all p fs) (each 0 f refl) (all_at_places p fs (λ place g e. each (suc place) g e))
 
-plain_at : (axioms : List Numbered) (place : ℕ) → list_all (λ (n : Numbered). not (is_assertion n.axiom)) axioms ≡ true → IsPlainAt (slice_get axioms place)
-plain_at [] place h = tt
-plain_at (n ∷ ns) zero h = not-true (is_assertion n.axiom) (and_parts (not (is_assertion n.axiom)) (list_all (λ (k : Numbered). not (is_assertion k.axiom)) ns) h).0
-plain_at (n ∷ ns) (suc place) h = plain_at ns place (and_parts (not (is_assertion n.axiom)) (list_all (λ (k : Numbered). not (is_assertion k.axiom)) ns) h).1
-
-module _ (i : Interpretation) (axioms : List Numbered) (ks : List ℕ) (plain : list_all (λ (n : Numbered). not (is_assertion n.axiom)) axioms ≡ true) (m : MeetsTheory i (theory_of axioms ks)) where
+module _ (i : Interpretation) (classes roles n : ℕ) (axioms : List Numbered) (ks : List ℕ) (listed : all_use_listed classes roles n axioms ≡ true) (m : MeetsTheory i (theory_of axioms ks))
+    (facts : MeetsFacts (fact_of_axiom n axioms ks) i) where
   -- ---- parts
 
   part_found : (k p : ℕ) → is_among ks k ≡ true → p < length (parts_at axioms k) → part_at (theory_of axioms ks) k (p + 1) ≡ Some (part_in (parts_at axioms k) p)
@@ -97,33 +100,40 @@ module _ (i : Interpretation) (axioms : List Numbered) (ks : List ℕ) (plain : 
       let is = is_member (q ∷ rs) s c in
       and_from (included i q s) (included i s q) (each q s (first_among q rs) is) (each s q is (first_among q rs)))
 
-  met_by : (a : Axiom) → is_assertion a ≡ false → ((r s : ℕ) → leads (role_part a) r s ≡ true → leads (role_axioms axioms ks) r s ≡ true)
-      → ((t : ℕ) → is_transitive (role_part a) t ≡ true → is_transitive (role_axioms axioms ks) t ≡ true) → meets_parts i (axiom_parts a) ≡ true → meets i a ≡ true
-  met_by (SubRole r s) no_assertion up on h = up_included r s (below_leads r s (up r s (or_left (eqb r r && eqb s s) false (and_from (eqb r r) (eqb s s) (eq-eqb r r refl) (eq-eqb s s refl)))))
-  met_by (EquivalentRoles rs) no_assertion up on h =
-      equal_by rs (λ r s is its. up_included r s (below_leads r s (up r s (or_left (among rs r && among rs s) false (and_from (among rs r) (among rs s) is its)))))
-  met_by (Transitive t) no_assertion up on h = on_transitive t (on t (or_left (eqb t t) false (eq-eqb t t refl)))
-  met_by (SubClassOf c d) no_assertion up on h = axiom_is_parts i (SubClassOf c d) refl refl ∙ h
-  met_by (EquivalentClasses cs) no_assertion up on h = axiom_is_parts i (EquivalentClasses cs) refl refl ∙ h
-  met_by (DisjointClasses cs) no_assertion up on h = axiom_is_parts i (DisjointClasses cs) refl refl ∙ h
-  met_by (DisjointUnion a cs) no_assertion up on h = axiom_is_parts i (DisjointUnion a cs) refl refl ∙ h
-  met_by (Domain r c) no_assertion up on h = axiom_is_parts i (Domain r c) refl refl ∙ h
-  met_by (Range r c) no_assertion up on h = axiom_is_parts i (Range r c) refl refl ∙ h
-  met_by (Functional r) no_assertion up on h = axiom_is_parts i (Functional r) refl refl ∙ h
-  met_by (Member c a) no_assertion up on h = cc
-  met_by (Pair r a b) no_assertion up on h = cc
-  met_by (SameAll as_) no_assertion up on h = cc
-  met_by (Different as_) no_assertion up on h = cc
+  -- each fact of the axiom is true
+  abbrev HasTrueFacts : Axiom → Type 0
+  HasTrueFacts a = (place : ℕ) (f : Fact Concept) → fact_at a place ≡ Some f → is_true i i.individual f ≡ true
 
-  at_met : (o : Option Numbered) → IsPlainAt o → ((r s : ℕ) → leads (role_part_at o) r s ≡ true → leads (role_axioms axioms ks) r s ≡ true)
+  true_facts : (a : Axiom) → HasTrueFacts a → list_all (is_true i i.individual) (facts_of a) ≡ true
+  true_facts a each = all_at_places (is_true i i.individual) (facts_of a) (λ place f e. each (suc place) f (at_place (facts_of a) place ∙ e))
+
+  met_by : (a : Axiom) → HasTrueFacts a → ((r s : ℕ) → leads (role_part a) r s ≡ true → leads (role_axioms axioms ks) r s ≡ true)
+      → ((t : ℕ) → is_transitive (role_part a) t ≡ true → is_transitive (role_axioms axioms ks) t ≡ true) → meets_parts i (axiom_parts a) ≡ true → meets i a ≡ true
+  met_by (SubRole r s) each up on h = up_included r s (below_leads r s (up r s (or_left (eqb r r && eqb s s) false (and_from (eqb r r) (eqb s s) (eq-eqb r r refl) (eq-eqb s s refl)))))
+  met_by (EquivalentRoles rs) each up on h =
+      equal_by rs (λ r s is its. up_included r s (below_leads r s (up r s (or_left (among rs r && among rs s) false (and_from (among rs r) (among rs s) is its)))))
+  met_by (Transitive t) each up on h = on_transitive t (on t (or_left (eqb t t) false (eq-eqb t t refl)))
+  met_by (SubClassOf c d) each up on h = axiom_is_parts i (SubClassOf c d) refl refl ∙ h
+  met_by (EquivalentClasses cs) each up on h = axiom_is_parts i (EquivalentClasses cs) refl refl ∙ h
+  met_by (DisjointClasses cs) each up on h = axiom_is_parts i (DisjointClasses cs) refl refl ∙ h
+  met_by (DisjointUnion a cs) each up on h = axiom_is_parts i (DisjointUnion a cs) refl refl ∙ h
+  met_by (Domain r c) each up on h = axiom_is_parts i (Domain r c) refl refl ∙ h
+  met_by (Range r c) each up on h = axiom_is_parts i (Range r c) refl refl ∙ h
+  met_by (Functional r) each up on h = axiom_is_parts i (Functional r) refl refl ∙ h
+  met_by (Member c a) each up on h = assertion_is_facts i (Member c a) refl ∙ true_facts (Member c a) each
+  met_by (Pair r a b) each up on h = assertion_is_facts i (Pair r a b) refl ∙ true_facts (Pair r a b) each
+  met_by (SameAll as_) each up on h = assertion_is_facts i (SameAll as_) refl ∙ true_facts (SameAll as_) each
+  met_by (Different as_) each up on h = assertion_is_facts i (Different as_) refl ∙ true_facts (Different as_) each
+
+  at_met : (o : Option Numbered) → ((place : ℕ) (f : Fact Concept) → fact_in o place ≡ Some f → is_true i i.individual f ≡ true) → ((r s : ℕ) → leads (role_part_at o) r s ≡ true → leads (role_axioms axioms ks) r s ≡ true)
       → ((t : ℕ) → is_transitive (role_part_at o) t ≡ true → is_transitive (role_axioms axioms ks) t ≡ true) → meets_parts i (parts_in o) ≡ true → list_all (meets i) (axioms_in o) ≡ true
-  at_met None plain_one up on h = refl
-  at_met (Some n) plain_one up on h = and_from (meets i n.axiom) true (met_by n.axiom plain_one up on h) refl
+  at_met None each up on h = refl
+  at_met (Some a) each up on h = and_from (meets i a.axiom) true (met_by a.axiom each up on h) refl
 
   -- ---- the axioms of some of the numbers
 
   axiom_at_met : (k : ℕ) → is_among ks k ≡ true → list_all (meets i) (axioms_in (slice_get axioms (k - 1))) ≡ true
-  axiom_at_met k is = at_met (slice_get axioms (k - 1)) (plain_at axioms (k - 1) plain) (λ r s h. said_among axioms (λ x. leads_by x r s) ks k is h) (λ t h. said_among axioms (λ x. is_transitive_by x t) ks k is h) (parts_met k is)
+  axiom_at_met k is = at_met (slice_get axioms (k - 1)) (λ place f e. facts k place f (all_given classes roles n axioms ks k place listed is ∙ e)) (λ r s h. said_among axioms (λ x. leads_by x r s) ks k is h) (λ t h. said_among axioms (λ x. is_transitive_by x t) ks k is h) (parts_met k is)
 
   some_met : (ls : List ℕ) → ((k : ℕ) → is_among ls k ≡ true → is_among ks k ≡ true) → meets_all i (named_axioms axioms ls) ≡ true
   some_met [] each = refl

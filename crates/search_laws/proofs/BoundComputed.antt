@@ -4,13 +4,15 @@ use Rattle.std.specs.List.{list_any, flat_map, Contains}
 use Rattle.std.proofs.lemmas.Bool.{or_left, or_right}
 use Rattle.shq_terms.specs.Concept.{Concept, top, bottom, name, complement, intersection, union, some_of, all_of, at_least, at_most, exactly, Parts, no_parts, part, part_list}
 use Rattle.calculus_specs.specs.Normal.{normal_form, negated_form}
-use Rattle.calculus_specs.specs.Rows.{Part, NumberedPart, Theory, row_concept, others_from}
+use Rattle.calculus_specs.specs.Same.{is_same}
+use Rattle.calculus_specs.specs.Rows.{Part, NumberedPart, row_concept, others_from}
 use Rattle.calculus_specs.specs.Rows.Part.{inclusion, range}
+use Rattle.calculus_specs.specs.Rules.{Question}
 use Rattle.calculus_specs.specs.Depth.{role_depth}
 use Rattle.search_laws.specs.Closure.{IsInClosure, IsClosure}
-use Rattle.search_laws.specs.Closure.IsInClosure.{has_top, has_sub, has_not_sup, has_row, has_range, has_conjunct, has_disjunct, has_some, has_all, has_least, has_most, has_other, has_carried}
-use Rattle.search_laws.specs.ComputedClosure.{others_of, row_of_others, part_concepts, given_by, given_by_each, given, roots, deepest, closure, ClosureIsComputed}
-use Rattle.search_laws.proofs.Within.{Among, among_either, among_map, map_among, among_flat, flat_among, among_contained, contained_among, same_among, among_same, number_among, once_has, once_only, once_distinct, Gives, itself_given, all_shut}
+use Rattle.search_laws.specs.Closure.IsInClosure.{has_top, has_sub, has_not_sup, has_row, has_range, has_member, has_conjunct, has_disjunct, has_some, has_all, has_least, has_most, has_other, has_carried}
+use Rattle.search_laws.specs.ComputedClosure.{others_of, row_of_others, part_concepts, given_by, given_by_each, given, IsMember, roots, deepest, closure, ClosureIsComputed}
+use Rattle.search_laws.proofs.Within.{Among, among_left, among_right, among_either, among_map, map_among, among_flat, flat_among, among_contained, contained_among, same_among, among_same, number_among, once_has, once_only, once_distinct, Gives, itself_given, all_shut}
 use Rattle.search_laws.proofs.Others.{positions_in, positions_of}
 
 among_number : (t : ℕ) (ts : List ℕ) → Among t ts → list_any (eqb t) ts ≡ true
@@ -21,12 +23,16 @@ deepest_is : (c : Concept) (cs : List Concept) → Among c cs → role_depth c �
 deepest_is c [] h = absurd h
 deepest_is c (d ∷ cs) h = elim h [ inl e ↦ omega (arith, ap role_depth e) | inr later ↦ omega (arith, deepest_is c cs later) ]
 
-module _ (theory : Theory) (ts : List ℕ) (sub sup : Concept) (transitive : (t : ℕ) → (theory.is_transitive t ≡ true) ↔ (list_any (eqb t) ts ≡ true)) where
+module _ (q : Question) (ts : List ℕ) (members : List Concept) (transitive : (t : ℕ) → (q.theory.is_transitive t ≡ true) ↔ (list_any (eqb t) ts ≡ true))
+    (are_members : (c : Concept) → IsMember q c ↔ (list_any (is_same c) members ≡ true)) where
   abbrev In : Concept → Type 0
-  In c = IsInClosure theory sub sup c
+  In c = IsInClosure q c
 
   abbrev first : List Concept
-  first = roots theory sub sup
+  first = roots q members
+
+  abbrev all_parts : List Concept
+  all_parts = flat_map (λ (k : NumberedPart). part_concepts k.part) q.theory.parts
 
   abbrev all : List Concept
   all = flat_map (given ts (deepest first)) first
@@ -41,17 +47,18 @@ module _ (theory : Theory) (ts : List ℕ) (sub sup : Concept) (transitive : (t 
       let r = flat_among (given ts (deepest first)) x first h in
       among_flat (given ts (deepest first)) r.0 y first r.1 (all_shut ts (deepest first) r.0 (deepest_is r.0 first r.1) x y r.2 g)
 
-  part_in : (n : NumberedPart) (c : Concept) → Contains theory.parts n → Among c (part_concepts n.part) → Among c all
-  part_in n c m h = root_in c (inr (inr (inr (among_flat (λ (k : NumberedPart). part_concepts k.part) n c theory.parts (among_contained n theory.parts m) h))))
+  part_in : (n : NumberedPart) (c : Concept) → Contains q.theory.parts n → Among c (part_concepts n.part) → Among c all
+  part_in n c m h = root_in c (inr (inr (inr (among_left c all_parts members (among_flat (λ (k : NumberedPart). part_concepts k.part) n c q.theory.parts (among_contained n q.theory.parts m) h)))))
 
   has : (c : Concept) → In c → Among c all
   has c has_top = root_in top (inl refl)
-  has c has_sub = root_in (normal_form sub) (inr (inl refl))
-  has c has_not_sup = root_in (negated_form sup) (inr (inr (inl refl)))
+  has c has_sub = root_in (normal_form q.sub) (inr (inl refl))
+  has c has_not_sup = root_in (negated_form q.sup) (inr (inr (inl refl)))
   has c (has_row n cs d positions m e names) =
       part_in n (row_concept cs d positions) m
-      (subst (λ (q : Part). Among (row_concept cs d positions) (part_concepts q)) (sym e) (among_map (row_of_others d) (others_from 1 positions cs) (others_of cs) (positions_in cs positions names)))
-  has c (has_range n r d m e) = part_in n d m (subst (λ (q : Part). Among d (part_concepts q)) (sym e) (inl refl))
+      (subst (λ (part : Part). Among (row_concept cs d positions) (part_concepts part)) (sym e) (among_map (row_of_others d) (others_from 1 positions cs) (others_of cs) (positions_in cs positions names)))
+  has c (has_range n r d m e) = part_in n d m (subst (λ (part : Part). Among d (part_concepts part)) (sym e) (inl refl))
+  has c (has_member a p x d h) = root_in d (inr (inr (inr (among_right d all_parts members (among_same d members ((are_members d).0 (record { axiom_number = a; place = p; node = x; is_given = h })))))))
   has c (has_conjunct cs d h m) = more (intersection cs) d (has (intersection cs) h) (among_contained d (part_list cs) m)
   has c (has_disjunct cs d h m) = more (union cs) d (has (union cs) h) (among_contained d (part_list cs) m)
   has c (has_some r d h) = more (some_of r d) d (has (some_of r d) h) refl
@@ -104,7 +111,7 @@ module _ (theory : Theory) (ts : List ℕ) (sub sup : Concept) (transitive : (t 
   only_all zero c i x h = only_given (λ e. []) (λ d j y k. absurd k) c i x h
   only_all (suc n) c i x h = only_given (given ts n) (only_all n) c i x h
 
-  part_only : (n : NumberedPart) (q : Part) (c : Concept) → Contains theory.parts n → n.part ≡ q → Among c (part_concepts q) → In c
+  part_only : (n : NumberedPart) (p : Part) (c : Concept) → Contains q.theory.parts n → n.part ≡ p → Among c (part_concepts p) → In c
   part_only n (inclusion cs d) c m e h =
       let k = map_among (row_of_others d) c (others_of cs) h in
       let p = positions_of cs k.0 k.1 in
@@ -118,19 +125,22 @@ module _ (theory : Theory) (ts : List ℕ) (sub sup : Concept) (transitive : (t 
       | inl e ↦ subst In (sym e) has_sub
       | inr h2 ↦ elim h2 [
         | inl e ↦ subst In (sym e) has_not_sup
-        | inr h3 ↦ let r = flat_among (λ (k : NumberedPart). part_concepts k.part) c theory.parts h3 in part_only r.0 r.0.part c (contained_among r.0 theory.parts r.1) refl r.2
+        | inr h3 ↦ elim (among_either c all_parts members h3) [
+          | inl of_part ↦ let r = flat_among (λ (k : NumberedPart). part_concepts k.part) c q.theory.parts of_part in part_only r.0 r.0.part c (contained_among r.0 q.theory.parts r.1) refl r.2
+          | inr of_fact ↦ let m = (are_members c).1 (same_among c members of_fact) in has_member m.axiom_number m.place m.node c m.is_given
+        ]
       ]
     ]
   ]
 
-  is_closure : IsClosure theory sub sup (closure theory ts sub sup)
+  is_closure : IsClosure q (closure q ts members)
   is_closure = record {
-    has_each = λ c i. same_among c (closure theory ts sub sup) (once_has c all (has c i));
+    has_each = λ c i. same_among c (closure q ts members) (once_has c all (has c i));
     has_only = λ c h.
-        let r = flat_among (given ts (deepest first)) c first (once_only c all (among_same c (closure theory ts sub sup) h)) in
+        let r = flat_among (given ts (deepest first)) c first (once_only c all (among_same c (closure q ts members) h)) in
         only_all (deepest first) r.0 (root_only r.0 r.1) c r.2;
     are_different = once_distinct all;
   }
 
 pub closure_is_computed : ClosureIsComputed
-closure_is_computed theory ts sub sup transitive = is_closure theory ts sub sup transitive
+closure_is_computed q ts members transitive are_members = is_closure q ts members transitive are_members

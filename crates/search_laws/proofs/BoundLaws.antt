@@ -1,26 +1,29 @@
 -- The laws on steps and marks.
-use Rattle.std.proofs.Common.{◌≡◌, ℕ, ◌+◌, ◌*◌, ◌<◌, ◌≤◌, eqb, true, List, [], ◌∷◌, length, arith, inl, inr}
+use Rattle.std.proofs.Common.{◌≡◌, ℕ, ◌+◌, ◌*◌, ◌<◌, ◌≤◌, eqb, true, List, [], ◌∷◌, map, length, arith, inl, inr}
 use Rattle.std.specs.List.{list_any}
 use Rattle.std.proofs.lemmas.Bool.{and_parts, or_cases, eqb-true, ltb-true}
+use Rattle.std.proofs.lemmas.List.{length-map}
 use Rattle.std.proofs.lemmas.Nat.{mul-le}
 use Rattle.shq_terms.specs.Concept.{Concept}
 use Rattle.calculus_specs.specs.Shape.{Shape}
 use Rattle.calculus_specs.specs.Tree.{tree_of}
-use Rattle.calculus_specs.specs.Rows.{Theory, Row}
+use Rattle.calculus_specs.specs.Rows.{Row}
+use Rattle.calculus_specs.specs.Rules.{Question}
 use Rattle.calculus_specs.specs.declared.facts.Fact.{Fact}
 use Rattle.calculus_specs.specs.declared.facts.Fact.TheVariants.{Has, Edge, Apart, Same}
-use Rattle.calculus_specs.specs.State.{node_count}
+use Rattle.calculus_specs.specs.State.{node_count_from}
 use Rattle.calculus_specs.specs.Reading.{is_fact_listed, are_listed}
 use Rattle.tableau_specs.specs.declared.Item.{Item}
 use Rattle.tableau_specs.specs.Items.{facts_of}
 use Rattle.tableau_specs.specs.Steps.{SearchContext}
-use Rattle.tableau_specs.specs.Reached.{IsReached}
+use Rattle.tableau_specs.specs.Reached.{context_of, IsReached}
 use Rattle.tableau_specs.proofs.Listed.{reached_listed}
 use Rattle.search_laws.specs.Closure.{IsClosure}
 use Rattle.search_laws.specs.BoundLaws.{FewStepsAtFirst, FewMarks}
 use Rattle.search_laws.proofs.Concepts.{concepts_in_closure}
 use Rattle.search_laws.proofs.Numbers.{numbers_of, is_number, few_numbers}
 use Rattle.search_laws.proofs.Rising.{is_has, AreIn, had, given_most, joined_most, parted_most}
+use Rattle.search_laws.proofs.Given.{so_count, so_most, counts_so, counts_all, numbered, given_among}
 use Rattle.search_laws.proofs.Tally.{tally}
 use Rattle.search_laws.proofs.KeptSteps.{keeping, ones}
 
@@ -41,11 +44,11 @@ given_listed n (f ∷ fs) x d all h =
     one n (Same y z) x d l k = absurd (cc)
 
 -- the numbers of the concepts of a reached trail are those of the closure
-pub numbers_in : (theory : Theory) (sub sup : Concept) (cs : List Concept) (table : List Shape) (rows : List Row) (k : ℕ) (trail : List Item)
-    → IsClosure theory sub sup cs → IsReached theory sub sup table rows k trail → AreIn (numbers_of table cs) (facts_of trail)
-numbers_in theory sub sup cs table rows k trail closed r x d h =
-    is_number table cs d (given_listed (length table) (facts_of trail) x d (reached_listed theory sub sup table rows k trail r) h)
-    (closed.has_each (tree_of table d) (concepts_in_closure theory sub sup table rows k trail r x d (had (facts_of trail) x d h)))
+pub numbers_in : (q : Question) (cs : List Concept) (table : List Shape) (rows : List Row) (k : ℕ) (trail : List Item)
+    → IsClosure q cs → IsReached q table rows k trail → AreIn (numbers_of table cs) (facts_of trail)
+numbers_in q cs table rows k trail closed r x d h =
+    is_number table cs d (given_listed (length table) (facts_of trail) x d (reached_listed q table rows k trail r) h)
+    (closed.has_each (tree_of table d) (concepts_in_closure q table rows k trail r x d (had (facts_of trail) x d h)))
 
 pub mul_le : (v d c : ℕ) → d ≤ c → v * d ≤ v * c
 mul_le v d c le = mul-le v d v c (omega arith) le
@@ -57,31 +60,34 @@ split_square : (v c : ℕ) → v * (v + c + 1) ≡ v * v + v * c + v
 split_square v c = grind arith
 
 pub few_steps_at_first : FewStepsAtFirst
-few_steps_at_first theory sub sup cs table rows k trail closed r first =
-    let w : SearchContext = record { theory = theory; table = table; rows = rows } in
+few_steps_at_first q cs facts table rows k trail closed all_facts r first =
+    let w : SearchContext = context_of q table rows in
     let a = r.sub_number in
     let b = r.not_sup_number in
     let ds = numbers_of table cs in
-    let v = node_count (facts_of trail) in
-    let keep = keeping w a b k trail r.follows in
-    let t = tally w a b ds v keep.numbers trail keep.grown (omega arith) (numbers_in theory sub sup cs table rows k trail closed r) in
+    let v = node_count_from q.first (facts_of trail) in
+    let keep = keeping w q.at a b k trail r.follows in
+    let ts = map (numbered table) facts in
+    let t = tally w q.at a b r.at_first ds (so_count ts) (counts_so w ts (given_among table r.is_table q rows facts all_facts)) v keep.numbers trail keep.grown (omega arith) (numbers_in q cs table rows k trail closed r) in
     let some = t.at_first_steps first in
-    let all = keep.all_are_kept (ones w a b keep.numbers trail keep.grown first) in
+    let all = keep.all_are_kept (ones w q.at a b keep.numbers trail keep.grown first) in
     let g = given_most ds v (facts_of trail) in
     let j = joined_most ds v (facts_of trail) in
     let m = mul_le v (length ds) (length cs) (few_numbers table cs r.is_table) in
     let e = split_two v (length cs) in
+    let s = so_most ts (facts_of trail) in
+    let l = length-map facts (numbered table) in
     omega arith
 
 pub few_marks : FewMarks
-few_marks theory sub sup cs table rows k trail closed r =
-    let w : SearchContext = record { theory = theory; table = table; rows = rows } in
+few_marks q cs table rows k trail closed r =
+    let w : SearchContext = context_of q table rows in
     let a = r.sub_number in
     let b = r.not_sup_number in
     let ds = numbers_of table cs in
-    let v = node_count (facts_of trail) in
-    let keep = keeping w a b k trail r.follows in
-    let t = tally w a b ds v keep.numbers trail keep.grown (omega arith) (numbers_in theory sub sup cs table rows k trail closed r) in
+    let v = node_count_from q.first (facts_of trail) in
+    let keep = keeping w q.at a b k trail r.follows in
+    let t = tally w q.at a b r.at_first ds (λ fs. length fs) (counts_all w) v keep.numbers trail keep.grown (omega arith) (numbers_in q cs table rows k trail closed r) in
     let some = t.mark_steps in
     let g = given_most ds v (facts_of trail) in
     let j = joined_most ds v (facts_of trail) in

@@ -7,7 +7,7 @@ use Rattle.shq_meaning.specs.Below.{count_below}
 use Rattle.calculus_specs.specs.Shape.{Shape, shape_of}
 use Rattle.calculus_specs.specs.declared.facts.Fact.{Fact}
 use Rattle.calculus_specs.specs.declared.facts.Fact.TheVariants.{Has, Edge, Apart, Same}
-use Rattle.calculus_specs.specs.State.{node_count, fresh_facts}
+use Rattle.calculus_specs.specs.State.{node_count_from, fresh_facts}
 use Rattle.tableau_specs.specs.declared.Branch.{Branch}
 use Rattle.tableau_specs.specs.Steps.{SearchContext, IsAlternative}
 use Rattle.tableau_specs.specs.Steps.IsAlternative.{of_union, of_filler, of_complement, of_joining, of_parting}
@@ -57,10 +57,10 @@ IsPlain (Has x c) = Unit {0}
 IsPlain (Apart x y) = Unit {0}
 IsPlain (Same x y) = Unit {0}
 
-pub plain_count : (fs : List (Fact ℕ)) (f : Fact ℕ) → IsPlain f → node_count (fs ++ f ∷ []) ≡ node_count fs
-plain_count fs f h = omega (arith, count-append fs (f ∷ []), one f h, count_front [] fs)
+pub plain_count : (first : ℕ) (fs : List (Fact ℕ)) (f : Fact ℕ) → IsPlain f → node_count_from first (fs ++ f ∷ []) ≡ node_count_from first fs
+plain_count first fs f h = omega (arith, count-append first fs (f ∷ []), one f h, count_front first [] fs)
   where
-    one : (f : Fact ℕ) → IsPlain f → node_count (f ∷ []) ≡ 1
+    one : (f : Fact ℕ) → IsPlain f → node_count_from first (f ∷ []) ≡ first
     one (Has x c) h = refl
     one (Apart x y) h = refl
     one (Same x y) h = refl
@@ -87,17 +87,17 @@ alternative_plain table b k f (of_parting y z) = tt
 module _ (w : SearchContext) (ds : List ℕ) where
   -- the nodes at most h deep
   abbrev pub deep : ℕ → List (Fact ℕ) → ℕ
-  deep h fs = count_below (node_count fs) (λ z. leb (level fs z) h)
+  deep h fs = count_below (node_count_from w.first fs) (λ z. leb (level fs z) h)
 
   -- what nodes at most h deep have asked for and got
   abbrev met_at : ℕ → List (Fact ℕ) → ℕ → ℕ
   met_at h fs x = cond (leb (level fs x) h) (count_in ds (is_met w fs x)) 0
 
   abbrev pub filled : ℕ → List (Fact ℕ) → ℕ
-  filled h fs = sum_below (node_count fs) (met_at h fs)
+  filled h fs = sum_below (node_count_from w.first fs) (met_at h fs)
 
   pub filled_most : (h : ℕ) (fs : List (Fact ℕ)) → filled h fs ≤ deep h fs * length ds
-  filled_most h fs = sum_passing (node_count fs) (length ds) (λ x. leb (level fs x) h) (λ x. count_in ds (is_met w fs x)) (λ x. in_most ds (is_met w fs x))
+  filled_most h fs = sum_passing (node_count_from w.first fs) (length ds) (λ x. leb (level fs x) h) (λ x. count_in ds (is_met w fs x)) (λ x. in_most ds (is_met w fs x))
 
   met_at_stays : (h : ℕ) (fs gs : List (Fact ℕ)) (x : ℕ) → level (fs ++ gs) x ≡ level fs x → met_at h fs x ≤ met_at h (fs ++ gs) x
   met_at_stays h fs gs x same = rw same (by_test (leb (level fs x) h) (in_le ds (is_met w fs x) (is_met w (fs ++ gs) x) (met_stays w fs gs x)))
@@ -107,21 +107,21 @@ module _ (w : SearchContext) (ds : List ℕ) where
       by_test false le = omega arith
 
   -- more facts fill no less
-  filled_le : (h : ℕ) (fs gs : List (Fact ℕ)) → ((v : ℕ) → v < node_count fs → level (fs ++ gs) v ≡ level fs v) → filled h fs ≤ filled h (fs ++ gs)
+  filled_le : (h : ℕ) (fs gs : List (Fact ℕ)) → ((v : ℕ) → v < node_count_from w.first fs → level (fs ++ gs) v ≡ level fs v) → filled h fs ≤ filled h (fs ++ gs)
   filled_le h fs gs same =
-      let n = node_count fs in
-      let m = node_count (fs ++ gs) in
-      let count = count_front fs gs in
+      let n = node_count_from w.first fs in
+      let m = node_count_from w.first (fs ++ gs) in
+      let count = count_front w.first fs gs in
       let first = sum_le n (met_at h fs) (met_at h (fs ++ gs)) (λ x lt. met_at_stays h fs gs x (same x lt)) in
       let more = sum_longer n (m - n) m (met_at h (fs ++ gs)) (omega arith) in
       omega arith
 
-  filled_more : (h : ℕ) (fs gs : List (Fact ℕ)) (x c : ℕ) → ((v : ℕ) → v < node_count fs → level (fs ++ gs) v ≡ level fs v) → x < node_count fs → level fs x ≤ h → list_any (eqb c) ds ≡ true
+  filled_more : (h : ℕ) (fs gs : List (Fact ℕ)) (x c : ℕ) → ((v : ℕ) → v < node_count_from w.first fs → level (fs ++ gs) v ≡ level fs v) → x < node_count_from w.first fs → level fs x ≤ h → list_any (eqb c) ds ≡ true
       → is_met w fs x c ≡ false → is_met w (fs ++ gs) x c ≡ true → filled h fs + 1 ≤ filled h (fs ++ gs)
   filled_more h fs gs x c same lt low at out here =
-      let n = node_count fs in
-      let m = node_count (fs ++ gs) in
-      let count = count_front fs gs in
+      let n = node_count_from w.first fs in
+      let m = node_count_from w.first (fs ++ gs) in
+      let count = count_front w.first fs gs in
       let up = in_more ds (is_met w fs x) (is_met w (fs ++ gs) x) c at (met_stays w fs gs x) out here in
       let a : met_at h fs x ≡ count_in ds (is_met w fs x) = ap (λ (b : Bool). cond b (count_in ds (is_met w fs x)) 0) (le-leb (level fs x) h low) in
       let b : met_at h (fs ++ gs) x ≡ count_in ds (is_met w (fs ++ gs) x) =
@@ -132,26 +132,26 @@ module _ (w : SearchContext) (ds : List ℕ) where
 
   deep_plain : (h : ℕ) (fs : List (Fact ℕ)) (f : Fact ℕ) → IsPlain f → deep h (fs ++ f ∷ []) ≡ deep h fs
   deep_plain h fs f p =
-      ap (λ (n : ℕ). count_below n (λ z. leb (level (fs ++ f ∷ []) z) h)) (plain_count fs f p)
-      ∙ count_agree (node_count fs) (λ z. leb (level (fs ++ f ∷ []) z) h) (λ z. leb (level fs z) h) (λ z lt. ap (λ (k : ℕ). leb k h) (plain_level fs f p z))
+      ap (λ (n : ℕ). count_below n (λ z. leb (level (fs ++ f ∷ []) z) h)) (plain_count w.first fs f p)
+      ∙ count_agree (node_count_from w.first fs) (λ z. leb (level (fs ++ f ∷ []) z) h) (λ z. leb (level fs z) h) (λ z lt. ap (λ (k : ℕ). leb k h) (plain_level fs f p z))
 
-  deep_old : (h : ℕ) (fs : List (Fact ℕ)) (x s e n : ℕ) → count_below (node_count fs) (λ z. leb (level (fs ++ fresh_facts x s e (node_count fs) n) z) h) ≡ deep h fs
+  deep_old : (h : ℕ) (fs : List (Fact ℕ)) (x s e n : ℕ) → count_below (node_count_from w.first fs) (λ z. leb (level (fs ++ fresh_facts x s e (node_count_from w.first fs) n) z) h) ≡ deep h fs
   deep_old h fs x s e n =
-      count_agree (node_count fs) (λ z. leb (level (fs ++ fresh_facts x s e (node_count fs) n) z) h) (λ z. leb (level fs z) h) (λ z lt. ap (λ (k : ℕ). leb k h) (fresh_old fs x s e n z lt))
+      count_agree (node_count_from w.first fs) (λ z. leb (level (fs ++ fresh_facts x s e (node_count_from w.first fs) n) z) h) (λ z. leb (level fs z) h) (λ z lt. ap (λ (k : ℕ). leb k h) (fresh_old w.first fs x s e n z lt))
 
   -- new nodes count where the node above them is less deep
-  deep_make : (h : ℕ) (fs : List (Fact ℕ)) (x s e n : ℕ) → deep h (fs ++ fresh_facts x s e (node_count fs) (suc n)) ≤ deep h fs + suc n
+  deep_make : (h : ℕ) (fs : List (Fact ℕ)) (x s e n : ℕ) → deep h (fs ++ fresh_facts x s e (node_count_from w.first fs) (suc n)) ≤ deep h fs + suc n
   deep_make h fs x s e n =
-      let gs = fresh_facts x s e (node_count fs) (suc n) in
-      let longer = count_longer (node_count fs) (suc n) (node_count (fs ++ gs)) (λ z. leb (level (fs ++ gs) z) h) (count-fresh fs x s e (suc n)) in
+      let gs = fresh_facts x s e (node_count_from w.first fs) (suc n) in
+      let longer = count_longer (node_count_from w.first fs) (suc n) (node_count_from w.first (fs ++ gs)) (λ z. leb (level (fs ++ gs) z) h) (count-fresh w.first fs x s e (suc n)) in
       omega (arith, deep_old h fs x s e (suc n))
 
-  deep_make_none : (h : ℕ) (fs : List (Fact ℕ)) (x s e n : ℕ) → x < node_count fs → h ≤ level fs x → deep h (fs ++ fresh_facts x s e (node_count fs) (suc n)) ≡ deep h fs
+  deep_make_none : (h : ℕ) (fs : List (Fact ℕ)) (x s e n : ℕ) → x < node_count_from w.first fs → h ≤ level fs x → deep h (fs ++ fresh_facts x s e (node_count_from w.first fs) (suc n)) ≡ deep h fs
   deep_make_none h fs x s e n lt high =
-      let gs = fresh_facts x s e (node_count fs) (suc n) in
-      let count = count-fresh fs x s e (suc n) in
-      count_no_more (node_count fs) (suc n) (node_count (fs ++ gs)) (λ z. leb (level (fs ++ gs) z) h) count (λ y from before.
-      let up = fresh_new fs x s e (suc n) y lt from (omega arith) in
+      let gs = fresh_facts x s e (node_count_from w.first fs) (suc n) in
+      let count = count-fresh w.first fs x s e (suc n) in
+      count_no_more (node_count_from w.first fs) (suc n) (node_count_from w.first (fs ++ gs)) (λ z. leb (level (fs ++ gs) z) h) count (λ y from before.
+      let up = fresh_new w.first fs x s e (suc n) y lt from (omega arith) in
       false_from_ne_true (leb (level (fs ++ gs) y) h) (λ k. absurd (omega (arith, leb-true (level (fs ++ gs) y) h k, up))))
       ∙ deep_old h fs x s e (suc n)
 
@@ -162,7 +162,7 @@ module _ (w : SearchContext) (ds : List ℕ) where
   room zero fs = 0
   room (suc h) fs = filled h fs
 
-  room_le : (h : ℕ) (fs gs : List (Fact ℕ)) → ((v : ℕ) → v < node_count fs → level (fs ++ gs) v ≡ level fs v) → room h fs ≤ room h (fs ++ gs)
+  room_le : (h : ℕ) (fs gs : List (Fact ℕ)) → ((v : ℕ) → v < node_count_from w.first fs → level (fs ++ gs) v ≡ level fs v) → room h fs ≤ room h (fs ++ gs)
   room_le zero fs gs same = omega arith
   room_le (suc h) fs gs same = filled_le h fs gs same
 
@@ -185,7 +185,7 @@ module _ (w : SearchContext) (ds : List ℕ) where
   fits_make g h fs new k itself few at fits =
       let s = by_role (shape_of w.table k.by) in
       let e = with_concept (shape_of w.table k.by) in
-      let same : (v : ℕ) → v < node_count fs → level (fs ++ new) v ≡ level fs v = λ v lt. ap (λ (gs : List (Fact ℕ)). level (fs ++ gs) v) k.is_new ∙ fresh_old fs k.at s e (suc k.more) v lt in
+      let same : (v : ℕ) → v < node_count_from w.first fs → level (fs ++ new) v ≡ level fs v = λ v lt. ap (λ (gs : List (Fact ℕ)). level (fs ++ gs) v) k.is_new ∙ fresh_old w.first fs k.at s e (suc k.more) v lt in
       let after = met_after w fs new k itself in
       elim (cases_lt (level fs k.at) h) [
         | inr high ↦
@@ -195,7 +195,7 @@ module _ (w : SearchContext) (ds : List ℕ) where
         | inl low ↦ rises h low same after fits
       ]
     where
-      rises : (h : ℕ) → level fs k.at < h → ((v : ℕ) → v < node_count fs → level (fs ++ new) v ≡ level fs v) → is_met w (fs ++ new) k.at k.by ≡ true → Fits g h fs → Fits g h (fs ++ new)
+      rises : (h : ℕ) → level fs k.at < h → ((v : ℕ) → v < node_count_from w.first fs → level (fs ++ new) v ≡ level fs v) → is_met w (fs ++ new) k.at k.by ≡ true → Fits g h fs → Fits g h (fs ++ new)
       rises zero lt same after fits' = absurd (omega arith)
       rises (suc h') lt same after fits' =
           let d = ap (λ (gs : List (Fact ℕ)). deep (suc h') (fs ++ gs)) k.is_new in

@@ -1,6 +1,6 @@
 -- The laws on nodes and on all steps.
 use Rattle.std.proofs.Common.{◌≡◌, ℕ, zero, suc, ◌+◌, ◌*◌, ◌^◌, ◌<◌, ◌≤◌, ◌||◌, eqb, true, List, [], ◌∷◌, ◌++◌, map, length, refl, ap, ◌∙◌, sym, subst, arith, inl, inr}
-use Rattle.std.specs.List.{list_any, filter, range_with_len}
+use Rattle.std.specs.List.{list_any, filter, flat_map, range_with_len}
 use Rattle.std.proofs.lemmas.Bool.{cases_Bool, or_cases, eqb-true}
 use Rattle.std.proofs.lemmas.List.{length-map}
 use Rattle.std.proofs.lemmas.Nat.{mul-le}
@@ -12,31 +12,34 @@ use Rattle.calculus_specs.specs.Same.{is_same}
 use Rattle.calculus_specs.specs.Shape.{Shape, shape_of, IsTable}
 use Rattle.calculus_specs.specs.Shape.Shape.{top as top_shape, union as union_shape, at_least as least_shape}
 use Rattle.calculus_specs.specs.Tree.{tree_of, tree_over, trees_of}
-use Rattle.calculus_specs.specs.Rows.{Theory, Row}
+use Rattle.calculus_specs.specs.Rows.{Row}
+use Rattle.calculus_specs.specs.Rules.{Question}
 use Rattle.calculus_specs.proofs.Same.{same_to_eq}
 use Rattle.calculus_specs.proofs.Unique.{tree_of_shape}
 use Rattle.calculus_specs.specs.declared.facts.Fact.{Fact}
 use Rattle.calculus_specs.specs.declared.facts.Fact.TheVariants.{Has}
-use Rattle.calculus_specs.specs.State.{node_count}
+use Rattle.calculus_specs.specs.State.{node_count_from}
 use Rattle.tableau_specs.specs.declared.Branch.{Branch}
 use Rattle.tableau_specs.specs.declared.Branch.TheVariants.{Or, Choose, Pair}
 use Rattle.tableau_specs.specs.declared.Item.{Item}
 use Rattle.tableau_specs.specs.declared.Item.TheVariants.{Fact as Says, Mark}
 use Rattle.tableau_specs.specs.Items.{facts_of}
-use Rattle.tableau_specs.specs.Steps.{SearchContext, MayBranch, IsAlternative}
+use Rattle.tableau_specs.specs.Steps.{SearchContext, IsGiven, MayBranch, IsAlternative}
 use Rattle.tableau_specs.specs.Steps.MayBranch.{on_union, on_filler, on_pair}
 use Rattle.tableau_specs.specs.Steps.IsAlternative.{of_union, of_filler, of_complement, of_joining, of_parting}
-use Rattle.tableau_specs.specs.Reached.{start, IsReached}
+use Rattle.tableau_specs.specs.Reached.{start, context_of, IsReached}
 use Rattle.tableau_specs.proofs.TreeShaped.{origin_is_node, origin_of_parent}
 use Rattle.tableau_specs.proofs.Listed.{listed}
 use Rattle.tableau_specs.proofs.Reached.{reached_built}
 use Rattle.search_laws.specs.Closure.{IsClosure, asked_by, choices_of, most_made, most_parts, node_bound, step_bound}
-use Rattle.search_laws.specs.BoundLaws.{HasPath, RolesAreBelowThemselves, children, PathsAreShort, FewChildren, FewNodes, FewSteps, LegalRunsAreBounded}
+use Rattle.search_laws.specs.BoundLaws.{HasNoFacts, HasPath, RolesAreBelowThemselves, children, PathsAreShort, FewChildren, FewNodes, FewSteps, LegalRunsAreBounded}
 use Rattle.search_laws.specs.BoundLaws.HasPath.{from_first, below}
 use Rattle.calculus_specs.proofs.Unique.{part_list-parts_of}
 use Rattle.search_laws.proofs.Grown.{IsGrown, facts_of-append}
-use Rattle.search_laws.proofs.Grown.IsGrown.{at_first, by_add, by_make, by_choice}
+use Rattle.search_laws.proofs.Grown.IsGrown.{at_first, by_add, by_give, by_make, by_choice}
 use Rattle.search_laws.proofs.Rising.{AreIn, in_front, given_most, joined_most, parted_most}
+use Rattle.search_laws.proofs.Given.{IsGiveCount}
+use Rattle.search_laws.proofs.GivenFacts.{member_among, among_member, facts_of_none, fact_contained}
 use Rattle.search_laws.proofs.Tally.{tally, facts_after}
 use Rattle.search_laws.proofs.KeptSteps.{keeping, one_step}
 use Rattle.search_laws.proofs.Numbers.{numbers_of, few_numbers}
@@ -49,12 +52,13 @@ use Rattle.search_laws.proofs.Sums.{count_in, in_most}
 use Rattle.search_laws.proofs.Asked.{is_met}
 use Rattle.search_laws.proofs.Children.{born}
 use Rattle.search_laws.proofs.BoundComputed.{closure_is_computed}
-use Rattle.search_laws.specs.ComputedClosure.{transitive_roles, closure_of}
+use Rattle.search_laws.specs.ComputedClosure.{given_concept, transitive_roles, given_facts, closure_of, IsComputed, ClosureOfAxiomsIsComputed}
 use Rattle.role_box.specs.declared.role_axiom.RoleAxiom.{RoleAxiom}
 use Rattle.role_box.specs.declared.role_axiom.RoleAxiom.TheVariants.{Inclusion, Equivalence, Transitivity}
 use Rattle.role_box.specs.RoleAxioms.{role_axioms}
 use Rattle.role_box.specs.Steps.{is_transitive}
-use Rattle.refutation_truth.specs.Theory.{theory_of}
+use Rattle.shq_terms.specs.declared.axioms.Query.{Query}
+use Rattle.refutation_truth.specs.Theory.{theory_of, question_of}
 use Rattle.calculus_specs.proofs.State.{eqb-comm}
 use Rattle.calculus_specs.specs.Roles.{itself as chain_of_one}
 use Rattle.role_box.proofs.Limits.{test_is_below}
@@ -143,17 +147,20 @@ module _ (w : SearchContext) (cs : List Concept) (good : IsTable w.table) where
   small_more n [] ms h g = g
   small_more n (m ∷ ns) ms h g = (h.0, small_more n ns ms h.1 g)
 
-  small : (a b : ℕ) (ns : List ℕ) (trail : List Item) → IsGrown w (start a b) ns trail → AreIn ds (facts_of trail) → AreAtMost (most_parts cs) ns
-  small a b ns trail at_first all = tt
-  small a b ns trail (by_add ms old x d g adds out) all =
+  small : (at a b : ℕ) (ns : List ℕ) (trail : List Item) → IsGrown w (start at a b) ns trail → AreIn ds (facts_of trail) → AreAtMost (most_parts cs) ns
+  small at a b ns trail at_first all = tt
+  small at a b ns trail (by_add ms old x d g adds out) all =
       let all' = in_front ds (facts_of old) (Has x d ∷ []) (subst (AreIn ds) (facts_after old (Has x d ∷ [])) all) in
-      small_more (most_parts cs) ms (1 ∷ []) (small a b ms old g all') (omega (arith, parts_two cs), tt)
-  small a b ns trail (by_make ms old new g makes) all =
+      small_more (most_parts cs) ms (1 ∷ []) (small at a b ms old g all') (omega (arith, parts_two cs), tt)
+  small at a b ns trail (by_give ms old f g is_given out) all =
+      let all' = in_front ds (facts_of old) (f ∷ []) (subst (AreIn ds) (facts_after old (f ∷ [])) all) in
+      small_more (most_parts cs) ms (1 ∷ []) (small at a b ms old g all') (omega (arith, parts_two cs), tt)
+  small at a b ns trail (by_make ms old new g makes) all =
       let all' = in_front ds (facts_of old) new (subst (AreIn ds) (facts_after old new) all) in
-      small_more (most_parts cs) ms (1 ∷ []) (small a b ms old g all') (omega (arith, parts_two cs), tt)
-  small a b ns trail (by_choice ms old c f g may alt) all =
+      small_more (most_parts cs) ms (1 ∷ []) (small at a b ms old g all') (omega (arith, parts_two cs), tt)
+  small at a b ns trail (by_choice ms old c f g may alt) all =
       let all' = in_front ds (facts_of old) (f ∷ []) (subst (AreIn ds) (facts_of-append old (Mark c ∷ Says f ∷ [])) all) in
-      small_more (most_parts cs) ms (c.alternative ∷ []) (small a b ms old g all') (alternative_few c.branch c.alternative f alt (branch_few (facts_of old) c.branch all' may), tt)
+      small_more (most_parts cs) ms (c.alternative ∷ []) (small at a b ms old g all') (alternative_few c.branch c.alternative f alt (branch_few (facts_of old) c.branch all' may), tt)
 
 -- ---- the laws
 
@@ -163,26 +170,47 @@ power_le c d le = pow-le-pow_right (omega arith) le
 base_le : (b m n : ℕ) → m ≤ n → (b + 1) ^ m ≤ (b + 1) ^ n
 base_le b m n le = pow-le-pow_right (omega arith) le
 
+-- no fact is given in a search for what no axiom gives a fact of
+none_given : (q : Question) (table : List Shape) (rows : List Row) → HasNoFacts q → (f : Fact ℕ) → ¬ IsGiven (context_of q table rows) f
+none_given q table rows none f g = (let h = sym (none g.axiom_number g.place) ∙ g.is_there in cc)
+
+counts_none : (w : SearchContext) → ((f : Fact ℕ) → ¬ IsGiven w f) → IsGiveCount w (λ fs. 0)
+counts_none w none = record { not_less = λ fs gs. omega arith; more = λ fs f given out. absurd (none f given) }
+
 pub paths_are_short : PathsAreShort
-paths_are_short theory sub sup cs table rows k trail closed r x n path =
-    let w : SearchContext = record { theory = theory; table = table; rows = rows } in
+paths_are_short q cs table rows k trail no_facts closed r x n path =
+    let w : SearchContext = context_of q table rows in
+    let none = none_given q table rows no_facts in
     let ds = numbers_of table cs in
     let fs = facts_of trail in
-    let keep = keeping w r.sub_number r.not_sup_number k trail r.follows in
-    let built = reached_built w r.sub_number r.not_sup_number k trail r.follows in
-    let all = numbers_in theory sub sup cs table rows k trail closed r in
-    let l = (levels_built trail built).1 in
-    let h = low w r.sub_number r.not_sup_number ds keep.numbers trail keep.grown built all x (path_node fs x n path) in
+    let keep = keeping w q.at r.sub_number r.not_sup_number k trail r.follows in
+    let built = reached_built w q.at r.sub_number r.not_sup_number k trail r.at_first r.follows in
+    let all = numbers_in q cs table rows k trail closed r in
+    let l = (levels_built w none trail built).1 in
+    let h = low w none q.at r.sub_number r.not_sup_number ds keep.numbers trail keep.grown built all x (path_node q.first fs x n path) in
     let p = power_le (length ds) (length cs) (few_numbers table cs r.is_table) in
-    omega (arith, path_level fs l x n path)
+    omega (arith, path_level q.first fs l x n path)
   where
-    path_node : (fs : List (Fact ℕ)) (x n : ℕ) → HasPath fs x n → x < node_count fs
-    path_node fs x n (from_first x' first) = first.is_node
-    path_node fs x n (below x' p m h rest) = origin_is_node fs x' p (origin_of_parent fs x' p h)
+    path_node : (first : ℕ) (fs : List (Fact ℕ)) (x n : ℕ) → HasPath first fs x n → x < node_count_from first fs
+    path_node first fs x n (from_first x' is_first) = is_first.is_node
+    path_node first fs x n (below x' p m h rest) = origin_is_node first fs x' p (origin_of_parent first fs x' p h).1
 
-module _ (theory : Theory) (sub sup : Concept) (cs : List Concept) (table : List Shape) (rows : List Row) (itself : RolesAreBelowThemselves theory) (closed : IsClosure theory sub sup cs) where
+module _ (q : Question) (cs : List Concept) (table : List Shape) (rows : List Row) (itself : RolesAreBelowThemselves q.theory) (closed : IsClosure q cs) where
   abbrev context : SearchContext
-  context = record { theory = theory; table = table; rows = rows }
+  context = context_of q table rows
+
+  few_below : (k : ℕ) (trail : List Item) → IsReached q table rows k trail → (x : ℕ) → children q.first (facts_of trail) x ≤ length cs * most_made cs
+  few_below k trail r x =
+      let ds = numbers_of table cs in
+      let fs = facts_of trail in
+      let keep = keeping context q.at r.sub_number r.not_sup_number k trail r.follows in
+      let all = numbers_in q cs table rows k trail closed r in
+      let b = born context ds (most_made cs) x q.at r.sub_number r.not_sup_number (made_some cs) itself r.is_table.begins_with_top (asked_few context cs r.is_table) keep.numbers trail keep.grown all in
+      let c = in_most ds (is_met context fs x) in
+      let le = few_numbers table cs r.is_table in
+      let up = mul-le (most_made cs) (count_in ds (is_met context fs x)) (most_made cs) (length cs) (omega arith) (omega arith) in
+      let turn : length cs * most_made cs ≡ most_made cs * length cs = grind arith in
+      omega arith
 
   abbrev m : ℕ
   m = node_bound (length cs) (most_made cs)
@@ -190,98 +218,92 @@ module _ (theory : Theory) (sub sup : Concept) (cs : List Concept) (table : List
   abbrev most : ℕ
   most = m * (m + length cs + 2)
 
-  few : (k : ℕ) (trail : List Item) → IsReached theory sub sup table rows k trail → node_count (facts_of trail) ≤ m
-  few k trail r =
-      let ds = numbers_of table cs in
-      let a = r.sub_number in
-      let b = r.not_sup_number in
-      let fs = facts_of trail in
-      let keep = keeping context a b k trail r.follows in
-      let built = reached_built context a b k trail r.follows in
-      let all = numbers_in theory sub sup cs table rows k trail closed r in
-      let l = (levels_built trail built).1 in
-      let some = made_some cs in
-      let lows = low context a b ds keep.numbers trail keep.grown built all in
-      let fit = λ (h : ℕ). fits context a b ds (most_made cs) some itself r.is_table.begins_with_top (asked_few context cs r.is_table) h keep.numbers trail keep.grown all in
-      let le = few_numbers table cs r.is_table in
-      let nodes = nodes_few context a b ds (most_made cs) some itself r.is_table.begins_with_top (asked_few context cs r.is_table) fs (length cs) le l fit lows in
-      let p = power_le (length ds) (length cs) le in
-      let q = base_le (length cs * most_made cs) (2 ^ length ds) (2 ^ length cs + 2) (omega arith) in
-      omega arith
+  -- ---- where node 0 is the only first node, and no fact is given
 
-  -- a reached trail keeps few steps
-  short : (k : ℕ) (trail : List Item) (r : IsReached theory sub sup table rows k trail) (ns : List ℕ) → IsGrown context (start r.sub_number r.not_sup_number) ns trail → length ns ≤ most
-  short k trail r ns grown =
-      let ds = numbers_of table cs in
-      let fs = facts_of trail in
-      let v = node_count fs in
-      let t = tally context r.sub_number r.not_sup_number ds v ns trail grown (omega arith) (numbers_in theory sub sup cs table rows k trail closed r) in
-      let some = t.steps in
-      let g = given_most ds v fs in
-      let j = joined_most ds v fs in
-      let p = parted_most ds v fs in
-      let c = mul_le v (length ds) (length cs) (few_numbers table cs r.is_table) in
-      let e : v * (v + length cs + 2) ≡ v * v + v * length cs + v + v = split v (length cs) in
-      let nodes = few k trail r in
-      let up = mul-le v (v + length cs + 2) m (m + length cs + 2) nodes (omega arith) in
-      omega arith
-    where
-      split : (v c : ℕ) → v * (v + c + 2) ≡ v * v + v * c + v + v
-      split v c = grind arith
+  module _ (one : q.first ≡ 1) (no_facts : HasNoFacts q) where
+    few : (k : ℕ) (trail : List Item) → IsReached q table rows k trail → node_count_from q.first (facts_of trail) ≤ m
+    few k trail r =
+        let none = none_given q table rows no_facts in
+        let ds = numbers_of table cs in
+        let a = r.sub_number in
+        let b = r.not_sup_number in
+        let fs = facts_of trail in
+        let keep = keeping context q.at a b k trail r.follows in
+        let built = reached_built context q.at a b k trail r.at_first r.follows in
+        let all = numbers_in q cs table rows k trail closed r in
+        let l = (levels_built context none trail built).1 in
+        let some = made_some cs in
+        let lows = low context none q.at a b ds keep.numbers trail keep.grown built all in
+        let fit = λ (h : ℕ). fits context none q.at a b ds one (most_made cs) some itself r.is_table.begins_with_top (asked_few context cs r.is_table) h keep.numbers trail keep.grown all in
+        let le = few_numbers table cs r.is_table in
+        let nodes = nodes_few context none q.at a b ds one (most_made cs) some itself r.is_table.begins_with_top (asked_few context cs r.is_table) fs (length cs) le l fit lows in
+        let p = power_le (length ds) (length cs) le in
+        let q = base_le (length cs * most_made cs) (2 ^ length ds) (2 ^ length cs + 2) (omega arith) in
+        omega arith
 
-  record IsClimb (a b k : ℕ) (trail : List Item) : Type 0 where
-    numbers : List ℕ
-    grown : IsGrown context (start a b) numbers trail
-    climbed : k ≤ value (most_parts cs) most numbers
+    -- a reached trail keeps few steps
+    short : (k : ℕ) (trail : List Item) (r : IsReached q table rows k trail) (ns : List ℕ) → IsGrown context (start q.at r.sub_number r.not_sup_number) ns trail → length ns ≤ most
+    short k trail r ns grown =
+        let ds = numbers_of table cs in
+        let fs = facts_of trail in
+        let v = node_count_from q.first fs in
+        let counts = counts_none context (none_given q table rows no_facts) in
+        let t = tally context q.at r.sub_number r.not_sup_number r.at_first ds (λ gs. 0) counts v ns trail grown (omega arith) (numbers_in q cs table rows k trail closed r) in
+        let some = t.steps in
+        let g = given_most ds v fs in
+        let j = joined_most ds v fs in
+        let p = parted_most ds v fs in
+        let c = mul_le v (length ds) (length cs) (few_numbers table cs r.is_table) in
+        let e : v * (v + length cs + 2) ≡ v * v + v * length cs + v + v = split v (length cs) in
+        let nodes = few k trail r in
+        let up = mul-le v (v + length cs + 2) m (m + length cs + 2) nodes (omega arith) in
+        omega arith
+      where
+        split : (v c : ℕ) → v * (v + c + 2) ≡ v * v + v * c + v + v
+        split v c = grind arith
 
-  climb : (k : ℕ) (trail : List Item) (r : IsReached theory sub sup table rows k trail) → IsClimb r.sub_number r.not_sup_number k trail
-  climb zero trail r = let keep = keeping context r.sub_number r.not_sup_number 0 trail r.follows in record { numbers = keep.numbers; grown = keep.grown; climbed = omega arith }
-  climb (suc k) trail r =
-      let old = r.follows.0 in
-      let before : IsReached theory sub sup table rows k old = record {
-        is_table = r.is_table;
-        is_choice = r.is_choice;
-        sub_number = r.sub_number;
-        sub_listed = r.sub_listed;
-        sub_reads = r.sub_reads;
-        not_sup_number = r.not_sup_number;
-        not_sup_listed = r.not_sup_listed;
-        not_sup_reads = r.not_sup_reads;
-        follows = r.follows.1;
-      } in
-      let c = climb k old before in
-      let next = one_step context r.sub_number r.not_sup_number c.numbers old trail c.grown r.follows.2 in
-      let digits = small context cs r.is_table r.sub_number r.not_sup_number c.numbers old c.grown (numbers_in theory sub sup cs table rows k old closed before) in
-      let up = value_rises (most_parts cs) most c.numbers next.numbers next.is_next digits (short (suc k) trail r next.numbers next.grown) in
-      record { numbers = next.numbers; grown = next.grown; climbed = omega (arith, c.climbed) }
+    record IsClimb (at a b k : ℕ) (trail : List Item) : Type 0 where
+      numbers : List ℕ
+      grown : IsGrown context (start at a b) numbers trail
+      climbed : k ≤ value (most_parts cs) most numbers
 
-  all_steps : (k : ℕ) (trail : List Item) → IsReached theory sub sup table rows k trail → k ≤ step_bound cs
-  all_steps k trail r =
-      let c = climb k trail r in
-      let digits = small context cs r.is_table r.sub_number r.not_sup_number c.numbers trail c.grown (numbers_in theory sub sup cs table rows k trail closed r) in
-      omega (arith, c.climbed, value_below (most_parts cs) most c.numbers digits)
+    climb : (k : ℕ) (trail : List Item) (r : IsReached q table rows k trail) → IsClimb q.at r.sub_number r.not_sup_number k trail
+    climb zero trail r = let keep = keeping context q.at r.sub_number r.not_sup_number 0 trail r.follows in record { numbers = keep.numbers; grown = keep.grown; climbed = omega arith }
+    climb (suc k) trail r =
+        let old = r.follows.0 in
+        let before : IsReached q table rows k old = record {
+          is_table = r.is_table;
+          is_choice = r.is_choice;
+          facts_have_numbers = r.facts_have_numbers;
+          at_first = r.at_first;
+          sub_number = r.sub_number;
+          sub_listed = r.sub_listed;
+          sub_reads = r.sub_reads;
+          not_sup_number = r.not_sup_number;
+          not_sup_listed = r.not_sup_listed;
+          not_sup_reads = r.not_sup_reads;
+          follows = r.follows.1;
+        } in
+        let c = climb k old before in
+        let next = one_step context q.at r.sub_number r.not_sup_number c.numbers old trail c.grown r.follows.2 in
+        let digits = small context cs r.is_table q.at r.sub_number r.not_sup_number c.numbers old c.grown (numbers_in q cs table rows k old closed before) in
+        let up = value_rises (most_parts cs) most c.numbers next.numbers next.is_next digits (short (suc k) trail r next.numbers next.grown) in
+        record { numbers = next.numbers; grown = next.grown; climbed = omega (arith, c.climbed) }
 
-  few_below : (k : ℕ) (trail : List Item) → IsReached theory sub sup table rows k trail → (x : ℕ) → children (facts_of trail) x ≤ length cs * most_made cs
-  few_below k trail r x =
-      let ds = numbers_of table cs in
-      let fs = facts_of trail in
-      let keep = keeping context r.sub_number r.not_sup_number k trail r.follows in
-      let all = numbers_in theory sub sup cs table rows k trail closed r in
-      let b = born context ds (most_made cs) x r.sub_number r.not_sup_number (made_some cs) itself r.is_table.begins_with_top (asked_few context cs r.is_table) keep.numbers trail keep.grown all in
-      let c = in_most ds (is_met context fs x) in
-      let le = few_numbers table cs r.is_table in
-      let up = mul-le (most_made cs) (count_in ds (is_met context fs x)) (most_made cs) (length cs) (omega arith) (omega arith) in
-      let turn : length cs * most_made cs ≡ most_made cs * length cs = grind arith in
-      omega arith
+    all_steps : (k : ℕ) (trail : List Item) → IsReached q table rows k trail → k ≤ step_bound cs
+    all_steps k trail r =
+        let c = climb k trail r in
+        let digits = small context cs r.is_table q.at r.sub_number r.not_sup_number c.numbers trail c.grown (numbers_in q cs table rows k trail closed r) in
+        omega (arith, c.climbed, value_below (most_parts cs) most c.numbers digits)
 
 pub few_nodes : FewNodes
-few_nodes theory sub sup cs table rows k trail itself closed r = few theory sub sup cs table rows itself closed k trail r
+few_nodes q cs table rows k trail one no_facts itself closed r = few q cs table rows itself closed one no_facts k trail r
 
 pub few_steps : FewSteps
-few_steps theory sub sup cs table rows k trail itself closed r = all_steps theory sub sup cs table rows itself closed k trail r
+few_steps q cs table rows k trail one no_facts itself closed r = all_steps q cs table rows itself closed one no_facts k trail r
 
 pub few_children : FewChildren
-few_children theory sub sup cs table rows k trail itself closed r x = few_below theory sub sup cs table rows itself closed k trail r x
+few_children q cs table rows k trail itself closed r x = few_below q cs table rows itself closed k trail r x
 
 -- ---- over axioms
 
@@ -294,14 +316,32 @@ transitive_among (Equivalence rs ∷ axioms) t = transitive_among axioms t
 below_itself : (axioms : List Numbered) (ks : List ℕ) → RolesAreBelowThemselves (theory_of axioms ks)
 below_itself axioms ks s = (test_is_below (role_axioms axioms ks) s s).1 (chain_of_one s)
 
+module _ (n : ℕ) (axioms : List Numbered) (ks : List ℕ) (q : Query) where
+  closed_of_axioms : IsClosure (question_of n axioms ks q) (closure_of n axioms ks q)
+  closed_of_axioms =
+      let same = transitive_among (role_axioms axioms ks) in
+      closure_is_computed (question_of n axioms ks q) (transitive_roles (role_axioms axioms ks)) (flat_map given_concept (given_facts n axioms ks))
+      (λ t. (λ h. sym (same t) ∙ h, λ h. same t ∙ h))
+      (λ c. (λ m. member_among n axioms ks q c m, λ h. among_member n axioms ks q c h))
+
+  -- where no individual is listed, no fact is given
+  no_facts : n ≡ 0 → HasNoFacts (question_of n axioms ks q)
+  no_facts none a p = facts_of_none n axioms ks none a p
+
+  pub is_computed : IsComputed n axioms ks q
+  is_computed = record { facts = λ a p f e. fact_contained n axioms ks a p f e; concepts = closed_of_axioms }
+
+pub closure_of_axioms_is_computed : ClosureOfAxiomsIsComputed
+closure_of_axioms_is_computed = is_computed
+
 pub legal_runs_are_bounded : LegalRunsAreBounded
-legal_runs_are_bounded axioms ks q table rows k trail r =
-    let theory = theory_of axioms ks in
-    let cs = closure_of axioms ks q in
-    let same = transitive_among (role_axioms axioms ks) in
-    let closed = closure_is_computed theory (transitive_roles (role_axioms axioms ks)) q.sub q.sup (λ t. (λ h. sym (same t) ∙ h, λ h. same t ∙ h)) in
+legal_runs_are_bounded n axioms ks q table rows k trail r =
+    let asked = question_of n axioms ks q in
+    let cs = closure_of n axioms ks q in
+    let facts = given_facts n axioms ks in
+    let c = is_computed n axioms ks q in
     record {
-      all_steps = few_steps theory q.sub q.sup cs table rows k trail (below_itself axioms ks) closed r;
-      steps_at_first = few_steps_at_first theory q.sub q.sup cs table rows k trail closed r;
-      marks = few_marks theory q.sub q.sup cs table rows k trail closed r;
+      all_steps = λ none. few_steps asked cs table rows k trail (omega (arith, none)) (no_facts n axioms ks q none) (below_itself axioms ks) c.concepts r;
+      steps_at_first = few_steps_at_first asked cs facts table rows k trail c.concepts c.facts r;
+      marks = few_marks asked cs table rows k trail c.concepts r;
     }

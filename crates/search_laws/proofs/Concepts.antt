@@ -1,17 +1,18 @@
 -- The concepts of a reached trail are in the closure.
-use Rattle.std.proofs.Common.{◌≡◌, ℕ, suc, eqb, List, [], ◌∷◌, Some, None, refl, ap, sym, subst, arith, inl, inr}
+use Rattle.std.proofs.Common.{◌≡◌, ℕ, suc, eqb, List, [], ◌∷◌, Some, None, refl, sym, subst, arith, inl, inr}
 use Rattle.std.specs.List.{list_any, find, Contains}
 use Rattle.std.specs.Option.{option_map}
 use Rattle.std.proofs.lemmas.Bool.{cases_Bool}
-use Rattle.shq_terms.specs.Concept.{Concept, parts_of, part_list}
-use Rattle.calculus_specs.specs.Rows.{Part, NumberedPart, Theory, Trigger, part_at, is_numbered, row_of, row_concept, are_name_positions, is_some_of}
+use Rattle.shq_terms.specs.Concept.{Concept, parts_of}
+use Rattle.calculus_specs.specs.Rows.{Part, NumberedPart, Trigger, part_at, is_numbered, row_of, row_concept, are_name_positions, is_some_of}
 use Rattle.calculus_specs.specs.Rows.Part.{inclusion, range}
 use Rattle.calculus_specs.specs.Rows.Trigger.{always, names, edge, end_of}
+use Rattle.calculus_specs.specs.Rules.{Question}
 use Rattle.calculus_specs.proofs.Unique.{part_list-parts_of}
 use Rattle.tableau_specs.specs.KeptKinds.{IsKept}
 use Rattle.tableau_specs.proofs.KeptKinds.{concepts_right}
 use Rattle.search_laws.specs.Closure.{IsInClosure}
-use Rattle.search_laws.specs.Closure.IsInClosure.{has_top, has_sub, has_not_sup, has_row, has_range, has_conjunct, has_disjunct, has_some, has_all, has_least, has_most, has_other, has_carried}
+use Rattle.search_laws.specs.Closure.IsInClosure.{has_top, has_sub, has_not_sup, has_row, has_range, has_member, has_conjunct, has_disjunct, has_some, has_all, has_least, has_most, has_other, has_carried}
 use Rattle.search_laws.specs.BoundLaws.{ConceptsAreInClosure}
 
 -- ---- the part that a row names is one of the parts
@@ -30,18 +31,18 @@ found a p (n ∷ ns) q h = elim (cases_Bool (is_numbered a p n)) [
       record { numbered = later.numbered; is_there = (suc later.is_there.0, omega (arith, later.is_there.1), later.is_there.2); is_it = later.is_it }
 ]
 
-module _ (theory : Theory) (sub sup : Concept) where
+module _ (q : Question) where
   abbrev In : Concept → Type 0
-  In c = IsInClosure theory sub sup c
+  In c = IsInClosure q c
 
-  row_in : (a p : ℕ) (q : Part) (t : Trigger) (c : Concept) → part_at theory a p ≡ Some q → row_of q t ≡ Some c → In c
+  row_in : (a p : ℕ) (part : Part) (t : Trigger) (c : Concept) → part_at q.theory a p ≡ Some part → row_of part t ≡ Some c → In c
   row_in a p (inclusion cs d) always c h r =
-      let f = found a p theory.parts (inclusion cs d) h in
+      let f = found a p q.theory.parts (inclusion cs d) h in
       let e : row_concept cs d [] ≡ c = cc in
       subst In e (has_row f.numbered cs d [] f.is_there f.is_it refl)
   row_in a p (inclusion cs d) (names positions) c h r = elim (cases_Bool (are_name_positions cs positions)) [
     | inl good ↦
-        let f = found a p theory.parts (inclusion cs d) h in
+        let f = found a p q.theory.parts (inclusion cs d) h in
         let k : Some (row_concept cs d positions) ≡ Some c = rw good at r in
         let e : row_concept cs d positions ≡ c = cc in
         subst In e (has_row f.numbered cs d positions f.is_there f.is_it good)
@@ -49,7 +50,7 @@ module _ (theory : Theory) (sub sup : Concept) where
   ]
   row_in a p (inclusion cs d) (edge s) c h r = elim (cases_Bool (list_any (is_some_of s) cs)) [
     | inl good ↦
-        let f = found a p theory.parts (inclusion cs d) h in
+        let f = found a p q.theory.parts (inclusion cs d) h in
         let k : Some (row_concept cs d []) ≡ Some c = rw good at r in
         let e : row_concept cs d [] ≡ c = cc in
         subst In e (has_row f.numbered cs d [] f.is_there f.is_it refl)
@@ -61,14 +62,14 @@ module _ (theory : Theory) (sub sup : Concept) where
   row_in a p (range s d) (edge t) c h r = absurd (cc)
   row_in a p (range s d) (end_of t) c h r = elim (cases_Bool (eqb t s)) [
     | inl good ↦
-        let f = found a p theory.parts (range s d) h in
+        let f = found a p q.theory.parts (range s d) h in
         let k : Some d ≡ Some c = rw good at r in
         let e : d ≡ c = cc in
         subst In e (has_range f.numbered s d f.is_there f.is_it)
     | inr bad ↦ let k : None ≡ Some c = rw bad at r in absurd (cc)
   ]
 
-  closure_kept : IsKept theory In (λ r. Unit {0})
+  closure_kept : IsKept q.theory q.fact_of In (λ r. Unit {0})
   closure_kept = record {
     top_is = has_top;
     conjunct = λ cs c h m. has_conjunct (parts_of cs) c h (subst (λ (ds : List Concept). Contains ds c) (sym (part_list-parts_of cs)) m);
@@ -82,9 +83,11 @@ module _ (theory : Theory) (sub sup : Concept) where
     row = row_in;
     edge_of_some = λ r c h. tt;
     edge_of_least = λ n r c h. tt;
+    member = has_member;
+    pair = λ a p r x y h. tt;
   }
 
 pub concepts_in_closure : ConceptsAreInClosure
-concepts_in_closure theory sub sup table rows k trail r =
-    concepts_right (IsInClosure theory sub sup) (λ n. Unit {0}) theory table rows r.is_table r.is_choice (closure_kept theory sub sup)
-    r.sub_number r.not_sup_number k trail (subst (IsInClosure theory sub sup) (sym r.sub_reads) has_sub) (subst (IsInClosure theory sub sup) (sym r.not_sup_reads) has_not_sup) r.follows
+concepts_in_closure q table rows k trail r =
+    concepts_right (IsInClosure q) (λ n. Unit {0}) q table rows r.is_table r.is_choice (closure_kept q)
+    q.at r.sub_number r.not_sup_number k trail (subst (IsInClosure q) (sym r.sub_reads) has_sub) (subst (IsInClosure q) (sym r.not_sup_reads) has_not_sup) r.follows

@@ -1,13 +1,13 @@
 -- What is known of the elements of a saturated trail and of the nodes that they are like.
-use Rattle.std.proofs.Common.{◌≡◌, ℕ, zero, suc, ◌<◌, ◌&&◌, Bool, true, eqb, List, [], ◌∷◌, get_or, Some, refl, ◌∙◌, subst, arith, inl, inr, eq-eqb}
+use Rattle.std.proofs.Common.{◌≡◌, ℕ, ◌<◌, ◌≤◌, ◌&&◌, Bool, true, eqb, List, [], ◌∷◌, get_or, Some, refl, ◌∙◌, subst, arith, inl, inr, eq-eqb}
 use Rattle.std.specs.List.{list_any, list_all, range_with_len}
 use Rattle.std.proofs.lemmas.List.Folds.{list_any_at}
 use Rattle.std.proofs.lemmas.List.FromFn.{length-range_with_len, get_or-range_with_len}
-use Rattle.std.proofs.lemmas.Bool.{cases_Bool, and_parts, and_from, or_cases, or_left, or_right, eqb-true}
+use Rattle.std.proofs.lemmas.Bool.{cases_Bool, cases_lt, and_parts, and_from, or_cases, or_left, or_right, eqb-true}
 use Rattle.calculus_specs.specs.declared.facts.Fact.{Fact}
 use Rattle.calculus_specs.specs.declared.facts.Fact.TheVariants.{Has, Edge, Apart, Same}
 use Rattle.calculus_specs.specs.Joins.{rep}
-use Rattle.calculus_specs.specs.State.{node_count, parent, has, label, is_label_part, gives_edge, has_edge, is_successor}
+use Rattle.calculus_specs.specs.State.{node_count_from, parent_from, has, label, is_label_part, gives_edge, has_edge, is_successor}
 use Rattle.calculus_specs.proofs.State.{any-label}
 use Rattle.tableau_specs.specs.declared.Block.{Block}
 use Rattle.tableau_specs.specs.declared.Block.TheVariants.{Clear, By, Under}
@@ -66,22 +66,28 @@ pub record IsLike (w : SearchContext) (fs : List (Fact ℕ)) (x u : ℕ) : Type 
   pub is_open : IsOpen w fs u
   pub has_all : (c : ℕ) → has fs x c ≡ true → has fs u c ≡ true
 
-like_by : (w : SearchContext) (fs : List (Fact ℕ)) → ((x p : ℕ) → parent fs x ≡ Some p → p < x) → (x : ℕ) (b : Block) → block_of fs x ≡ b → x < node_count fs → rep fs x ≡ x → is_above b ≡ true → IsLike w fs x (original_by b x)
+-- a blocked node is no first node, since those are clear
+blocked_is_other : (w : SearchContext) (fs : List (Fact ℕ)) → ((x p : ℕ) → parent_from w.first fs x ≡ Some p → p < x) → (x z : ℕ) → block_of w.first fs x ≡ By z → w.first ≤ x
+blocked_is_other w fs less x z e = elim (cases_lt x w.first) [
+  | inl lt ↦ (let clear = (blocks_say w.first fs less).0 x lt in cc)
+  | inr le ↦ omega arith
+]
+
+like_by : (w : SearchContext) (fs : List (Fact ℕ)) → ((x p : ℕ) → parent_from w.first fs x ≡ Some p → p < x) → (x : ℕ) (b : Block) → block_of w.first fs x ≡ b → x < node_count_from w.first fs → rep fs x ≡ x → is_above b ≡ true → IsLike w fs x (original_by b x)
 like_by w fs less x Clear e lt r above = record { is_open = record { is_node = lt; is_rep = r; is_clear = e }; has_all = λ c h. h }
-like_by w fs less zero (By z) e lt r above = cc
-like_by w fs less (suc x) (By z) e lt r above =
-    let s = (subst (BlockSays fs (suc x)) e ((blocks_say fs less).1 (suc x) (omega arith))).1 in
+like_by w fs less x (By z) e lt r above =
+    let s = (subst (BlockSays w.first fs x) e ((blocks_say w.first fs less).1 x (blocked_is_other w fs less x z e))).1 in
     record {
       is_open = record { is_node = omega (arith, s.is_less); is_rep = s.is_rep; is_clear = s.is_clear };
-      has_all = λ c h. part_has fs (suc x) z c s.has_label h;
+      has_all = λ c h. part_has fs x z c s.has_label h;
     }
 like_by w fs less x Under e lt r above = cc
 
-pub element_is_rep : (fs : List (Fact ℕ)) (x : ℕ) → is_element fs x ≡ true → rep fs x ≡ x
-element_is_rep fs x h = eqb-true (rep fs x) x (and_parts (eqb (rep fs x) x) (is_above (block_of fs x)) h).0
+pub element_is_rep : (first : ℕ) (fs : List (Fact ℕ)) (x : ℕ) → is_element first fs x ≡ true → rep fs x ≡ x
+element_is_rep first fs x h = eqb-true (rep fs x) x (and_parts (eqb (rep fs x) x) (is_above (block_of first fs x)) h).0
 
-pub like : (w : SearchContext) (fs : List (Fact ℕ)) → ((x p : ℕ) → parent fs x ≡ Some p → p < x) → (x : ℕ) → x < node_count fs → is_element fs x ≡ true → IsLike w fs x (original fs x)
-like w fs less x lt h = like_by w fs less x (block_of fs x) refl lt (element_is_rep fs x h) (and_parts (eqb (rep fs x) x) (is_above (block_of fs x)) h).1
+pub like : (w : SearchContext) (fs : List (Fact ℕ)) → ((x p : ℕ) → parent_from w.first fs x ≡ Some p → p < x) → (x : ℕ) → x < node_count_from w.first fs → is_element w.first fs x ≡ true → IsLike w fs x (original w.first fs x)
+like w fs less x lt h = like_by w fs less x (block_of w.first fs x) refl lt (element_is_rep w.first fs x h) (and_parts (eqb (rep fs x) x) (is_above (block_of w.first fs x)) h).1
 
 -- ---- successors
 
@@ -90,8 +96,8 @@ above_unless Clear h = refl
 above_unless (By z) h = refl
 above_unless Under h = absurd (h refl)
 
-pub successor_is_element : (fs : List (Fact ℕ)) (roles : ℕ → Bool) (x y : ℕ) → is_successor fs roles x y ≡ true → ¬ (block_of fs y ≡ Under) → is_element fs y ≡ true
-successor_is_element fs roles x y h n = and_from (eqb (rep fs y) y) (is_above (block_of fs y)) (eq-eqb (rep fs y) y (successor_is_rep fs roles x y h)) (above_unless (block_of fs y) n)
+pub successor_is_element : (first : ℕ) (fs : List (Fact ℕ)) (roles : ℕ → Bool) (x y : ℕ) → is_successor fs roles x y ≡ true → ¬ (block_of first fs y ≡ Under) → is_element first fs y ≡ true
+successor_is_element first fs roles x y h n = and_from (eqb (rep fs y) y) (is_above (block_of first fs y)) (eq-eqb (rep fs y) y (successor_is_rep fs roles x y h)) (above_unless (block_of first fs y) n)
 
 gives_more : (p q : ℕ → Bool) → ((r : ℕ) → p r ≡ true → q r ≡ true) → (m : ℕ → ℕ) (a b : ℕ) (f : Fact ℕ) → gives_edge p m a b f ≡ true → gives_edge q m a b f ≡ true
 gives_more p q imp m a b (Edge r y z) h =

@@ -6,19 +6,20 @@ use Rattle.std.proofs.lemmas.List.{append-nil}
 use Rattle.calculus_specs.specs.Shape.{Shape}
 use Rattle.calculus_specs.specs.declared.facts.Fact.{Fact}
 use Rattle.calculus_specs.specs.declared.facts.Fact.TheVariants.{Has}
-use Rattle.calculus_specs.specs.State.{has}
+use Rattle.calculus_specs.specs.State.{has, is_so}
 use Rattle.tableau_specs.specs.declared.Branch.{Branch}
 use Rattle.tableau_specs.specs.declared.Choice.{Choice}
 use Rattle.tableau_specs.specs.declared.Item.{Item}
 use Rattle.tableau_specs.specs.declared.Item.TheVariants.{Fact as Says, Mark}
 use Rattle.tableau_specs.specs.Items.{facts_of, says}
-use Rattle.tableau_specs.specs.Steps.{SearchContext, Adds, Generates, MayBranch, IsAlternative}
+use Rattle.tableau_specs.specs.Steps.{SearchContext, IsGiven, Adds, Generates, MayBranch, IsAlternative}
 use Rattle.tableau_specs.specs.Steps.IsAlternative.{of_union, of_filler, of_complement, of_joining, of_parting}
 use Rattle.tableau_specs.specs.Reached.{start}
 
 pub data IsGrown (w : SearchContext) (first : List Item) : List ℕ → List Item → Type 0 where
   at_first : IsGrown w first [] first
   by_add : (ds : List ℕ) (old : List Item) (x d : ℕ) → IsGrown w first ds old → Adds w (facts_of old) x d → has (facts_of old) x d ≡ false → IsGrown w first (ds ++ 1 ∷ []) (old ++ Says (Has x d) ∷ [])
+  by_give : (ds : List ℕ) (old : List Item) (f : Fact ℕ) → IsGrown w first ds old → IsGiven w f → is_so (facts_of old) f ≡ false → IsGrown w first (ds ++ 1 ∷ []) (old ++ Says f ∷ [])
   by_make : (ds : List ℕ) (old : List Item) (new : List (Fact ℕ)) → IsGrown w first ds old → Generates w (facts_of old) new → IsGrown w first (ds ++ 1 ∷ []) (old ++ says new)
   by_choice : (ds : List ℕ) (old : List Item) (c : Choice) (f : Fact ℕ) → IsGrown w first ds old → MayBranch w (facts_of old) c.branch → IsAlternative w.table c.branch c.alternative f
       → IsGrown w first (ds ++ c.alternative ∷ []) (old ++ Mark c ∷ Says f ∷ [])
@@ -61,9 +62,9 @@ pub record IsCut (w : SearchContext) (first : List Item) (ds : List ℕ) (trail 
   pub grown : IsGrown w first before (take place trail)
   pub may : MayBranch w (facts_of (take place trail)) c.branch
 
-module _ (w : SearchContext) (a b : ℕ) where
+module _ (w : SearchContext) (at a b : ℕ) where
   abbrev Cut : List ℕ → List Item → ℕ → Choice → Type 0
-  Cut ds trail place c = IsCut w (start a b) ds trail place c
+  Cut ds trail place c = IsCut w (start at a b) ds trail place c
 
   -- a step more leaves what stands before an earlier mark
   longer : (ds : List ℕ) (n : ℕ) (old new : List Item) (place : ℕ) (c : Choice) → take place (old ++ new) ≡ take place old → Cut ds old place c → Cut (ds ++ n ∷ []) (old ++ new) place c
@@ -71,15 +72,19 @@ module _ (w : SearchContext) (a b : ℕ) where
     before = k.before;
     after = k.after ++ n ∷ [];
     numbers = ap (λ (es : List ℕ). es ++ n ∷ []) k.numbers ∙ append_assoc k.before (c.alternative ∷ k.after) (n ∷ []);
-    grown = subst (IsGrown w (start a b) k.before) (sym same) k.grown;
+    grown = subst (IsGrown w (start at a b) k.before) (sym same) k.grown;
     may = subst (λ (is : List Item). MayBranch w (facts_of is) c.branch) (sym same) k.may;
   }
 
-  pub cut : (ds : List ℕ) (trail : List Item) → IsGrown w (start a b) ds trail → (place : ℕ) (c : Choice) → slice_get trail place ≡ Some (Mark c) → Cut ds trail place c
-  cut ds trail at_first place c h = absurd (no_mark_in (Has 0 a ∷ Has 0 b ∷ []) place c h)
+  pub cut : (ds : List ℕ) (trail : List Item) → IsGrown w (start at a b) ds trail → (place : ℕ) (c : Choice) → slice_get trail place ≡ Some (Mark c) → Cut ds trail place c
+  cut ds trail at_first place c h = absurd (no_mark_in (Has at a ∷ Has at b ∷ []) place c h)
   cut ds trail (by_add es old x d g adds out) place c h = elim (stands old (Says (Has x d) ∷ []) place (Mark c) h) [
     | inl low ↦ longer es 1 old (Says (Has x d) ∷ []) place c low.1 (cut es old g place c low.0)
     | inr high ↦ absurd (no_mark_in (Has x d ∷ []) high.0 c high.1)
+  ]
+  cut ds trail (by_give es old f g is_given out) place c h = elim (stands old (Says f ∷ []) place (Mark c) h) [
+    | inl low ↦ longer es 1 old (Says f ∷ []) place c low.1 (cut es old g place c low.0)
+    | inr high ↦ absurd (no_mark_in (f ∷ []) high.0 c high.1)
   ]
   cut ds trail (by_make es old new g makes) place c h = elim (stands old (says new) place (Mark c) h) [
     | inl low ↦ longer es 1 old (says new) place c low.1 (cut es old g place c low.0)
@@ -98,7 +103,7 @@ module _ (w : SearchContext) (a b : ℕ) where
             before = es;
             after = [];
             numbers = ap (λ (o : Choice). es ++ o.alternative ∷ []) k;
-            grown = subst (IsGrown w (start a b) es) (sym all) g;
+            grown = subst (IsGrown w (start at a b) es) (sym all) g;
             may = subst (λ (o : Choice). MayBranch w (facts_of (take place (old ++ Mark e ∷ Says f ∷ []))) o.branch) k (subst (λ (is : List Item). MayBranch w (facts_of is) e.branch) (sym all) may);
           }
       here (suc zero) read same = absurd (cc)

@@ -10,7 +10,7 @@ use Rattle.tableau_specs.specs.declared.Item.{Item}
 use Rattle.tableau_specs.specs.declared.Item.TheVariants.{Fact as Says, Mark}
 use Rattle.tableau_specs.specs.Items.{facts_of, says}
 use Rattle.tableau_specs.specs.Steps.{next_choice}
-use Rattle.tableau_specs.specs.Steps.IsLegal.{add, generate, choose, back}
+use Rattle.tableau_specs.specs.Steps.IsLegal.{add, give, generate, choose, back}
 use Rattle.tableau_specs.proofs.Built.{facts_of-mark}
 use Rattle.search_laws.specs.ReuseLaws.{StepsPutLast}
 
@@ -74,6 +74,7 @@ cut p place n old c f le mt =
 
 pub steps_put_last : StepsPutLast
 steps_put_last w old new' (add x d nc adds out) place le lt p = by_front p place old new' (grown p place old (Says (Has x d) ∷ []) le)
+steps_put_last w old new' (give f nc is_given out) place le lt p = by_front p place old new' (grown p place old (Says f ∷ []) le)
 steps_put_last w old new' (generate fs nc makes) place le lt p = by_front p place old new' (grown p place old (says fs) le)
 steps_put_last w old new' (choose c f nc may one alt) place le lt p = by_front p place old new' (grown p place old (Mark c ∷ Says f ∷ []) le)
 steps_put_last w old new' (back n c f clash read alt) place le lt p =

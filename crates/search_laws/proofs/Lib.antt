@@ -8,6 +8,7 @@ pub mod Grown
 pub mod Sums
 pub mod Rising
 pub mod Counts
+pub mod Given
 pub mod Tally
 pub mod KeptSteps
 pub mod Numbers
@@ -22,6 +23,7 @@ pub mod Values
 pub mod Within
 pub mod Others
 pub mod BoundComputed
+pub mod GivenFacts
 pub mod Children
 pub mod Bounds
 pub mod CounterModelNodes
@@ -33,14 +35,18 @@ pub mod Rows
 pub mod Parts
 pub mod First
 pub mod Allowed
+pub mod AllowedFacts
 pub mod AllowedParts
 pub mod CounterModelComputed
 pub mod InLimit
+pub mod Assertions
 pub mod CounterModelLaws
 pub mod Turned
 pub mod Root
+pub mod LongerGiven
 pub mod ReuseSetting
 pub mod Stepping
 pub mod Running
 pub mod Answering
 pub mod Last
+pub mod Unnamed

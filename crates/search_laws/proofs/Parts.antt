@@ -20,7 +20,7 @@ use Rattle.shq_nnf.specs.Meeting.{meets_part}
 use Rattle.refutation_truth.proofs.Below.{all_from, picks}
 use Rattle.refutation_truth.proofs.Models.{found}
 use Rattle.calculus_specs.specs.declared.facts.Fact.{Fact}
-use Rattle.calculus_specs.specs.State.{node_count, has, has_edge}
+use Rattle.calculus_specs.specs.State.{node_count_from, has, has_edge}
 use Rattle.tableau_specs.specs.declared.Item.{Item}
 use Rattle.tableau_specs.specs.Items.{facts_of}
 use Rattle.tableau_specs.proofs.PlainClash.{successor_has_edge, successor_is_node}
@@ -80,7 +80,7 @@ module _ (w : SearchContext) (trail : List Item) (i : Interpretation) (g : Setti
   fs = facts_of trail
 
   abbrev like_at : ℕ → ℕ
-  like_at v = original fs (node_at fs v)
+  like_at v = original w.first fs (node_at w.first fs v)
 
   -- the row that is chosen for a part
   record Chosen (q : Part) : Type 0 where
@@ -114,18 +114,18 @@ module _ (w : SearchContext) (trail : List Item) (i : Interpretation) (g : Setti
       some_is k l h = cc
 
   -- where the row is used, a node has its concept
-  used : (q : Part) (c : Chosen q) (x : ℕ) → x < node_count fs → is_triggered w fs x (Some q) c.row.trigger ≡ true → has fs x c.row.concept ≡ true
+  used : (q : Part) (c : Chosen q) (x : ℕ) → x < node_count_from w.first fs → is_triggered w fs x (Some q) c.row.trigger ≡ true → has fs x c.row.concept ≡ true
   used q c x lt h = g.saturated.no_add x c.row.concept (by_row x c.row lt c.is_in (ap (λ (o : Option Part). is_triggered w fs x o c.row.trigger) c.part_is ∙ h))
 
   -- and an element that is like it is in that
   used_like : (q : Part) (c : Chosen q) (v : ℕ) → v < i.size → is_triggered w fs (like_at v) (Some q) c.row.trigger ≡ true → holds i (tree_of w.table c.row.concept) v ≡ true
   used_like q c v lt h =
-      labels_true w trail i g v c.row.concept lt c.listed (used q c (like_at v) (like_of w trail i g (node_at fs v) (stands_at w trail i g v lt)).is_open.is_node h)
+      labels_true w trail i g v c.row.concept lt c.listed (used q c (like_at v) (like_of w trail i g (node_at w.first fs v) (stands_at w trail i g v lt)).is_open.is_node h)
 
-  used_at : (q : Part) (c : Chosen q) (v : ℕ) → v < i.size → is_triggered w fs (node_at fs v) (Some q) c.row.trigger ≡ true → holds i (tree_of w.table c.row.concept) v ≡ true
+  used_at : (q : Part) (c : Chosen q) (v : ℕ) → v < i.size → is_triggered w fs (node_at w.first fs v) (Some q) c.row.trigger ≡ true → holds i (tree_of w.table c.row.concept) v ≡ true
   used_at q c v lt h =
       let st = stands_at w trail i g v lt in
-      labels_true w trail i g v c.row.concept lt c.listed ((like_of w trail i g (node_at fs v) st).has_all c.row.concept (used q c (node_at fs v) st.is_node h))
+      labels_true w trail i g v c.row.concept lt c.listed ((like_of w trail i g (node_at w.first fs v) st).has_all c.row.concept (used q c (node_at w.first fs v) st.is_node h))
 
   -- ---- the edges of pairs
 
@@ -137,14 +137,14 @@ module _ (w : SearchContext) (trail : List Item) (i : Interpretation) (g : Setti
   begins : (s v u : ℕ) → v < i.size → u < i.size → i.in_role s v u ≡ true → begins_edge w fs s (like_at v) ≡ true
   begins s v u lt mt h =
       let roles : ℕ → Bool = λ r. below_of w r s in
-      let e = first_edge w fs s (node_at fs v) (node_at fs u) (pair_chain w trail i g s (node_at fs v) (node_at fs u) ((g.built.roles_are s v u lt mt).0 h)) in
-      any_in_range (λ y. has_edge fs roles (like_at v) y) (node_count fs) e.0 (successor_is_node fs roles (like_at v) e.0 e.1) (successor_has_edge fs roles (like_at v) e.0 e.1)
+      let e = first_edge w fs s (node_at w.first fs v) (node_at w.first fs u) (pair_chain w trail i g s (node_at w.first fs v) (node_at w.first fs u) ((g.built.roles_are s v u lt mt).0 h)) in
+      any_in_range (λ y. has_edge fs roles (like_at v) y) (node_count_from w.first fs) e.0 (successor_is_node w.first fs roles (like_at v) e.0 e.1) (successor_has_edge fs roles (like_at v) e.0 e.1)
 
-  ends : (s v u : ℕ) → v < i.size → u < i.size → i.in_role s v u ≡ true → ends_edge w fs s (node_at fs u) ≡ true
+  ends : (s v u : ℕ) → v < i.size → u < i.size → i.in_role s v u ≡ true → ends_edge w fs s (node_at w.first fs u) ≡ true
   ends s v u lt mt h =
       let roles : ℕ → Bool = λ r. below_of w r s in
-      let e = last_edge s (node_at fs v) (node_at fs u) (stands_at w trail i g v lt) (pair_chain w trail i g s (node_at fs v) (node_at fs u) ((g.built.roles_are s v u lt mt).0 h)) in
-      any_in_range (λ z. has_edge fs roles z (node_at fs u)) (node_count fs) (original fs e.0) (like_of w trail i g e.0 e.1).is_open.is_node (successor_has_edge fs roles (original fs e.0) (node_at fs u) e.2)
+      let e = last_edge s (node_at w.first fs v) (node_at w.first fs u) (stands_at w trail i g v lt) (pair_chain w trail i g s (node_at w.first fs v) (node_at w.first fs u) ((g.built.roles_are s v u lt mt).0 h)) in
+      any_in_range (λ z. has_edge fs roles z (node_at w.first fs u)) (node_count_from w.first fs) (original w.first fs e.0) (like_of w trail i g e.0 e.1).is_open.is_node (successor_has_edge fs roles (original w.first fs e.0) (node_at w.first fs u) e.2)
 
   some_begins : (s v : ℕ) (e : Concept) → v < i.size → holds i (some_of s e) v ≡ true → begins_edge w fs s (like_at v) ≡ true
   some_begins s v e lt h =
@@ -216,8 +216,8 @@ module _ (w : SearchContext) (trail : List Item) (i : Interpretation) (g : Setti
   range_by : (r : ℕ) (d : Concept) (c : Chosen (range r d)) (t : Trigger) → c.row.trigger ≡ t → (v u : ℕ) → v < i.size → u < i.size → i.in_role r v u ≡ true → holds i d u ≡ true
   range_by r d c (end_of s) e v u lt mt k =
       let right = some_if (eqb s r) d (tree_of w.table c.row.concept) (ap (row_of (range r d)) (sym e) ∙ c.is_right) in
-      let there : ends_edge w fs s (node_at fs u) ≡ true = subst (λ (q : ℕ). ends_edge w fs q (node_at fs u) ≡ true) (sym (eqb-true s r right.0)) (ends r v u lt mt k) in
-      let h = used_at (range r d) c u mt (ap (is_triggered w fs (node_at fs u) (Some (range r d))) e ∙ there) in
+      let there : ends_edge w fs s (node_at w.first fs u) ≡ true = subst (λ (q : ℕ). ends_edge w fs q (node_at w.first fs u) ≡ true) (sym (eqb-true s r right.0)) (ends r v u lt mt k) in
+      let h = used_at (range r d) c u mt (ap (is_triggered w fs (node_at w.first fs u) (Some (range r d))) e ∙ there) in
       ap (λ (q : Concept). holds i q u) right.1 ∙ h
   range_by r d c always e v u lt mt k = let right = ap (row_of (range r d)) (sym e) ∙ c.is_right in absurd (cc)
   range_by r d c (names ps) e v u lt mt k = let right = ap (row_of (range r d)) (sym e) ∙ c.is_right in absurd (cc)

@@ -1,7 +1,7 @@
 -- Above a clear node stand clear nodes whose labels are all different, so that they are few.
-use Rattle.std.proofs.Common.{◌≡◌, ℕ, zero, suc, ◌+◌, ◌^◌, ◌<◌, ◌≤◌, ◌&&◌, eqb, Bool, true, false, List, [], ◌∷◌, length, refl, ap, ◌∙◌, sym, subst, arith, inl, inr, eq-eqb}
+use Rattle.std.proofs.Common.{◌≡◌, ℕ, zero, suc, ◌+◌, ◌^◌, ◌<◌, ◌≤◌, ◌&&◌, eqb, Bool, true, false, List, [], ◌∷◌, length, refl, ◌∙◌, sym, subst, arith, inl, inr, eq-eqb}
 use Rattle.std.specs.List.{list_any, list_all, IsDistinct, AllByRecursion}
-use Rattle.std.proofs.lemmas.Bool.{cases_eq, and_parts, and_from, or_cases, or_left, or_right, eqb-true, ne_eqb}
+use Rattle.std.proofs.lemmas.Bool.{cases_eq, cases_lt, and_parts, and_from, or_cases, or_left, or_right, eqb-true, ne_eqb}
 use Rattle.std.proofs.lemmas.Map.Steps.{length-le_from_distinct_below}
 use Rattle.calculus_specs.specs.declared.facts.Fact.{Fact}
 use Rattle.calculus_specs.specs.declared.facts.Fact.TheVariants.{Has, Edge, Apart, Same}
@@ -13,6 +13,8 @@ use Rattle.tableau_specs.specs.declared.Block.TheVariants.{Clear}
 use Rattle.tableau_specs.specs.Blocked.{block_of}
 use Rattle.tableau_specs.specs.StateLaws.{BlockSays}
 use Rattle.tableau_specs.proofs.Blocks.{blocks_say}
+use Rattle.tableau_specs.specs.Steps.{SearchContext, IsGiven}
+use Rattle.tableau_specs.proofs.Legal.{given_on_first}
 use Rattle.tableau_specs.proofs.TreeShaped.{IsTreeShaped, none_or_some, origin_of_parent, parent_of_origin}
 use Rattle.search_laws.proofs.Rising.{is_has, AreIn}
 use Rattle.search_laws.proofs.Codes.{code, code_below, code_says}
@@ -59,7 +61,7 @@ label_part ds fs x z all same = all_pass (has fs z) (label fs x) (λ d h.
 
 -- ---- the path to a clear node
 
-module _ (ds : List ℕ) (fs : List (Fact ℕ)) (all : AreIn ds fs) (g : IsTreeShaped fs) (l : IsLevel fs) where
+module _ (w : SearchContext) (ds : List ℕ) (fs : List (Fact ℕ)) (all : AreIn ds fs) (g : IsTreeShaped w.first (IsGiven w) (given_on_first w) fs) (l : IsLevel w.first fs) where
   abbrev code_of : ℕ → ℕ
   code_of x = code ds (has fs x)
 
@@ -68,7 +70,7 @@ module _ (ds : List ℕ) (fs : List (Fact ℕ)) (all : AreIn ds fs) (g : IsTreeS
     node : ℕ
     up_to : node ≤ x
     is_rep : rep fs node ≡ node
-    is_clear : block_of fs node ≡ Clear
+    is_clear : block_of w.first fs node ≡ Clear
     is_code : q ≡ code ds (has fs node)
 
   record IsAbove (x : ℕ) : Type 0 where
@@ -84,10 +86,10 @@ module _ (ds : List ℕ) (fs : List (Fact ℕ)) (all : AreIn ds fs) (g : IsTreeS
     differ q codes (λ d k. h d (or_right (eqb d c) (list_any (eqb d) codes) k)),
   )
 
-  own : (x : ℕ) → rep fs x ≡ x → block_of fs x ≡ Clear → (q : ℕ) → q ≡ code_of x → Owner x q
+  own : (x : ℕ) → rep fs x ≡ x → block_of w.first fs x ≡ Clear → (q : ℕ) → q ≡ code_of x → Owner x q
   own x r c q e = record { node = x; up_to = omega arith; is_rep = r; is_clear = c; is_code = e }
 
-  alone : (x : ℕ) → rep fs x ≡ x → block_of fs x ≡ Clear → level fs x ≡ 0 → IsAbove x
+  alone : (x : ℕ) → rep fs x ≡ x → block_of w.first fs x ≡ Clear → level fs x ≡ 0 → IsAbove x
   unfolding IsDistinct
   alone x r c e = record {
     codes = code_of x ∷ [];
@@ -96,12 +98,12 @@ module _ (ds : List ℕ) (fs : List (Fact ℕ)) (all : AreIn ds fs) (g : IsTreeS
     different = (tt, tt);
   }
 
-  say_clear : (x : ℕ) → 0 < x → block_of fs x ≡ Clear → BlockSays fs x Clear
-  say_clear x pos c = subst (BlockSays fs x) c ((blocks_say fs (λ v p h. g.less v p (origin_of_parent fs v p h))).1 x pos)
+  say_clear : (x : ℕ) → w.first ≤ x → block_of w.first fs x ≡ Clear → BlockSays w.first fs x Clear
+  say_clear x from c = subst (BlockSays w.first fs x) c ((blocks_say w.first fs (λ v p h. let o = origin_of_parent w.first fs v p h in g.less v p o.0 o.1)).1 x from)
 
-  next_above : (x y : ℕ) → 0 < x → y < x → rep fs x ≡ x → block_of fs x ≡ Clear → level fs x ≡ level fs y + 1 → IsAbove y → IsAbove x
+  next_above : (x y : ℕ) → w.first ≤ x → y < x → rep fs x ≡ x → block_of w.first fs x ≡ Clear → level fs x ≡ level fs y + 1 → IsAbove y → IsAbove x
   unfolding IsDistinct
-  next_above x y pos lt r c up a = record {
+  next_above x y from lt r c up a = record {
     codes = code_of x ∷ a.codes;
     long = omega (arith, up, a.long);
     owned = λ q h. elim (or_cases (eqb q (code_of x)) (list_any (eqb q) a.codes) h) [
@@ -114,21 +116,21 @@ module _ (ds : List ℕ) (fs : List (Fact ℕ)) (all : AreIn ds fs) (g : IsTreeS
       differ (code_of x) a.codes (λ q h e.
           let o = a.owned q h in
           let same = label_part ds fs x o.node all (code_says ds (has fs x) (has fs o.node) (e ∙ o.is_code)) in
-          (say_clear x pos c).1 o.node (record { is_less = omega (arith, o.up_to, lt); is_rep = o.is_rep; is_clear = o.is_clear; has_label = same })),
+          (say_clear x from c).1 o.node (record { is_less = omega (arith, o.up_to, lt); is_rep = o.is_rep; is_clear = o.is_clear; has_label = same })),
       a.different,
     );
   }
 
-  above : (n x : ℕ) → x < n → rep fs x ≡ x → block_of fs x ≡ Clear → IsAbove x
+  above : (n x : ℕ) → x < n → rep fs x ≡ x → block_of w.first fs x ≡ Clear → IsAbove x
   above zero x lt r c = absurd (omega arith)
-  above (suc n) x lt r c = elim (cases_eq x 0) [
-    | inl zero' ↦ alone x r c (ap (level fs) zero' ∙ l.zero_is)
-    | inr ne ↦ none_or_some (first_origin fs x) (IsAbove x)
+  above (suc n) x lt r c = elim (cases_lt x w.first) [
+    | inl low ↦ alone x r c (l.first_is x low)
+    | inr from ↦ none_or_some (first_origin fs x) (IsAbove x)
         (λ p e.
-        let less = g.less x p e in
+        let less = g.less x p from e in
         let low = rep-le fs p in
-        let c' = (say_clear x (omega arith) c).0 p (parent_of_origin fs x p ne e) in
-        next_above x (rep fs p) (omega arith) (omega arith) r c (l.up x p e ∙ (λ i. sym (l.joined p) i + 1)) (above n (rep fs p) (omega arith) (rep_rep p) c'))
+        let c' = (say_clear x from c).0 p (parent_of_origin w.first fs x p from e) in
+        next_above x (rep fs p) from (omega arith) r c (l.up x p from e ∙ (λ i. sym (l.joined p) i + 1)) (above n (rep fs p) (omega arith) (rep_rep p) c'))
         (λ e. alone x r c (l.none x e))
   ]
     where
@@ -136,7 +138,7 @@ module _ (ds : List ℕ) (fs : List (Fact ℕ)) (all : AreIn ds fs) (g : IsTreeS
       rep_rep p = sym (rep-joined fs p (rep fs p) (joined-rep fs p))
 
   -- a clear node and those above it are few
-  pub few_above : (x : ℕ) → rep fs x ≡ x → block_of fs x ≡ Clear → level fs x + 1 ≤ 2 ^ length ds
+  pub few_above : (x : ℕ) → rep fs x ≡ x → block_of w.first fs x ≡ Clear → level fs x + 1 ≤ 2 ^ length ds
   few_above x r c =
       let a = above (suc x) x (omega arith) r c in
       omega (arith, a.long, length-le_from_distinct_below a.codes (2 ^ length ds) a.different (λ q h. let o = a.owned q h in omega (arith, o.is_code, code_below ds (has fs o.node))))

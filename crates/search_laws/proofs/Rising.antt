@@ -15,7 +15,7 @@ use Rattle.calculus_specs.specs.Tree.{IsComplement}
 use Rattle.calculus_specs.specs.declared.facts.Fact.{Fact}
 use Rattle.calculus_specs.specs.declared.facts.Fact.TheVariants.{Has, Edge, Apart, Same}
 use Rattle.calculus_specs.specs.Joins.{rep, rep_after, merged}
-use Rattle.calculus_specs.specs.State.{node_count, gives_concept, gives_apart, has, is_successor, are_apart}
+use Rattle.calculus_specs.specs.State.{node_count_from, gives_concept, gives_apart, has, is_successor, are_apart}
 use Rattle.calculus_specs.proofs.Joined.{by_last, rep-snoc, rep-le}
 use Rattle.tableau_specs.specs.declared.Branch.{Branch}
 use Rattle.tableau_specs.specs.declared.Branch.TheVariants.{Or, Choose, Pair}
@@ -57,7 +57,7 @@ in_front ds fs gs h x d k = h x d (any_left (is_has x d) fs gs k)
 pub self_has : (x d : ℕ) → (eqb x x && eqb d d) ≡ true
 self_has x d = and_from (eqb x x) (eqb d d) (eq-eqb x x refl) (eq-eqb d d refl)
 
-has_last : (fs : List (Fact ℕ)) (x d : ℕ) → list_any (is_has x d) (fs ++ Has x d ∷ []) ≡ true
+pub has_last : (fs : List (Fact ℕ)) (x d : ℕ) → list_any (is_has x d) (fs ++ Has x d ∷ []) ≡ true
 has_last fs x d = any_right (is_has x d) fs (Has x d ∷ []) (or_left (eqb x x && eqb d d) false (self_has x d))
 
 apart_last : (fs : List (Fact ℕ)) (y z : ℕ) → list_any (is_apart y z) (fs ++ Apart y z ∷ []) ≡ true
@@ -201,27 +201,27 @@ module _ (ds : List ℕ) (v : ℕ) where
 
 -- what a branch finds: its alternatives say something new
 abbrev IsNew : SearchContext → List (Fact ℕ) → Branch → Type 0
-IsNew w fs (Or x c) = (x < node_count fs) × ((d : ℕ) (parts : List ℕ) → shape_of w.table c ≡ union parts → Contains parts d → has fs x d ≡ false)
-IsNew w fs (Choose y e) = (y < node_count fs) × (has fs y e ≡ false) × ((d : ℕ) → IsComplement w.table e d → has fs y d ≡ false)
-IsNew w fs (Pair y z) = (y < node_count fs) × (z < node_count fs) × ¬ (y ≡ z) × (rep fs y ≡ y) × (rep fs z ≡ z) × (are_apart fs y z ≡ false)
+IsNew w fs (Or x c) = (x < node_count_from w.first fs) × ((d : ℕ) (parts : List ℕ) → shape_of w.table c ≡ union parts → Contains parts d → has fs x d ≡ false)
+IsNew w fs (Choose y e) = (y < node_count_from w.first fs) × (has fs y e ≡ false) × ((d : ℕ) → IsComplement w.table e d → has fs y d ≡ false)
+IsNew w fs (Pair y z) = (y < node_count_from w.first fs) × (z < node_count_from w.first fs) × ¬ (y ≡ z) × (rep fs y ≡ y) × (rep fs z ≡ z) × (are_apart fs y z ≡ false)
 
 finds_new : (w : SearchContext) (fs : List (Fact ℕ)) (b : Branch) → MayBranch w fs b → IsNew w fs b
 finds_new w fs b (on_union x c parts lt h sh none) =
     (lt, λ d ps sh' m. let e : union ps ≡ union parts = sym sh' ∙ sh in let k : ps ≡ parts = cc in All-contains (λ a. has fs x a ≡ false) parts d none (subst (λ (qs : List ℕ). Contains qs d) k m))
-finds_new w fs b (on_filler x c n s e y lt h sh next none out) = (successor_is_node fs (λ r. below_of w r s) x y next, none, out)
+finds_new w fs b (on_filler x c n s e y lt h sh next none out) = (successor_is_node w.first fs (λ r. below_of w r s) x y next, none, out)
 finds_new w fs b (on_pair x c n s e y z lt h sh more cy cz ne apart) =
-    let all = filled_are_successors (below_of w) fs x s e in
+    let all = filled_are_successors w.first (below_of w) fs x s e in
     let roles : ℕ → Bool = λ r. below_of w r s in
     let test : ℕ → Type 0 = λ u. is_successor fs roles x u ≡ true in
-    let at_y = All-contains test (filled_successors (below_of w) fs x s e) y all cy in
-    let at_z = All-contains test (filled_successors (below_of w) fs x s e) z all cz in
-    (successor_is_node fs roles x y at_y, successor_is_node fs roles x z at_z, ne, successor_is_rep fs roles x y at_y, successor_is_rep fs roles x z at_z, apart)
+    let at_y = All-contains test (filled_successors w.first (below_of w) fs x s e) y all cy in
+    let at_z = All-contains test (filled_successors w.first (below_of w) fs x s e) z all cz in
+    (successor_is_node w.first fs roles x y at_y, successor_is_node w.first fs roles x z at_z, ne, successor_is_rep fs roles x y at_y, successor_is_rep fs roles x z at_z, apart)
 
 -- one of the numbers rises; that of pairs set apart by no first alternative
 abbrev pub Rises : List ℕ → ℕ → List (Fact ℕ) → Fact ℕ → ℕ → Type 0
 Rises ds v fs f k = (given ds v fs + 1 ≤ given ds v (fs ++ f ∷ [])) ⊎ ((joined ds v fs + 1 ≤ joined ds v (fs ++ f ∷ [])) ⊎ ((parted ds v fs + 1 ≤ parted ds v (fs ++ f ∷ [])) × (k ≡ 2)))
 
-alternative_rises : (w : SearchContext) (ds : List ℕ) (v : ℕ) (fs : List (Fact ℕ)) (b : Branch) (k : ℕ) (f : Fact ℕ) → node_count fs ≤ v → AreIn ds (fs ++ f ∷ []) → IsAlternative w.table b k f → IsNew w fs b → Rises ds v fs f k
+alternative_rises : (w : SearchContext) (ds : List ℕ) (v : ℕ) (fs : List (Fact ℕ)) (b : Branch) (k : ℕ) (f : Fact ℕ) → node_count_from w.first fs ≤ v → AreIn ds (fs ++ f ∷ []) → IsAlternative w.table b k f → IsNew w fs b → Rises ds v fs f k
 alternative_rises w ds v fs b k f le all (of_union x c k' d parts sh read) h =
     inl (given_more ds v fs x d (omega (arith, h.0)) all (h.1 d parts sh (k', slice_get_within parts k' d read, get_or_from_slice_get parts k' d d read)))
 alternative_rises w ds v fs b k f le all (of_filler y e) h = inl (given_more ds v fs y e (omega (arith, h.0)) all h.1)
@@ -229,5 +229,5 @@ alternative_rises w ds v fs b k f le all (of_complement y e d neg) h = inl (give
 alternative_rises w ds v fs b k f le all (of_joining y z) h = inr (inl (joined_more ds v fs y z (omega (arith, h.0)) (omega (arith, h.1)) h.2 h.3 h.4))
 alternative_rises w ds v fs b k f le all (of_parting y z) h = inr (inr (parted_more ds v fs y z (omega (arith, h.0)) (omega (arith, h.1)) h.5, refl))
 
-pub choice_rises : (w : SearchContext) (ds : List ℕ) (v : ℕ) (fs : List (Fact ℕ)) (b : Branch) (k : ℕ) (f : Fact ℕ) → node_count fs ≤ v → AreIn ds (fs ++ f ∷ []) → MayBranch w fs b → IsAlternative w.table b k f → Rises ds v fs f k
+pub choice_rises : (w : SearchContext) (ds : List ℕ) (v : ℕ) (fs : List (Fact ℕ)) (b : Branch) (k : ℕ) (f : Fact ℕ) → node_count_from w.first fs ≤ v → AreIn ds (fs ++ f ∷ []) → MayBranch w fs b → IsAlternative w.table b k f → Rises ds v fs f k
 choice_rises w ds v fs b k f le all may alt = alternative_rises w ds v fs b k f le all alt (finds_new w fs b may)

@@ -9,7 +9,7 @@ use Rattle.calculus_specs.specs.Shape.Shape.{at_most}
 use Rattle.shq_meaning.proofs.Members.{all_pass}
 use Rattle.calculus_specs.specs.declared.facts.Fact.{Fact}
 use Rattle.calculus_specs.specs.declared.facts.Fact.TheVariants.{Same}
-use Rattle.calculus_specs.specs.State.{node_count, has, is_successor, successors, are_apart, all_apart}
+use Rattle.calculus_specs.specs.State.{node_count_from, has, is_successor, successors_from, are_apart, all_apart}
 use Rattle.tableau_specs.specs.declared.Branch.TheVariants.{Pair}
 use Rattle.tableau_specs.specs.declared.Item.{Item}
 use Rattle.tableau_specs.specs.Items.{facts_of}
@@ -28,15 +28,15 @@ apart_by_pairs fs (y ∷ ys) h =
     (all_pass (are_apart fs y) ys (λ z c. subst (λ (k : ℕ). are_apart fs y k ≡ true) c.2 (h 0 (suc c.0) z (omega arith) (omega (arith, c.1)))))
     (apart_by_pairs fs ys (λ i j d lt mt. h (suc i) (suc j) d (omega (arith, lt)) (omega (arith, mt))))
 
-ascending : (w : SearchContext) (fs : List (Fact ℕ)) (x s e : ℕ) → AllPairs (λ y z. y < z) (filled_successors (below_of w) fs x s e)
+ascending : (w : SearchContext) (fs : List (Fact ℕ)) (x s e : ℕ) → AllPairs (λ y z. y < z) (filled_successors w.first (below_of w) fs x s e)
 ascending w fs x s e =
-    AllPairs-filter (λ y z. y < z) (λ v. has fs v e) (successors fs (λ r. below_of w r s) x) (passing_ascends (is_successor fs (λ r. below_of w r s) x) (node_count fs))
+    AllPairs-filter (λ y z. y < z) (λ v. has fs v e) (successors_from w.first fs (λ r. below_of w r s) x) (passing_ascends (is_successor fs (λ r. below_of w r s) x) (node_count_from w.first fs))
 
-pub few_fit : (w : SearchContext) (trail : List Item) → IsSaturated w trail → (x c n s e : ℕ) → x < node_count (facts_of trail) → has (facts_of trail) x c ≡ true → shape_of w.table c ≡ at_most n s e
-    → length (filled_successors (below_of w) (facts_of trail) x s e) ≤ n
+pub few_fit : (w : SearchContext) (trail : List Item) → IsSaturated w trail → (x c n s e : ℕ) → x < node_count_from w.first (facts_of trail) → has (facts_of trail) x c ≡ true → shape_of w.table c ≡ at_most n s e
+    → length (filled_successors w.first (below_of w) (facts_of trail) x s e) ≤ n
 few_fit w trail sat x c n s e lt h sh =
     let fs = facts_of trail in
-    let ys = filled_successors (below_of w) fs x s e in
+    let ys = filled_successors w.first (below_of w) fs x s e in
     elim (cases_lt n (length ys)) [
       | inr few ↦ omega arith
       | inl more ↦ absurd (sat.no_clash (plain_most x c n s e lt h sh more (apart_by_pairs fs ys (λ i j d less within.

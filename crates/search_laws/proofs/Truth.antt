@@ -18,7 +18,7 @@ use Rattle.shq_nnf.proofs.Truth.{negated_truth}
 use Rattle.refutation_truth.proofs.Below.{all_from}
 use Rattle.calculus_specs.specs.declared.facts.Fact.{Fact}
 use Rattle.calculus_specs.specs.declared.facts.Fact.TheVariants.{Has}
-use Rattle.calculus_specs.specs.State.{node_count, has, label, is_successor, all_apart}
+use Rattle.calculus_specs.specs.State.{node_count_from, has, label, is_successor, all_apart}
 use Rattle.calculus_specs.proofs.State.{any-label}
 use Rattle.tableau_specs.specs.declared.Branch.TheVariants.{Or, Choose}
 use Rattle.tableau_specs.specs.declared.Item.{Item}
@@ -67,18 +67,18 @@ module _ (w : SearchContext) (trail : List Item) (i : Interpretation) (g : Setti
 
   -- the node that an element is like
   abbrev like_at : ℕ → ℕ
-  like_at v = original fs (node_at fs v)
+  like_at v = original w.first fs (node_at w.first fs v)
 
   -- the elements are in the concept of a number where the nodes that they are like have it
   abbrev Sure : ℕ → Type 0
   Sure c = (v : ℕ) → v < i.size → has fs (like_at v) c ≡ true → holds i (tree_of w.table c) v ≡ true
 
-  node_of : (v : ℕ) → v < i.size → like_at v < node_count fs
-  node_of v lt = (like_of w trail i g (node_at fs v) (stands_at w trail i g v lt)).is_open.is_node
+  node_of : (v : ℕ) → v < i.size → like_at v < node_count_from w.first fs
+  node_of v lt = (like_of w trail i g (node_at w.first fs v) (stands_at w trail i g v lt)).is_open.is_node
 
   -- what the node of an element has, the node that it is like has
-  has_like : (v c : ℕ) → v < i.size → has fs (node_at fs v) c ≡ true → has fs (like_at v) c ≡ true
-  has_like v c lt h = (like_of w trail i g (node_at fs v) (stands_at w trail i g v lt)).has_all c h
+  has_like : (v c : ℕ) → v < i.size → has fs (node_at w.first fs v) c ≡ true → has fs (like_at v) c ≡ true
+  has_like v c lt h = (like_of w trail i g (node_at w.first fs v) (stands_at w trail i g v lt)).has_all c h
 
   -- ---- names
 
@@ -128,7 +128,7 @@ module _ (w : SearchContext) (trail : List Item) (i : Interpretation) (g : Setti
     | inr out ↦ All-cons (λ e. has fs x e ≡ false) d ds out (all_out x ds (rw out at h))
   ]
 
-  one_of : (x c : ℕ) (ds : List ℕ) → shape_of w.table c ≡ union_shape ds → 0 < length ds → x < node_count fs → has fs x c ≡ true → OneOf x ds
+  one_of : (x c : ℕ) (ds : List ℕ) → shape_of w.table c ≡ union_shape ds → 0 < length ds → x < node_count_from w.first fs → has fs x c ≡ true → OneOf x ds
   one_of x c [] sh some lt h = absurd (omega arith)
   one_of x c (d ∷ ds) sh some lt h = elim (cases_Bool (list_any (has fs x) (d ∷ ds))) [
     | inl any ↦ one_in x (d ∷ ds) any
@@ -141,72 +141,72 @@ module _ (w : SearchContext) (trail : List Item) (i : Interpretation) (g : Setti
   abbrev counted : ℕ → ℕ → ℕ → ℕ → Bool
   counted s e v y = is_successor fs (λ r. below_of w r s) (like_at v) y && has fs y e
 
-  by_numbers : (s e v : ℕ) → count_below i.size (λ u. counted s e v (node_at fs u)) ≡ count_below (node_count fs) (λ y. is_element fs y && counted s e v y)
-  by_numbers s e v = ap (λ (m : ℕ). count_below m (λ u. counted s e v (node_at fs u))) g.built.size_is ∙ count_passing (is_element fs) (node_count fs) (counted s e v)
+  by_numbers : (s e v : ℕ) → count_below i.size (λ u. counted s e v (node_at w.first fs u)) ≡ count_below (node_count_from w.first fs) (λ y. is_element w.first fs y && counted s e v y)
+  by_numbers s e v = ap (λ (m : ℕ). count_below m (λ u. counted s e v (node_at w.first fs u))) g.built.size_is ∙ count_passing (is_element w.first fs) (node_count_from w.first fs) (counted s e v)
 
   -- what is counted at an element is in the pairs of the role and in the filler
-  counted_holds : (s e v u : ℕ) → Sure e → v < i.size → u < i.size → counted s e v (node_at fs u) ≡ true → (i.in_role s v u && holds i (tree_of w.table e) u) ≡ true
+  counted_holds : (s e v u : ℕ) → Sure e → v < i.size → u < i.size → counted s e v (node_at w.first fs u) ≡ true → (i.in_role s v u && holds i (tree_of w.table e) u) ≡ true
   counted_holds s e v u sure lt mt h =
-      let t = and_parts (is_successor fs (λ r. below_of w r s) (like_at v) (node_at fs u)) (has fs (node_at fs u) e) h in
-      and_from (i.in_role s v u) (holds i (tree_of w.table e) u) ((g.built.roles_are s v u lt mt).1 (by_edge (node_at fs v) (node_at fs u) t.0))
+      let t = and_parts (is_successor fs (λ r. below_of w r s) (like_at v) (node_at w.first fs u)) (has fs (node_at w.first fs u) e) h in
+      and_from (i.in_role s v u) (holds i (tree_of w.table e) u) ((g.built.roles_are s v u lt mt).1 (by_edge (node_at w.first fs v) (node_at w.first fs u) t.0))
       (sure u mt (has_like u e mt t.1))
 
   some_sure : (c s e v : ℕ) → shape_of w.table c ≡ some_shape s e → Sure e → v < i.size → has fs (like_at v) c ≡ true → holds i (some_of s (tree_of w.table e)) v ≡ true
   some_sure c s e v sh sure lt h =
       let x = like_at v in
       let st = stands_at w trail i g v lt in
-      let fits = filled_successors (below_of w) fs x s e in
-      let more : 0 < length fits = not_empty fits (λ none. g.saturated.no_generate _ (by_some x c s e (like_of w trail i g (node_at fs v) st).is_open h sh none)) in
+      let fits = filled_successors w.first (below_of w) fs x s e in
+      let more : 0 < length fits = not_empty fits (λ none. g.saturated.no_generate _ (by_some x c s e (like_of w trail i g (node_at w.first fs v) st).is_open h sh none)) in
       let y = get_or fits 0 0 in
-      let lead : LeadsTo w fs s (node_at fs v) y = filled_are_successors (below_of w) fs x s e 0 0 more in
-      let n = number_of w trail i g y (next_stands w trail i g s (node_at fs v) y st lead) in
-      let filled : has fs (node_at fs n.number) e ≡ true = subst (λ (z : ℕ). has fs z e ≡ true) (sym n.is_at) (filled_have_filler (below_of w) fs x s e 0 0 more) in
+      let lead : LeadsTo w fs s (node_at w.first fs v) y = filled_are_successors w.first (below_of w) fs x s e 0 0 more in
+      let n = number_of w trail i g y (next_stands w trail i g s (node_at w.first fs v) y st lead) in
+      let filled : has fs (node_at w.first fs n.number) e ≡ true = subst (λ (z : ℕ). has fs z e ≡ true) (sym n.is_at) (filled_have_filler w.first (below_of w) fs x s e 0 0 more) in
       le-leb 1 (count_below i.size (λ u. i.in_role s v u && holds i (tree_of w.table e) u))
       (count_one i.size (λ u. i.in_role s v u && holds i (tree_of w.table e) u) n.number n.is_within
       (and_from (i.in_role s v n.number) (holds i (tree_of w.table e) n.number) (edge_pair w trail i g s v y lt n lead) (sure n.number n.is_within (has_like n.number e n.is_within filled))))
 
   -- ---- at least
 
-  run_parts : (x s e n y : ℕ) → is_run w fs x s e n y ≡ true → All (FilledSuccessor (below_of w) fs x s e) (range_with_len y n) × (all_apart fs (range_with_len y n) ≡ true)
-  run_parts x s e n y h = let t = and_parts (list_all (is_filled_successor (below_of w) fs x s e) (range_with_len y n)) (all_apart fs (range_with_len y n)) h in (all_filled_parts (below_of w) fs x s e (range_with_len y n) t.0, t.1)
+  run_parts : (x s e n y : ℕ) → is_run w fs x s e n y ≡ true → All (FilledSuccessor w.first (below_of w) fs x s e) (range_with_len y n) × (all_apart fs (range_with_len y n) ≡ true)
+  run_parts x s e n y h = let t = and_parts (list_all (is_filled_successor w.first (below_of w) fs x s e) (range_with_len y n)) (all_apart fs (range_with_len y n)) h in (all_filled_parts w.first (below_of w) fs x s e (range_with_len y n) t.0, t.1)
 
-  run_begins : (x s e n y : ℕ) → is_run w fs x s e (suc n) y ≡ true → y < node_count fs
-  run_begins x s e n y h = (All-head (FilledSuccessor (below_of w) fs x s e) y (range_with_len (y + 1) n) (run_parts x s e (suc n) y h).0).is_node
+  run_begins : (x s e n y : ℕ) → is_run w fs x s e (suc n) y ≡ true → y < node_count_from w.first fs
+  run_begins x s e n y h = (All-head (FilledSuccessor w.first (below_of w) fs x s e) y (range_with_len (y + 1) n) (run_parts x s e (suc n) y h).0).is_node
 
   least_sure : (c n s e v : ℕ) → shape_of w.table c ≡ least_shape (suc n) s e → Sure e → v < i.size → has fs (like_at v) c ≡ true → holds i (at_least (suc n) s (tree_of w.table e)) v ≡ true
   least_sure c n s e v sh sure lt h =
       let x = like_at v in
       let st = stands_at w trail i g v lt in
-      let run = passes_somewhere (node_count fs) (is_run w fs x s e (suc n)) (run_begins x s e n)
-      (λ none. g.saturated.no_generate _ (by_least x c (suc n) s e (like_of w trail i g (node_at fs v) st).is_open h sh none)) in
+      let run = passes_somewhere (node_count_from w.first fs) (is_run w fs x s e (suc n)) (run_begins x s e n)
+      (λ none. g.saturated.no_generate _ (by_least x c (suc n) s e (like_of w trail i g (node_at w.first fs v) st).is_open h sh none)) in
       let parts = run_parts x s e (suc n) run.0 run.1 in
-      let many = as_many_counted w fs x s e g.shaped (range_with_len run.0 (suc n)) parts.0 parts.1 in
+      let many = as_many_counted w fs x s e g.none_apart (range_with_len run.0 (suc n)) parts.0 parts.1 in
       let long = length-range_with_len run.0 (suc n) in
-      let fits = length-passing_twice (is_successor fs (λ r. below_of w r s) x) (node_count fs) (λ y. has fs y e) in
-      let nodes = count_le (node_count fs) (counted s e v) (λ z. is_element fs z && counted s e v z) (λ z mt k.
-      let lead : LeadsTo w fs s (node_at fs v) z = (and_parts (is_successor fs (λ r. below_of w r s) x z) (has fs z e) k).0 in
-      and_from (is_element fs z) (counted s e v z) (next_stands w trail i g s (node_at fs v) z st lead).is_one k) in
+      let fits = length-passing_twice (is_successor fs (λ r. below_of w r s) x) (node_count_from w.first fs) (λ y. has fs y e) in
+      let nodes = count_le (node_count_from w.first fs) (counted s e v) (λ z. is_element w.first fs z && counted s e v z) (λ z mt k.
+      let lead : LeadsTo w fs s (node_at w.first fs v) z = (and_parts (is_successor fs (λ r. below_of w r s) x z) (has fs z e) k).0 in
+      and_from (is_element w.first fs z) (counted s e v z) (next_stands w trail i g s (node_at w.first fs v) z st lead).is_one k) in
       let same = by_numbers s e v in
-      let hold = count_le i.size (λ u. counted s e v (node_at fs u)) (λ u. i.in_role s v u && holds i (tree_of w.table e) u) (λ u mt k. counted_holds s e v u sure lt mt k) in
+      let hold = count_le i.size (λ u. counted s e v (node_at w.first fs u)) (λ u. i.in_role s v u && holds i (tree_of w.table e) u) (λ u mt k. counted_holds s e v u sure lt mt k) in
       le-leb (suc n) (count_below i.size (λ u. i.in_role s v u && holds i (tree_of w.table e) u)) (omega arith)
 
   -- ---- at most
 
   -- a successor in the filler has it: else it would have the complement, and be in that
   has_filler : (c n s e v u : ℕ) → shape_of w.table c ≡ most_shape n s e → ((d : ℕ) → IsComplement w.table e d → Sure d) → v < i.size → u < i.size → has fs (like_at v) c ≡ true
-      → is_successor fs (λ r. below_of w r s) (like_at v) (node_at fs u) ≡ true → holds i (tree_of w.table e) u ≡ true → has fs (node_at fs u) e ≡ true
-  has_filler c n s e v u sh other lt mt h next hold = elim (cases_Bool (has fs (node_at fs u) e)) [
+      → is_successor fs (λ r. below_of w r s) (like_at v) (node_at w.first fs u) ≡ true → holds i (tree_of w.table e) u ≡ true → has fs (node_at w.first fs u) e ≡ true
+  has_filler c n s e v u sh other lt mt h next hold = elim (cases_Bool (has fs (node_at w.first fs u) e)) [
     | inl held ↦ held
-    | inr out ↦ absurd (g.saturated.no_choose (Choose (node_at fs u) e) (Has (node_at fs u) e)
-        (on_filler (like_at v) c n s e (node_at fs u) (node_of v lt) h sh next out (λ d is. false_from_ne_true (has fs (node_at fs u) d) (λ k.
+    | inr out ↦ absurd (g.saturated.no_choose (Choose (node_at w.first fs u) e) (Has (node_at w.first fs u) e)
+        (on_filler (like_at v) c n s e (node_at w.first fs u) (node_of v lt) h sh next out (λ d is. false_from_ne_true (has fs (node_at w.first fs u) d) (λ k.
         let in_other : holds i (tree_of w.table d) u ≡ true = other d is u mt (has_like u d mt k) in
         let turned : not (holds i (tree_of w.table e) u) ≡ true = sym (negated_truth i (tree_of w.table e) u) ∙ ap (λ (t : Concept). holds i t u) (sym is.negates) ∙ in_other in
         let wrong : true ≡ false = sym turned ∙ ap not hold in
         cc)))
-        (of_filler (node_at fs u) e))
+        (of_filler (node_at w.first fs u) e))
   ]
 
-  only_edges : (c n s e v y : ℕ) → shape_of w.table c ≡ most_shape n s e → v < i.size → has fs (like_at v) c ≡ true → (x : ℕ) → x ≡ node_at fs v → IsPair w fs s x y → is_successor fs (λ r. below_of w r s) (original fs x) y ≡ true
+  only_edges : (c n s e v y : ℕ) → shape_of w.table c ≡ most_shape n s e → v < i.size → has fs (like_at v) c ≡ true → (x : ℕ) → x ≡ node_at w.first fs v → IsPair w fs s x y → is_successor fs (λ r. below_of w r s) (original w.first fs x) y ≡ true
   only_edges c n s e v y' sh lt h x' is (by_edge x y lead) = lead
   only_edges c n s e v y' sh lt h x' is (by_chain t x y tr b chain) = let no' = g.simple (like_at v) c n s e t (node_of v lt) h sh tr in absurd (cc)
 
@@ -214,13 +214,13 @@ module _ (w : SearchContext) (trail : List Item) (i : Interpretation) (g : Setti
       → holds i (at_most n s (tree_of w.table e)) v ≡ true
   most_sure c n s e v sh other lt h =
       let x = like_at v in
-      let hold = count_le i.size (λ u. i.in_role s v u && holds i (tree_of w.table e) u) (λ u. counted s e v (node_at fs u)) (λ u mt k.
+      let hold = count_le i.size (λ u. i.in_role s v u && holds i (tree_of w.table e) u) (λ u. counted s e v (node_at w.first fs u)) (λ u mt k.
       let t = and_parts (i.in_role s v u) (holds i (tree_of w.table e) u) k in
-      let next = only_edges c n s e v (node_at fs u) sh lt h (node_at fs v) refl ((g.built.roles_are s v u lt mt).0 t.0) in
-      and_from (is_successor fs (λ r. below_of w r s) x (node_at fs u)) (has fs (node_at fs u) e) next (has_filler c n s e v u sh other lt mt h next t.1)) in
+      let next = only_edges c n s e v (node_at w.first fs u) sh lt h (node_at w.first fs v) refl ((g.built.roles_are s v u lt mt).0 t.0) in
+      and_from (is_successor fs (λ r. below_of w r s) x (node_at w.first fs u)) (has fs (node_at w.first fs u) e) next (has_filler c n s e v u sh other lt mt h next t.1)) in
       let same = by_numbers s e v in
-      let nodes = count_le (node_count fs) (λ y. is_element fs y && counted s e v y) (counted s e v) (λ y mt k. (and_parts (is_element fs y) (counted s e v y) k).1) in
-      let fits = length-passing_twice (is_successor fs (λ r. below_of w r s) x) (node_count fs) (λ y. has fs y e) in
+      let nodes = count_le (node_count_from w.first fs) (λ y. is_element w.first fs y && counted s e v y) (counted s e v) (λ y mt k. (and_parts (is_element w.first fs y) (counted s e v y) k).1) in
+      let fits = length-passing_twice (is_successor fs (λ r. below_of w r s) x) (node_count_from w.first fs) (λ y. has fs y e) in
       let few = few_fit w trail g.saturated x c n s e (node_of v lt) h sh in
       le-leb (count_below i.size (λ u. i.in_role s v u && holds i (tree_of w.table e) u)) n (omega arith)
 
@@ -229,7 +229,7 @@ module _ (w : SearchContext) (trail : List Item) (i : Interpretation) (g : Setti
   all_sure : (c s e v : ℕ) → shape_of w.table c ≡ all_shape s e → Sure e → v < i.size → has fs (like_at v) c ≡ true → holds i (all_of s (tree_of w.table e)) v ≡ true
   all_sure c s e v sh sure lt h = all_from i.size (λ u. implies (i.in_role s v u) (holds i (tree_of w.table e) u)) (λ u mt.
       implies_from (i.in_role s v u) (holds i (tree_of w.table e) u) (λ k.
-      sure u mt (has_like u e mt (all_at_pair w trail i g s e c (node_at fs v) (node_at fs u) (stands_at w trail i g v lt) h sh ((g.built.roles_are s v u lt mt).0 k)))))
+      sure u mt (has_like u e mt (all_at_pair w trail i g s e c (node_at w.first fs v) (node_at w.first fs u) (stands_at w trail i g v lt) h sh ((g.built.roles_are s v u lt mt).0 k)))))
 
   -- ---- any number of the table
 

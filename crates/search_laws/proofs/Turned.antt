@@ -1,15 +1,14 @@
--- What facts say where their second one gives node 0 another concept than top.
-use Rattle.std.proofs.Common.{◌≡◌, ℕ, zero, suc, ◌+◌, ◌<◌, ◌&&◌, ◌||◌, ◌⊎◌, eqb, ltb, cond, Bool, true, false, List, [], ◌∷◌, ◌++◌, refl, ap, ◌∙◌, sym, subst, arith, inl, inr, eq-eqb}
+-- What facts say where their second one gives the node in question another concept than top.
+use Rattle.std.proofs.Common.{◌≡◌, ℕ, zero, suc, ◌+◌, ◌<◌, ◌&&◌, ◌||◌, ◌⊎◌, eqb, ltb, cond, Bool, true, false, List, [], ◌∷◌, ◌++◌, refl, ap, ◌∙◌, sym, subst, arith, inl, inr, eq-eqb, lt-ltb}
 use Rattle.std.specs.Prelude.{slice_index_or}
 use Rattle.std.specs.List.{list_any, list_all}
-use Rattle.std.proofs.lemmas.Bool.{eqb-true, ltb-true, or_cases, cases_Bool, cases_lt, and_parts, or_left, ne_eqb}
+use Rattle.std.proofs.lemmas.Bool.{eqb-true, ltb-true, or_cases, cases_Bool, and_parts, or_left, ne_eqb}
 use Rattle.std.proofs.Math.Bool.{or-false, or_comm}
 use Rattle.calculus_specs.specs.declared.facts.Fact.{Fact}
 use Rattle.calculus_specs.specs.declared.facts.Fact.TheVariants.{Has, Edge, Apart, Same}
 use Rattle.calculus_specs.specs.Joins.{rep}
-use Rattle.calculus_specs.specs.State.{parent, gives_concept, has, has_edge, concepts_at, label, is_label_part, HasParentsBefore}
+use Rattle.calculus_specs.specs.State.{parent_from, gives_concept, has, has_edge, concepts_at, label, is_label_part}
 use Rattle.calculus_specs.specs.Reading.{are_listed}
-use Rattle.calculus_specs.proofs.Joined.{rep-le}
 use Rattle.calculus_specs.proofs.State.{eqb-comm, any-label}
 use Rattle.tableau_specs.specs.declared.Block.{Block}
 use Rattle.tableau_specs.specs.declared.Block.TheVariants.{Clear, By, Under}
@@ -30,9 +29,6 @@ and_last : (a b c d : Bool) → (b ≡ true → c ≡ d) → (a && b && c) ≡ (
 and_last true true c d h = h refl
 and_last true false c d h = refl
 and_last false b c d h = refl
-
-positive : (x : ℕ) → eqb x 0 ≡ false → 0 < x
-positive x other = elim (cases_lt 0 x) [ inl lt ↦ lt | inr ge ↦ (let k = eq-eqb x 0 (omega arith) in cc) ]
 
 -- two tests agree on a list where they agree on its members
 all_alike : (p q : ℕ → Bool) (cs : List ℕ) → ((c : ℕ) → list_any (λ d. eqb d c) cs ≡ true → p c ≡ q c) → list_all p cs ≡ list_all q cs
@@ -79,114 +75,118 @@ has_listed bound fs some h x c held = elim (or_cases (eqb c 0) (list_any (gives_
 
 -- ---- the two lists of facts
 
-module _ (sub n : ℕ) (gs : List (Fact ℕ)) where
+module _ (at sub n : ℕ) (gs : List (Fact ℕ)) where
   abbrev pub old_facts : List (Fact ℕ)
-  old_facts = Has 0 sub ∷ Has 0 0 ∷ gs
+  old_facts = Has at sub ∷ Has at 0 ∷ gs
 
   abbrev pub new_facts : List (Fact ℕ)
-  new_facts = Has 0 sub ∷ Has 0 n ∷ gs
+  new_facts = Has at sub ∷ Has at n ∷ gs
 
-  pub root_rep : rep old_facts 0 ≡ 0
-  root_rep = omega (arith, rep-le old_facts 0)
+module _ (first at sub n : ℕ) (gs : List (Fact ℕ)) (stays : rep (old_facts at sub n gs) at ≡ at) where
+  abbrev olds : List (Fact ℕ)
+  olds = old_facts at sub n gs
 
-  has_new : (x c : ℕ) → has new_facts x c ≡ (has old_facts x c || (eqb (rep old_facts 0) (rep old_facts x) && eqb n c))
+  abbrev news : List (Fact ℕ)
+  news = new_facts at sub n gs
+
+  has_new : (x c : ℕ) → has news x c ≡ (has olds x c || (eqb (rep olds at) (rep olds x) && eqb n c))
   has_new x c =
-      moved (eqb c 0) (eqb 0 c) (eqb (rep old_facts 0) (rep old_facts x)) (eqb sub c) (eqb n c) (list_any (gives_concept (λ d. eqb d c) (rep old_facts) (rep old_facts x)) gs)
+      moved (eqb c 0) (eqb 0 c) (eqb (rep olds at) (rep olds x)) (eqb sub c) (eqb n c) (list_any (gives_concept (λ d. eqb d c) (rep olds) (rep olds x)) gs)
       (λ h. eqb-comm 0 c ∙ h)
 
-  pub has_up : (x c : ℕ) → has old_facts x c ≡ true → has new_facts x c ≡ true
-  has_up x c h = has_new x c ∙ or_left (has old_facts x c) (eqb (rep old_facts 0) (rep old_facts x) && eqb n c) h
+  pub has_up : (x c : ℕ) → has olds x c ≡ true → has news x c ≡ true
+  has_up x c h = has_new x c ∙ or_left (has olds x c) (eqb (rep olds at) (rep olds x) && eqb n c) h
 
-  pub has_cases : (x c : ℕ) → has new_facts x c ≡ true → (has old_facts x c ≡ true) ⊎ ((rep old_facts x ≡ 0) × (n ≡ c))
-  has_cases x c h = elim (or_cases (has old_facts x c) (eqb (rep old_facts 0) (rep old_facts x) && eqb n c) (sym (has_new x c) ∙ h)) [
+  pub has_cases : (x c : ℕ) → has news x c ≡ true → (has olds x c ≡ true) ⊎ ((rep olds x ≡ at) × (n ≡ c))
+  has_cases x c h = elim (or_cases (has olds x c) (eqb (rep olds at) (rep olds x) && eqb n c) (sym (has_new x c) ∙ h)) [
     | inl before ↦ inl before
     | inr now ↦
-        let t = and_parts (eqb (rep old_facts 0) (rep old_facts x)) (eqb n c) now in
-        inr (sym (eqb-true (rep old_facts 0) (rep old_facts x) t.0) ∙ root_rep, eqb-true n c t.1)
+        let t = and_parts (eqb (rep olds at) (rep olds x)) (eqb n c) now in
+        inr (sym (eqb-true (rep olds at) (rep olds x) t.0) ∙ stays, eqb-true n c t.1)
   ]
 
-  -- a node that is not node 0, or another concept, is as before
-  pub has_other : (x c : ℕ) → ¬ ((rep old_facts x ≡ 0) × (n ≡ c)) → has new_facts x c ≡ has old_facts x c
-  has_other x c other = elim (cases_Bool (has old_facts x c)) [
+  -- another node than the one in question, or another concept, is as before
+  pub has_other : (x c : ℕ) → ¬ ((rep olds x ≡ at) × (n ≡ c)) → has news x c ≡ has olds x c
+  has_other x c other = elim (cases_Bool (has olds x c)) [
     | inl held ↦ has_up x c held ∙ sym held
-    | inr out ↦ elim (cases_Bool (has new_facts x c)) [
+    | inr out ↦ elim (cases_Bool (has news x c)) [
       | inr still ↦ still ∙ sym out
       | inl now ↦ elim (has_cases x c now) [ inl before ↦ now ∙ sym before | inr root ↦ absurd (other root) ]
     ]
   ]
 
-  pub alike : IsAlike old_facts new_facts
+  pub alike : IsAlike first olds news
   alike = record { reps = refl; nodes = refl; edges = λ roles x y. refl; aparts = λ x y. refl }
 
   -- ---- names in labels
 
-  pub label_alike : (p q : ℕ → Bool) (bound x : ℕ) → p n ≡ false → q 0 ≡ false → 0 < bound → ((c : ℕ) → c < bound → p c ≡ q c) → are_listed bound old_facts ≡ true
-      → list_any p (label new_facts x) ≡ list_any q (label old_facts x)
+  pub label_alike : (p q : ℕ → Bool) (bound x : ℕ) → p n ≡ false → q 0 ≡ false → 0 < bound → ((c : ℕ) → c < bound → p c ≡ q c) → are_listed bound olds ≡ true
+      → list_any p (label news x) ≡ list_any q (label olds x)
   label_alike p q bound x none zero_out some same h =
-      let t = and_parts (ltb sub bound) (are_listed bound (Has 0 0 ∷ gs)) h in
+      let t = and_parts (ltb sub bound) (are_listed bound (Has at 0 ∷ gs)) h in
       let u = and_parts (ltb 0 bound) (are_listed bound gs) t.1 in
       let top = same 0 some in
       let first = same sub (ltb-true sub bound t.0) in
-      let rest = concepts_alike p q bound same (rep old_facts) (rep old_facts x) gs u.1 in
-      let R : List ℕ = concepts_at (rep old_facts) (rep old_facts x) gs in
-      elim (eqb (rep old_facts 0) (rep old_facts x)) as (λ b. (p 0 || list_any p (cond b (sub ∷ cond b (n ∷ R) R) (cond b (n ∷ R) R))) ≡ (q 0 || list_any q (cond b (sub ∷ cond b (0 ∷ R) R) (cond b (0 ∷ R) R)))) [
+      let rest = concepts_alike p q bound same (rep olds) (rep olds x) gs u.1 in
+      let R : List ℕ = concepts_at (rep olds) (rep olds x) gs in
+      elim (eqb (rep olds at) (rep olds x)) as (λ b. (p 0 || list_any p (cond b (sub ∷ cond b (n ∷ R) R) (cond b (n ∷ R) R))) ≡ (q 0 || list_any q (cond b (sub ∷ cond b (0 ∷ R) R) (cond b (0 ∷ R) R)))) [
         | true ↦ (λ i. top i || (first i || ((none ∙ sym zero_out) i || rest i)))
         | false ↦ (λ i. top i || rest i)
       ]
 
   -- ---- blocks
 
-  module _ (ends : (roles : ℕ → Bool) (x y : ℕ) → has_edge old_facts roles x y ≡ true → ¬ (rep old_facts y ≡ 0)) where
-    -- successors are not node 0
-    pub filled_same : (below : ℕ → ℕ → Bool) (x s e : ℕ) → filled_successors below new_facts x s e ≡ filled_successors below old_facts x s e
+  module _ (ends : (roles : ℕ → Bool) (x y : ℕ) → has_edge olds roles x y ≡ true → ¬ (rep olds y ≡ at)) where
+    -- successors are not the node in question
+    pub filled_same : (below : ℕ → ℕ → Bool) (x s e : ℕ) → filled_successors first below news x s e ≡ filled_successors first below olds x s e
     filled_same below x s e =
-        filled_alike old_facts new_facts alike below x s e (λ y next. has_other y e (λ r. ends (λ t. below t s) x y (successor_has_edge old_facts (λ t. below t s) x y next) r.0))
+        filled_alike first olds news alike below x s e (λ y next. has_other y e (λ r. ends (λ t. below t s) x y (successor_has_edge olds (λ t. below t s) x y next) r.0))
 
-    filled_each : (below : ℕ → ℕ → Bool) (x s e y : ℕ) → is_filled_successor below new_facts x s e y ≡ is_filled_successor below old_facts x s e y
+    filled_each : (below : ℕ → ℕ → Bool) (x s e y : ℕ) → is_filled_successor first below news x s e y ≡ is_filled_successor first below olds x s e y
     filled_each below x s e y =
-        and_last _ (has_edge old_facts (λ t. below t s) x y) (has new_facts y e) (has old_facts y e) (λ edge. has_other y e (λ r. ends (λ t. below t s) x y edge r.0))
+        and_last _ (has_edge olds (λ t. below t s) x y) (has news y e) (has olds y e) (λ edge. has_other y e (λ r. ends (λ t. below t s) x y edge r.0))
 
-    pub run_same : (below : ℕ → ℕ → Bool) (x s e : ℕ) (ys : List ℕ) → list_all (is_filled_successor below new_facts x s e) ys ≡ list_all (is_filled_successor below old_facts x s e) ys
+    pub run_same : (below : ℕ → ℕ → Bool) (x s e : ℕ) (ys : List ℕ) → list_all (is_filled_successor first below news x s e) ys ≡ list_all (is_filled_successor first below olds x s e) ys
     run_same below x s e ys = λ i. list_all (λ y. filled_each below x s e y i) ys
 
-  module _ (alone : (x : ℕ) → rep old_facts x ≡ 0 → x ≡ 0) (none : (x : ℕ) → has old_facts x n ≡ false) (before : HasParentsBefore old_facts) where
-    label_same : (x : ℕ) → 0 < x → label new_facts x ≡ label old_facts x
-    label_same x pos =
-        let R : List ℕ = concepts_at (rep old_facts) (rep old_facts x) gs in
-        let other : eqb (rep old_facts 0) (rep old_facts x) ≡ false = ne_eqb (rep old_facts 0) (rep old_facts x) (λ e. absurd (omega (arith, pos, alone x (sym e ∙ root_rep)))) in
+  module _ (is_first : at < first) (alone : (x : ℕ) → rep olds x ≡ at → x ≡ at) (none : (x : ℕ) → has olds x n ≡ false) where
+    label_same : (x : ℕ) → ¬ (x ≡ at) → label news x ≡ label olds x
+    label_same x ne =
+        let R : List ℕ = concepts_at (rep olds) (rep olds x) gs in
+        let other : eqb (rep olds at) (rep olds x) ≡ false = ne_eqb (rep olds at) (rep olds x) (λ e. ne (alone x (sym e ∙ stays))) in
         ap (λ (b : Bool). 0 ∷ cond b (sub ∷ cond b (n ∷ R) R) (cond b (n ∷ R) R)) other ∙ sym (ap (λ (b : Bool). 0 ∷ cond b (sub ∷ cond b (0 ∷ R) R) (cond b (0 ∷ R) R)) other)
 
-    part_same : (x z : ℕ) → 0 < x → is_label_part new_facts x z ≡ is_label_part old_facts x z
-    part_same x z pos =
-        ap (list_all (has new_facts z)) (label_same x pos)
-        ∙ all_alike (has new_facts z) (has old_facts z) (label old_facts x)
-        (λ c there. has_other z c (λ r. (let held = sym (any-label old_facts x c) ∙ there in let k = subst (λ (d : ℕ). has old_facts x d ≡ false) r.1 (none x) in cc)))
+    part_same : (x z : ℕ) → ¬ (x ≡ at) → is_label_part news x z ≡ is_label_part olds x z
+    part_same x z ne =
+        ap (list_all (has news z)) (label_same x ne)
+        ∙ all_alike (has news z) (has olds z) (label olds x)
+        (λ c there. has_other z c (λ r. (let held = sym (any-label olds x c) ∙ there in let k = subst (λ (d : ℕ). has olds x d ≡ false) r.1 (none x) in cc)))
 
-    may_same : (blocks : List Block) (x z : ℕ) → 0 < x → may_block new_facts blocks x z ≡ may_block old_facts blocks x z
-    may_same blocks x z pos = ap (λ (b : Bool). eqb (rep old_facts z) z && is_clear (slice_index_or blocks z Under) && b) (part_same x z pos)
+    may_same : (blocks : List Block) (x z : ℕ) → ¬ (x ≡ at) → may_block news blocks x z ≡ may_block olds blocks x z
+    may_same blocks x z ne = ap (λ (b : Bool). eqb (rep olds z) z && is_clear (slice_index_or blocks z Under) && b) (part_same x z ne)
 
-    from_same : (blocks : List Block) (x z k : ℕ) → 0 < x → blocked_from new_facts blocks x z k ≡ blocked_from old_facts blocks x z k
-    from_same blocks x z zero pos = refl
-    from_same blocks x z (suc k) pos =
-        let here = may_same blocks x z pos in
-        let rest = from_same blocks x (z + 1) k pos in
+    from_same : (blocks : List Block) (x z k : ℕ) → ¬ (x ≡ at) → blocked_from news blocks x z k ≡ blocked_from olds blocks x z k
+    from_same blocks x z zero ne = refl
+    from_same blocks x z (suc k) ne =
+        let here = may_same blocks x z ne in
+        let rest = from_same blocks x (z + 1) k ne in
         λ i. cond (here i) (By z) (rest i)
 
-    at_same : (blocks : List Block) (x : ℕ) → block_at new_facts blocks x ≡ block_at old_facts blocks x
+    at_same : (blocks : List Block) (x : ℕ) → block_at first news blocks x ≡ block_at first olds blocks x
     at_same blocks x =
-        let up : Bool = is_parent_clear old_facts blocks (parent old_facts x) in
-        elim (cases_Bool (eqb x 0)) [
-          | inl root ↦
-              ap (λ (b : Bool). cond b Clear (cond up (blocked_from new_facts blocks x 0 x) Under)) root
-              ∙ sym (ap (λ (b : Bool). cond b Clear (cond up (blocked_from old_facts blocks x 0 x) Under)) root)
-          | inr other ↦ ap (λ (b : Block). cond (eqb x 0) Clear (cond up b Under)) (from_same blocks x 0 x (positive x other))
+        let up : Bool = is_parent_clear olds blocks (parent_from first olds x) in
+        elim (cases_Bool (ltb x first)) [
+          | inl low ↦
+              ap (λ (b : Bool). cond b Clear (cond up (blocked_from news blocks x 0 x) Under)) low
+              ∙ sym (ap (λ (b : Bool). cond b Clear (cond up (blocked_from olds blocks x 0 x) Under)) low)
+          | inr high ↦ ap (λ (b : Block). cond (ltb x first) Clear (cond up b Under)) (from_same blocks x 0 x (λ e. (let k = ap (λ (y : ℕ). ltb y first) e ∙ lt-ltb at first is_first in cc)))
         ]
 
-    to_same : (k : ℕ) → blocks_to new_facts k ≡ blocks_to old_facts k
+    to_same : (k : ℕ) → blocks_to first news k ≡ blocks_to first olds k
     to_same zero = refl
     to_same (suc k) =
         let earlier = to_same k in
-        ap (λ (b : List Block). b ++ block_at new_facts b k ∷ []) earlier ∙ ap (λ (b : Block). blocks_to old_facts k ++ b ∷ []) (at_same (blocks_to old_facts k) k)
+        ap (λ (b : List Block). b ++ block_at first news b k ∷ []) earlier ∙ ap (λ (b : Block). blocks_to first olds k ++ b ∷ []) (at_same (blocks_to first olds k) k)
 
-    pub block_same : (x : ℕ) → block_of new_facts x ≡ block_of old_facts x
-    block_same x = ap (λ (b : List Block). block_at new_facts b x) (to_same x) ∙ at_same (blocks_to old_facts x) x
+    pub block_same : (x : ℕ) → block_of first news x ≡ block_of first olds x
+    block_same x = ap (λ (b : List Block). block_at first news b x) (to_same x) ∙ at_same (blocks_to first olds x) x

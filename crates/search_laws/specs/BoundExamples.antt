@@ -1,9 +1,14 @@
 -- Worked closures.
-use Rattle.std.specs.Prelude.{◌≡◌, false, ◌==◌, [], ◌∷◌, refl}
+use Rattle.std.specs.Prelude.{◌≡◌, false, ◌==◌, List, [], ◌∷◌, refl}
 use Rattle.shq_terms.specs.Concept.{top, bottom, name, complement, union, some_of, all_of, at_least, at_most, parts_of}
 use Rattle.calculus_specs.specs.Rows.{Theory, inclusion_of}
+use Rattle.calculus_specs.specs.Rules.{on_any}
+use Rattle.calculus_specs.specs.declared.facts.Fact.TheVariants.{Has, Edge, Same}
+use Rattle.shq_terms.specs.declared.axioms.Axiom.TheVariants.{Member, Pair, SameAll}
+use Rattle.shq_terms.specs.declared.axioms.Numbered.{Numbered}
+use Rattle.shq_terms.specs.declared.axioms.On.TheVariants.{Any}
 use Rattle.search_laws.specs.Closure.{most_made, most_parts, node_bound}
-use Rattle.search_laws.specs.ComputedClosure.{closure}
+use Rattle.search_laws.specs.ComputedClosure.{given_facts, closure, closure_of}
 
 -- each class 10 has some class 10 by role 7
 abbrev theory : Theory
@@ -14,14 +19,14 @@ theory = record {
 }
 
 -- both rows of the inclusion, with the union's parts and the filler
-pub five_concepts : closure theory [] (name 10) bottom
+pub five_concepts : closure (on_any theory (name 10) bottom) [] []
     ≡ top ∷ union (parts_of (complement (name 10) ∷ some_of 7 (name 10) ∷ [])) ∷ complement (name 10) ∷ some_of 7 (name 10) ∷ name 10 ∷ []
 five_concepts = refl
 
-pub generates_one : most_made (closure theory [] (name 10) bottom) ≡ 1
+pub generates_one : most_made (closure (on_any theory (name 10) bottom) [] []) ≡ 1
 generates_one = refl
 
-pub has_two_parts : most_parts (closure theory [] (name 10) bottom) ≡ 2
+pub has_two_parts : most_parts (closure (on_any theory (name 10) bottom) [] []) ≡ 2
 has_two_parts = refl
 
 -- role 9 is transitive
@@ -29,16 +34,37 @@ abbrev one_transitive : Theory
 one_transitive = record { parts = []; below = λ r s. r == s; is_transitive = λ r. r == 9 }
 
 -- the transitive role hands on an 'all'
-pub all_is_carried : closure one_transitive (9 ∷ []) (all_of 7 (name 10)) bottom ≡ all_of 7 (name 10) ∷ all_of 9 (name 10) ∷ name 10 ∷ top ∷ []
+pub all_is_carried : closure (on_any one_transitive (all_of 7 (name 10)) bottom) (9 ∷ []) [] ≡ all_of 7 (name 10) ∷ all_of 9 (name 10) ∷ name 10 ∷ top ∷ []
 all_is_carried = refl
 
 -- 'at most' brings its filler and the complement of that
-pub other_is_in : closure one_transitive (9 ∷ []) (at_most 3 7 (name 10)) bottom ≡ at_most 3 7 (name 10) ∷ name 10 ∷ complement (name 10) ∷ top ∷ []
+pub other_is_in : closure (on_any one_transitive (at_most 3 7 (name 10)) bottom) (9 ∷ []) [] ≡ at_most 3 7 (name 10) ∷ name 10 ∷ complement (name 10) ∷ top ∷ []
 other_is_in = refl
 
 -- a closure of one concept bounds the nodes by 16
 pub nodes_of_one : node_bound 1 1 ≡ 16
 nodes_of_one = refl
 
-pub generates_three : most_made (closure one_transitive (9 ∷ []) (at_least 3 7 (name 10)) bottom) ≡ 3
+pub generates_three : most_made (closure (on_any one_transitive (at_least 3 7 (name 10)) bottom) (9 ∷ []) []) ≡ 3
 generates_three = refl
+
+-- ---- individuals
+
+-- individual 0 has some class 10 by role 7, and is the same as individual 1, to which role 8 leads from it
+abbrev of_individuals : List Numbered
+of_individuals =
+    record { «axiom» = Member (some_of 7 (name 10)) 0; line = 1 }
+    ∷ record { «axiom» = Pair 8 0 1; line = 2 }
+    ∷ record { «axiom» = SameAll (0 ∷ 1 ∷ []); line = 3 }
+    ∷ []
+
+pub three_facts : given_facts 2 of_individuals (1 ∷ 2 ∷ 3 ∷ []) ≡ Has 0 (some_of 7 (name 10)) ∷ Edge 8 0 1 ∷ Same 0 1 ∷ []
+three_facts = refl
+
+-- of one individual alone
+pub one_fact : given_facts 1 of_individuals (1 ∷ 2 ∷ 3 ∷ []) ≡ Has 0 (some_of 7 (name 10)) ∷ []
+one_fact = refl
+
+-- what an individual has is in the closure, and so is what that contains
+pub member_is_in : closure_of 2 of_individuals (1 ∷ 2 ∷ 3 ∷ []) (record { sub = top; sup = bottom; on = Any }) ≡ top ∷ some_of 7 (name 10) ∷ name 10 ∷ []
+member_is_in = refl

@@ -3,14 +3,15 @@ use Rattle.std.specs.Prelude.{◌≡◌, ℕ, suc, ◌+◌, ◌*◌, ◌^◌, �
 use Rattle.shq_meaning.specs.Below.{count_below}
 use Rattle.shq_terms.specs.declared.axioms.Numbered.{Numbered}
 use Rattle.shq_terms.specs.declared.axioms.Query.{Query}
-use Rattle.refutation_truth.specs.Theory.{theory_of}
-use Rattle.search_laws.specs.ComputedClosure.{closure_of}
+use Rattle.refutation_truth.specs.Theory.{question_of}
+use Rattle.search_laws.specs.ComputedClosure.{HasFacts, given_facts, closure_of}
 use Rattle.shq_terms.specs.Concept.{Concept}
 use Rattle.calculus_specs.specs.Shape.{Shape}
 use Rattle.calculus_specs.specs.Tree.{tree_of}
 use Rattle.calculus_specs.specs.Rows.{Theory, Row}
+use Rattle.calculus_specs.specs.Rules.{Question}
 use Rattle.calculus_specs.specs.declared.facts.Fact.{Fact}
-use Rattle.calculus_specs.specs.State.{node_count, parent, has}
+use Rattle.calculus_specs.specs.State.{node_count_from, parent_from, has}
 use Rattle.tableau_specs.specs.declared.Item.{Item}
 use Rattle.tableau_specs.specs.declared.Item.TheVariants.{Fact as Says, Mark}
 use Rattle.tableau_specs.specs.Items.{facts_of}
@@ -21,8 +22,8 @@ use Rattle.search_laws.specs.Closure.{IsInClosure, IsClosure, most_made, node_bo
 
 -- each concept of a reached trail is in the closure
 abbrev pub ConceptsAreInClosure : Type 0
-ConceptsAreInClosure = (theory : Theory) (sub sup : Concept) (table : List Shape) (rows : List Row) (k : ℕ) (trail : List Item) → IsReached theory sub sup table rows k trail
-    → (x c : ℕ) → has (facts_of trail) x c ≡ true → IsInClosure theory sub sup (tree_of table c)
+ConceptsAreInClosure = (q : Question) (table : List Shape) (rows : List Row) (k : ℕ) (trail : List Item) → IsReached q table rows k trail
+    → (x c : ℕ) → has (facts_of trail) x c ≡ true → IsInClosure q (tree_of table c)
 
 -- ---- marks
 
@@ -37,33 +38,39 @@ AreAtFirst [] = Unit {0}
 AreAtFirst (Says f ∷ is) = AreAtFirst is
 AreAtFirst (Mark c ∷ is) = (c.alternative ≡ 1) × AreAtFirst is
 
--- where no mark has gone on to a later alternative, the steps are at most so many
+-- where no mark has gone on to a later alternative, the steps are at most so many; each given fact is put once at most
 abbrev pub FewStepsAtFirst : Type 0
-FewStepsAtFirst = (theory : Theory) (sub sup : Concept) (cs : List Concept) (table : List Shape) (rows : List Row) (k : ℕ) (trail : List Item)
-    → IsClosure theory sub sup cs → IsReached theory sub sup table rows k trail → AreAtFirst trail
-    → k ≤ node_count (facts_of trail) * (length cs + 2)
+FewStepsAtFirst = (q : Question) (cs : List Concept) (facts : List (Fact Concept)) (table : List Shape) (rows : List Row) (k : ℕ) (trail : List Item)
+    → IsClosure q cs → HasFacts q facts → IsReached q table rows k trail → AreAtFirst trail
+    → k ≤ node_count_from q.first (facts_of trail) * (length cs + 2) + length facts
 
 abbrev pub FewMarks : Type 0
-FewMarks = (theory : Theory) (sub sup : Concept) (cs : List Concept) (table : List Shape) (rows : List Row) (k : ℕ) (trail : List Item)
-    → IsClosure theory sub sup cs → IsReached theory sub sup table rows k trail
-    → mark_count trail ≤ node_count (facts_of trail) * (node_count (facts_of trail) + length cs + 1)
+FewMarks = (q : Question) (cs : List Concept) (table : List Shape) (rows : List Row) (k : ℕ) (trail : List Item)
+    → IsClosure q cs → IsReached q table rows k trail
+    → mark_count trail ≤ node_count_from q.first (facts_of trail) * (node_count_from q.first (facts_of trail) + length cs + 1)
 
 -- ---- nodes
 
--- a first node is one without a parent; node 0 is one
-pub record IsFirst (fs : List (Fact ℕ)) (x : ℕ) : Type 0 where
-  pub is_node : x < node_count fs
-  pub has_no_parent : parent fs x ≡ None
+-- no axiom gives a fact: none speaks of an individual
+abbrev pub HasNoFacts : Question → Type 0
+HasNoFacts q = (a p : ℕ) → q.fact_of a p ≡ None
+
+-- a first node is one without a parent
+pub record IsFirst (first : ℕ) (fs : List (Fact ℕ)) (x : ℕ) : Type 0 where
+  pub is_node : x < node_count_from first fs
+  pub has_no_parent : parent_from first fs x ≡ None
 
 -- the path from a first node to the node, by parents, has n nodes
-pub data HasPath (fs : List (Fact ℕ)) : ℕ → ℕ → Type 0 where
-  from_first : (x : ℕ) → IsFirst fs x → HasPath fs x 1
-  below : (x p n : ℕ) → parent fs x ≡ Some p → HasPath fs p n → HasPath fs x (suc n)
+pub data HasPath (first : ℕ) (fs : List (Fact ℕ)) : ℕ → ℕ → Type 0 where
+  from_first : (x : ℕ) → IsFirst first fs x → HasPath first fs x 1
+  below : (x p n : ℕ) → parent_from first fs x ≡ Some p → HasPath first fs p n → HasPath first fs x (suc n)
 
+-- where no fact is given, paths are short; where facts are given, a node that was made may be joined to a first node,
+-- below which paths grow anew
 abbrev pub PathsAreShort : Type 0
-PathsAreShort = (theory : Theory) (sub sup : Concept) (cs : List Concept) (table : List Shape) (rows : List Row) (k : ℕ) (trail : List Item)
-    → IsClosure theory sub sup cs → IsReached theory sub sup table rows k trail
-    → (x n : ℕ) → HasPath (facts_of trail) x n → n ≤ 2 ^ length cs + 1
+PathsAreShort = (q : Question) (cs : List Concept) (table : List Shape) (rows : List Row) (k : ℕ) (trail : List Item)
+    → HasNoFacts q → IsClosure q cs → IsReached q table rows k trail
+    → (x n : ℕ) → HasPath q.first (facts_of trail) x n → n ≤ 2 ^ length cs + 1
 
 -- each role is below itself
 abbrev pub RolesAreBelowThemselves : Theory → Type 0
@@ -74,36 +81,38 @@ abbrev pub is_at : ℕ → Option ℕ → Bool
 is_at x None = false
 is_at x (Some p) = p == x
 
-abbrev pub children : List (Fact ℕ) → ℕ → ℕ
-children fs x = count_below (node_count fs) (λ z. is_at x (parent fs z))
+abbrev pub children : ℕ → List (Fact ℕ) → ℕ → ℕ
+children first fs x = count_below (node_count_from first fs) (λ z. is_at x (parent_from first fs z))
 
 -- below a node few are made, where a new edge is one below its own role
 abbrev pub FewChildren : Type 0
-FewChildren = (theory : Theory) (sub sup : Concept) (cs : List Concept) (table : List Shape) (rows : List Row) (k : ℕ) (trail : List Item)
-    → RolesAreBelowThemselves theory → IsClosure theory sub sup cs → IsReached theory sub sup table rows k trail
-    → (x : ℕ) → children (facts_of trail) x ≤ length cs * most_made cs
+FewChildren = (q : Question) (cs : List Concept) (table : List Shape) (rows : List Row) (k : ℕ) (trail : List Item)
+    → RolesAreBelowThemselves q.theory → IsClosure q cs → IsReached q table rows k trail
+    → (x : ℕ) → children q.first (facts_of trail) x ≤ length cs * most_made cs
 
--- a trail has few nodes, where a new edge is one below its own role
+-- a trail has few nodes, where a new edge is one below its own role, node 0 is the only first node, and no fact is given
 abbrev pub FewNodes : Type 0
-FewNodes = (theory : Theory) (sub sup : Concept) (cs : List Concept) (table : List Shape) (rows : List Row) (k : ℕ) (trail : List Item)
-    → RolesAreBelowThemselves theory → IsClosure theory sub sup cs → IsReached theory sub sup table rows k trail
-    → node_count (facts_of trail) ≤ node_bound (length cs) (most_made cs)
+FewNodes = (q : Question) (cs : List Concept) (table : List Shape) (rows : List Row) (k : ℕ) (trail : List Item)
+    → q.first ≡ 1 → HasNoFacts q → RolesAreBelowThemselves q.theory → IsClosure q cs → IsReached q table rows k trail
+    → node_count_from q.first (facts_of trail) ≤ node_bound (length cs) (most_made cs)
 
 -- ---- steps
 
 abbrev pub FewSteps : Type 0
-FewSteps = (theory : Theory) (sub sup : Concept) (cs : List Concept) (table : List Shape) (rows : List Row) (k : ℕ) (trail : List Item)
-    → RolesAreBelowThemselves theory → IsClosure theory sub sup cs → IsReached theory sub sup table rows k trail
+FewSteps = (q : Question) (cs : List Concept) (table : List Shape) (rows : List Row) (k : ℕ) (trail : List Item)
+    → q.first ≡ 1 → HasNoFacts q → RolesAreBelowThemselves q.theory → IsClosure q cs → IsReached q table rows k trail
     → k ≤ step_bound cs
 
 -- ---- over axioms
 
--- c is the number of concepts in the closure and v that of the trail's nodes
-pub record IsBounded (axioms : List Numbered) (ks : List ℕ) (q : Query) (k : ℕ) (trail : List Item) : Type 0 where
-  pub all_steps : k ≤ step_bound (closure_of axioms ks q)
-  pub steps_at_first : AreAtFirst trail → k ≤ node_count (facts_of trail) * (length (closure_of axioms ks q) + 2)
-  pub marks : mark_count trail ≤ node_count (facts_of trail) * (node_count (facts_of trail) + length (closure_of axioms ks q) + 1)
+-- where n individuals are listed; c is the number of concepts in the closure, v that of the trail's nodes, and f that
+-- of the facts that the axioms give
+pub record IsBounded (n : ℕ) (axioms : List Numbered) (ks : List ℕ) (q : Query) (k : ℕ) (trail : List Item) : Type 0 where
+  pub all_steps : n ≡ 0 → k ≤ step_bound (closure_of n axioms ks q)
+  pub steps_at_first : AreAtFirst trail
+      → k ≤ node_count_from (n + 1) (facts_of trail) * (length (closure_of n axioms ks q) + 2) + length (given_facts n axioms ks)
+  pub marks : mark_count trail ≤ node_count_from (n + 1) (facts_of trail) * (node_count_from (n + 1) (facts_of trail) + length (closure_of n axioms ks q) + 1)
 
 abbrev pub LegalRunsAreBounded : Type 0
-LegalRunsAreBounded = (axioms : List Numbered) (ks : List ℕ) (q : Query) (table : List Shape) (rows : List Row) (k : ℕ) (trail : List Item)
-    → IsReached (theory_of axioms ks) q.sub q.sup table rows k trail → IsBounded axioms ks q k trail
+LegalRunsAreBounded = (n : ℕ) (axioms : List Numbered) (ks : List ℕ) (q : Query) (table : List Shape) (rows : List Row) (k : ℕ) (trail : List Item)
+    → IsReached (question_of n axioms ks q) table rows k trail → IsBounded n axioms ks q k trail

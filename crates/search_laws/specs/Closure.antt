@@ -1,36 +1,40 @@
--- The closure of a theory and a query: the concepts that a search may give to its nodes.
-use Rattle.std.specs.Prelude.{◌≡◌, ℕ, ◌+◌, ◌*◌, ◌^◌, true, max, List, [], ◌∷◌, length, Contains}
+-- The closure of what is in question: the concepts that a search may give to its nodes.
+use Rattle.std.specs.Prelude.{◌≡◌, ℕ, ◌+◌, ◌*◌, ◌^◌, true, max, List, [], ◌∷◌, length, Some, Contains}
 use Rattle.std.specs.List.{list_any, IsDistinct}
 use Rattle.shq_terms.specs.Concept.{Concept, top, intersection, union, some_of, all_of, at_least, at_most, Parts, part_list}
 use Rattle.calculus_specs.specs.Normal.{normal_form, negated_form}
 use Rattle.calculus_specs.specs.Same.{is_same}
-use Rattle.calculus_specs.specs.Rows.{NumberedPart, Theory, are_name_positions, row_concept}
+use Rattle.calculus_specs.specs.Rows.{NumberedPart, are_name_positions, row_concept}
 use Rattle.calculus_specs.specs.Rows.Part.{inclusion, range}
+use Rattle.calculus_specs.specs.declared.facts.Fact.TheVariants.{Has}
+use Rattle.calculus_specs.specs.Rules.{Question}
 
--- the concept is the query's, or of a row or a range of the axioms, or a rule gives it from one that is in the closure
-pub data IsInClosure (theory : Theory) (sub sup : Concept) : Concept → Type 0 where
-  has_top : IsInClosure theory sub sup top
-  has_sub : IsInClosure theory sub sup (normal_form sub)
-  has_not_sup : IsInClosure theory sub sup (negated_form sup)
+-- the concept is one in question, or of a row or a range of the axioms, or of a fact that an axiom gives, or a rule gives it
+-- from one that is in the closure
+pub data IsInClosure (q : Question) : Concept → Type 0 where
+  has_top : IsInClosure q top
+  has_sub : IsInClosure q (normal_form q.sub)
+  has_not_sup : IsInClosure q (negated_form q.sup)
   -- the row concepts of each inclusion, for all positions of names
-  has_row : (n : NumberedPart) (cs : List Concept) (d : Concept) (positions : List ℕ) → Contains theory.parts n → n.part ≡ inclusion cs d → are_name_positions cs positions ≡ true
-      → IsInClosure theory sub sup (row_concept cs d positions)
-  has_range : (n : NumberedPart) (r : ℕ) (d : Concept) → Contains theory.parts n → n.part ≡ range r d → IsInClosure theory sub sup d
-  has_conjunct : (cs : Parts) (c : Concept) → IsInClosure theory sub sup (intersection cs) → Contains (part_list cs) c → IsInClosure theory sub sup c
-  has_disjunct : (cs : Parts) (c : Concept) → IsInClosure theory sub sup (union cs) → Contains (part_list cs) c → IsInClosure theory sub sup c
-  has_some : (r : ℕ) (c : Concept) → IsInClosure theory sub sup (some_of r c) → IsInClosure theory sub sup c
-  has_all : (r : ℕ) (c : Concept) → IsInClosure theory sub sup (all_of r c) → IsInClosure theory sub sup c
-  has_least : (n r : ℕ) (c : Concept) → IsInClosure theory sub sup (at_least n r c) → IsInClosure theory sub sup c
-  has_most : (n r : ℕ) (c : Concept) → IsInClosure theory sub sup (at_most n r c) → IsInClosure theory sub sup c
+  has_row : (n : NumberedPart) (cs : List Concept) (d : Concept) (positions : List ℕ) → Contains q.theory.parts n → n.part ≡ inclusion cs d → are_name_positions cs positions ≡ true
+      → IsInClosure q (row_concept cs d positions)
+  has_range : (n : NumberedPart) (r : ℕ) (d : Concept) → Contains q.theory.parts n → n.part ≡ range r d → IsInClosure q d
+  has_member : (a p x : ℕ) (c : Concept) → q.fact_of a p ≡ Some (Has x c) → IsInClosure q c
+  has_conjunct : (cs : Parts) (c : Concept) → IsInClosure q (intersection cs) → Contains (part_list cs) c → IsInClosure q c
+  has_disjunct : (cs : Parts) (c : Concept) → IsInClosure q (union cs) → Contains (part_list cs) c → IsInClosure q c
+  has_some : (r : ℕ) (c : Concept) → IsInClosure q (some_of r c) → IsInClosure q c
+  has_all : (r : ℕ) (c : Concept) → IsInClosure q (all_of r c) → IsInClosure q c
+  has_least : (n r : ℕ) (c : Concept) → IsInClosure q (at_least n r c) → IsInClosure q c
+  has_most : (n r : ℕ) (c : Concept) → IsInClosure q (at_most n r c) → IsInClosure q c
   -- the complement of what is counted, which a search may choose
-  has_other : (n r : ℕ) (c : Concept) → IsInClosure theory sub sup (at_most n r c) → IsInClosure theory sub sup (negated_form c)
+  has_other : (n r : ℕ) (c : Concept) → IsInClosure q (at_most n r c) → IsInClosure q (negated_form c)
   -- what a transitive role hands on
-  has_carried : (s t : ℕ) (c : Concept) → IsInClosure theory sub sup (all_of s c) → theory.is_transitive t ≡ true → IsInClosure theory sub sup (all_of t c)
+  has_carried : (s t : ℕ) (c : Concept) → IsInClosure q (all_of s c) → q.theory.is_transitive t ≡ true → IsInClosure q (all_of t c)
 
 -- the list has each concept of the closure, once, and no other
-pub record IsClosure (theory : Theory) (sub sup : Concept) (cs : List Concept) : Type 0 where
-  pub has_each : (c : Concept) → IsInClosure theory sub sup c → list_any (is_same c) cs ≡ true
-  pub has_only : (c : Concept) → list_any (is_same c) cs ≡ true → IsInClosure theory sub sup c
+pub record IsClosure (q : Question) (cs : List Concept) : Type 0 where
+  pub has_each : (c : Concept) → IsInClosure q c → list_any (is_same c) cs ≡ true
+  pub has_only : (c : Concept) → list_any (is_same c) cs ≡ true → IsInClosure q c
   pub are_different : IsDistinct is_same cs
 
 -- ---- the numbers of the bounds

@@ -1,18 +1,22 @@
--- The closure as a list, where the transitive roles are listed.
-use Rattle.std.specs.Prelude.{◌≡◌, ℕ, zero, suc, max, true, ◌==◌, ◌↔◌, List, [], ◌∷◌, ◌++◌, map, if◌then◌else◌}
+-- The closure as a list, where the transitive roles and the concepts of given facts are listed.
+use Rattle.std.specs.Prelude.{◌≡◌, ℕ, zero, suc, ◌-◌, max, true, ◌==◌, ◌↔◌, nat_lt, List, [], ◌∷◌, ◌++◌, map, filter, slice_get, Option, Some, None, if◌then◌else◌, Contains}
 use Rattle.std.specs.List.{list_any, flat_map}
 use Rattle.shq_terms.specs.Concept.{Concept, top, bottom, name, complement, intersection, union, some_of, all_of, at_least, at_most, exactly, Parts, no_parts, part}
 use Rattle.calculus_specs.specs.Normal.{normal_form, negated_form, or_of}
 use Rattle.calculus_specs.specs.Same.{is_same}
-use Rattle.calculus_specs.specs.Rows.{Part, Theory, is_name}
+use Rattle.calculus_specs.specs.Rows.{Part, is_name}
 use Rattle.calculus_specs.specs.Rows.Part.{inclusion, range}
+use Rattle.calculus_specs.specs.declared.facts.Fact.{Fact}
+use Rattle.calculus_specs.specs.declared.facts.Fact.TheVariants.{Has, Edge, Apart, Same}
+use Rattle.calculus_specs.specs.Rules.{Question}
 use Rattle.calculus_specs.specs.Depth.{role_depth}
 use Rattle.shq_terms.specs.declared.axioms.Numbered.{Numbered}
 use Rattle.shq_terms.specs.declared.axioms.Query.{Query}
 use Rattle.role_box.specs.declared.role_axiom.RoleAxiom.{RoleAxiom}
 use Rattle.role_box.specs.declared.role_axiom.RoleAxiom.TheVariants.{Inclusion, Equivalence, Transitivity}
 use Rattle.role_box.specs.RoleAxioms.{role_axioms}
-use Rattle.refutation_truth.specs.Theory.{theory_of}
+use Rattle.shq_nnf.specs.Facts.{facts_of}
+use Rattle.refutation_truth.specs.Theory.{nodes_pass, question_of}
 use Rattle.search_laws.specs.Closure.{IsClosure}
 
 -- ---- the concepts of parts
@@ -55,10 +59,30 @@ abbrev pub given : List ℕ → ℕ → Concept → List Concept
 given ts zero c = given_by (λ e. []) ts c
 given ts (suc n) c = given_by (given ts n) ts c
 
+-- ---- given facts
+
+-- the list has each fact that an axiom gives
+abbrev pub HasFacts : Question → List (Fact Concept) → Type 0
+HasFacts q facts = (a p : ℕ) (f : Fact Concept) → q.fact_of a p ≡ Some f → Contains facts f
+
+-- the concept that a fact gives to its node, in a list of one
+abbrev pub given_concept : Fact Concept → List Concept
+given_concept (Has x c) = c ∷ []
+given_concept (Edge r x y) = []
+given_concept (Apart x y) = []
+given_concept (Same x y) = []
+
+-- an axiom gives a node the concept
+pub record IsMember (q : Question) (c : Concept) : Type 0 where
+  pub axiom_number : ℕ
+  pub place : ℕ
+  pub node : ℕ
+  pub is_given : q.fact_of axiom_number place ≡ Some (Has node c)
+
 -- ---- the closure
 
-abbrev pub roots : Theory → Concept → Concept → List Concept
-roots theory sub sup = top ∷ normal_form sub ∷ negated_form sup ∷ flat_map (λ n. part_concepts n.part) theory.parts
+abbrev pub roots : Question → List Concept → List Concept
+roots q members = top ∷ normal_form q.sub ∷ negated_form q.sup ∷ (flat_map (λ n. part_concepts n.part) q.theory.parts ++ members)
 
 abbrev pub deepest : List Concept → ℕ
 deepest [] = 0
@@ -68,13 +92,15 @@ abbrev pub each_once : List Concept → List Concept
 each_once [] = []
 each_once (c ∷ cs) = if list_any (is_same c) cs then each_once cs else c ∷ each_once cs
 
-abbrev pub closure : Theory → List ℕ → Concept → Concept → List Concept
-closure theory ts sub sup = each_once (flat_map (given ts (deepest (roots theory sub sup))) (roots theory sub sup))
+abbrev pub closure : Question → List ℕ → List Concept → List Concept
+closure q ts members = each_once (flat_map (given ts (deepest (roots q members))) (roots q members))
 
--- where the list has the transitive roles, this is the closure
+-- where the first list has the transitive roles, and the second the concepts that axioms give to nodes, this is the closure
 abbrev pub ClosureIsComputed : Type 0
-ClosureIsComputed = (theory : Theory) (ts : List ℕ) (sub sup : Concept) → ((t : ℕ) → (theory.is_transitive t ≡ true) ↔ (list_any (λ s. t == s) ts ≡ true))
-    → IsClosure theory sub sup (closure theory ts sub sup)
+ClosureIsComputed = (q : Question) (ts : List ℕ) (members : List Concept)
+    → ((t : ℕ) → (q.theory.is_transitive t ≡ true) ↔ (list_any (λ s. t == s) ts ≡ true))
+    → ((c : Concept) → IsMember q c ↔ (list_any (is_same c) members ≡ true))
+    → IsClosure q (closure q ts members)
 
 -- ---- of axioms
 
@@ -84,6 +110,24 @@ transitive_roles (Transitivity r ∷ axioms) = r ∷ transitive_roles axioms
 transitive_roles (Inclusion r s ∷ axioms) = transitive_roles axioms
 transitive_roles (Equivalence rs ∷ axioms) = transitive_roles axioms
 
--- the closure of the axioms of these numbers and a query
-abbrev pub closure_of : List Numbered → List ℕ → Query → List Concept
-closure_of axioms ks q = closure (theory_of axioms ks) (transitive_roles (role_axioms axioms ks)) q.sub q.sup
+-- the facts of an axiom that are of the first n individuals alone
+abbrev pub facts_in : ℕ → Option Numbered → List (Fact Concept)
+facts_in n None = []
+facts_in n (Some a) = filter (nodes_pass (λ x. nat_lt x n)) (facts_of a.axiom)
+
+-- the facts that the axioms of these numbers give, where n individuals are listed
+abbrev pub given_facts : ℕ → List Numbered → List ℕ → List (Fact Concept)
+given_facts n axioms ks = flat_map (λ k. facts_in n (slice_get axioms (k - 1))) ks
+
+-- the closure of the axioms of these numbers and a query, where n individuals are listed
+abbrev pub closure_of : ℕ → List Numbered → List ℕ → Query → List Concept
+closure_of n axioms ks q =
+    closure (question_of n axioms ks q) (transitive_roles (role_axioms axioms ks)) (flat_map given_concept (given_facts n axioms ks))
+
+-- each list is what it is said to be
+pub record IsComputed (n : ℕ) (axioms : List Numbered) (ks : List ℕ) (q : Query) : Type 0 where
+  pub facts : HasFacts (question_of n axioms ks q) (given_facts n axioms ks)
+  pub concepts : IsClosure (question_of n axioms ks q) (closure_of n axioms ks q)
+
+abbrev pub ClosureOfAxiomsIsComputed : Type 0
+ClosureOfAxiomsIsComputed = (n : ℕ) (axioms : List Numbered) (ks : List ℕ) (q : Query) → IsComputed n axioms ks q

@@ -10,6 +10,7 @@ pub mod Built
 pub mod Computed
 pub mod CounterModelLaws
 pub mod CounterModelExamples
+pub mod FirstNodeExamples
 pub mod Runs
 pub mod ReuseLaws
 pub mod ReuseExamples

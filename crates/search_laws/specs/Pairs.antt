@@ -8,7 +8,7 @@ use Rattle.search_laws.specs.Elements.{original}
 module _ (w : SearchContext) (fs : List (Fact ℕ)) where
   -- an edge by a role below s leads from the element x to y: it leads from the node that x is like
   abbrev pub LeadsTo : ℕ → ℕ → ℕ → Type 0
-  LeadsTo s x y = is_successor fs (λ r. below_of w r s) (original fs x) y ≡ true
+  LeadsTo s x y = is_successor fs (λ r. below_of w r s) (original w.first fs x) y ≡ true
 
   -- one or more edges by roles below t lead from x to y
   pub data IsChain (t : ℕ) : ℕ → ℕ → Type 0 where

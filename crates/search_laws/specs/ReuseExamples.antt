@@ -1,6 +1,6 @@
 -- Worked examples. The first run is for class 10, over the axiom that class 10 is in class 11: the row gives node 0
 -- class 11. The table's numbers are: 0 top, 1 class 10, 2 class 11, 3 the complement of class 11.
-use Rattle.std.specs.Prelude.{◌≡◌, ℕ, zero, suc, Bool, true, false, ◌==◌, List, [], ◌∷◌, ◌++◌, refl}
+use Rattle.std.specs.Prelude.{◌≡◌, ℕ, zero, suc, Bool, true, false, ◌==◌, List, [], ◌∷◌, ◌++◌, None, refl}
 use Rattle.std.proofs.Common.{lit<, ap, sym, subst, ◌∙◌, arith}
 use Rattle.std.specs.List.{list_any}
 use Rattle.calculus_specs.specs.Concept.{name as class}
@@ -14,13 +14,13 @@ use Rattle.tableau_specs.specs.declared.Item.{Item}
 use Rattle.tableau_specs.specs.declared.Branch.TheVariants.{Or}
 use Rattle.tableau_specs.specs.declared.Item.TheVariants.{Fact as Says, Mark}
 use Rattle.tableau_specs.specs.Items.{facts_of}
-use Rattle.tableau_specs.specs.Clash.IsPlainClash.{plain_bottom, plain_names, plain_most}
+use Rattle.tableau_specs.specs.Clash.IsPlainClash.{plain_bottom, plain_names, plain_most, plain_differ}
 use Rattle.tableau_specs.specs.Steps.{SearchContext, HasPlainClash}
 use Rattle.tableau_specs.specs.Steps.Adds.{by_row}
 use Rattle.tableau_specs.specs.Steps.IsLegal.{add}
 use Rattle.tableau_specs.specs.Reached.{start}
 use Rattle.tableau_specs.specs.StepExamples.{IsPlain}
-use Rattle.search_laws.specs.Runs.{IsRun, was_ever, puts_at_root, LeavesOut}
+use Rattle.search_laws.specs.Runs.{IsRun, was_ever, puts_at, LeavesOut}
 
 -- ---- the run for class 10
 
@@ -39,10 +39,12 @@ context = record {
   };
   table = table;
   rows = row ∷ [];
+  first = 1;
+  fact_of = λ a p. None;
 }
 
 abbrev first : List Item
-first = start 1 0
+first = start 0 1 0
 
 abbrev second : List Item
 second = first ++ Says (Has 0 2) ∷ []
@@ -73,14 +75,15 @@ no_plain_clash (plain_names x c d a lt h sh g th) =
     let f : has (facts_of first) 0 3 ≡ true = ap (λ (y : ℕ). has (facts_of first) y 3) (sym z) ∙ ap (has (facts_of first) x) (sym k) ∙ g in
     cc
 no_plain_clash (plain_most x c n s e lt h sh more every) = subst IsPlain sh (plain_each c)
+no_plain_clash (plain_differ y z lt mt apart one) = cc
 
-pub is_run : IsRun context (start 1 0) run
+pub is_run : IsRun context (start 0 1 0) run
 is_run = (add 0 2 no_plain_clash (by_row 0 row (lit< tt) (0, lit< tt, refl) refl) refl, refl)
 
 -- it gives node 0 class 11, and shows nothing of it: the same steps of a search whether class 10 is in class 11 end in
 -- a clash
-pub says_nothing_of_eleven : ¬ LeavesOut table run 11
-says_nothing_of_eleven h = h.class_is_not_at_root 2 refl refl
+pub says_nothing_of_eleven : ¬ LeavesOut 0 table run 11
+says_nothing_of_eleven h = h.class_is_not_there 2 refl refl
 
 -- whether the shape speaks of class 12
 abbrev is_of_twelve : Shape → Bool
@@ -99,10 +102,10 @@ is_not_twelve : (c : ℕ) (s : Shape) → is_of_twelve s ≡ true → ¬ (shape_
 is_not_twelve c s is e = (let k : is_of_twelve (shape_of table c) ≡ true = ap is_of_twelve e ∙ is in let l = none_of_twelve c in cc)
 
 -- of class 12, which has no number, it shows that class 10 is not in it
-pub leaves_out_twelve : LeavesOut table run 12
+pub leaves_out_twelve : LeavesOut 0 table run 12
 leaves_out_twelve = record {
-  class_is_not_at_root = λ c ever. is_not_twelve c (name 12) refl;
-  unions_at_root_lack_complement = λ c d parts ever sh part. is_not_twelve d (not_name 12) refl;
+  class_is_not_there = λ c ever. is_not_twelve c (name 12) refl;
+  unions_there_lack_complement = λ c d parts ever sh part. is_not_twelve d (not_name 12) refl;
   complement_is_never_put = λ c ever. is_not_twelve c (not_name 12) refl;
 }
 
@@ -115,8 +118,8 @@ marked = first ++ Mark (record { line = 1; branch = Or 0 4; alternative = 1 }) �
 abbrev turned : List Item
 turned = first ++ Mark (record { line = 1; branch = Or 0 4; alternative = 2 }) ∷ Says (Has 0 1) ∷ []
 
-pub was_put : was_ever (puts_at_root 2) (turned ∷ marked ∷ first ∷ []) ≡ true
+pub was_put : was_ever (puts_at 0 2) (turned ∷ marked ∷ first ∷ []) ≡ true
 was_put = refl
 
-pub is_gone : list_any (puts_at_root 2) (facts_of turned) ≡ false
+pub is_gone : list_any (puts_at 0 2) (facts_of turned) ≡ false
 is_gone = refl

@@ -1,35 +1,53 @@
 -- What one run shows of other queries.
-use Rattle.std.specs.Prelude.{◌≡◌, ℕ, ◌-◌, ◌<◌, ◌≤◌, ◌||◌, Bool, List, ◌∷◌, length, drop}
+use Rattle.std.specs.Prelude.{◌≡◌, ℕ, ◌-◌, ◌<◌, ◌≤◌, ◌||◌, ◌==◌, not, Bool, true, List, ◌∷◌, length, drop, Some}
 use Rattle.std.specs.List.{list_any}
+use Rattle.shq_terms.specs.declared.axioms.Numbered.{Numbered}
+use Rattle.shq_terms.specs.declared.axioms.Query.{Query}
+use Rattle.shq_terms.specs.declared.axioms.On.TheVariants.{Any}
 use Rattle.calculus_specs.specs.Concept.{Concept, name}
 use Rattle.calculus_specs.specs.Normal.{normal_form}
 use Rattle.calculus_specs.specs.Shape.{Shape, IsTable}
 use Rattle.calculus_specs.specs.Tree.{tree_of}
-use Rattle.calculus_specs.specs.Rows.{Theory, Row, IsChoice}
+use Rattle.calculus_specs.specs.Rows.{Row, IsChoice}
+use Rattle.calculus_specs.specs.Rules.{Question}
 use Rattle.calculus_specs.specs.declared.facts.Fact.{Fact}
 use Rattle.tableau_specs.specs.declared.Item.{Item}
 use Rattle.tableau_specs.specs.Items.{facts_of}
 use Rattle.tableau_specs.specs.Steps.{SearchContext, IsLegal, IsSaturated}
-use Rattle.tableau_specs.specs.Reached.{start, IsReached}
+use Rattle.tableau_specs.specs.Reached.{FactsHaveNumbers, start, context_of, IsReached}
+use Rattle.refutation_truth.specs.Theory.{nodes_pass, question_of}
 use Rattle.search_laws.specs.Runs.{IsRun, LeavesOut}
 
--- k legal steps reach a saturated trail, in a search whether `sub` is in `sup`
-pub record EndsSaturated (theory : Theory) (sub sup : Concept) (k : ℕ) : Type 0 where
+-- k legal steps reach a saturated trail
+pub record EndsSaturated (q : Question) (k : ℕ) : Type 0 where
   pub table : List Shape
   pub rows : List Row
   pub trail : List Item
-  pub reached : IsReached theory sub sup table rows k trail
-  pub is_saturated : IsSaturated (record { theory = theory; table = table; rows = rows }) trail
+  pub reached : IsReached q table rows k trail
+  pub is_saturated : IsSaturated (context_of q table rows) trail
 
--- A search whether anything is in `sub` begins with a node that is in `sub` and in top. Where its run ends saturated
--- and has nothing to do with whether that node is in class a, as many legal steps end saturated in the search whether
--- `sub` is in a.
+-- no axiom gives a fact of the node in question
+abbrev pub IsUnnamed : Question → Type 0
+IsUnnamed q = (a p : ℕ) (f : Fact Concept) → q.fact_of a p ≡ Some f → nodes_pass (λ x. not (x == q.at)) f ≡ true
+
+-- a query on any element asks of such a node
+abbrev pub AnyIsUnnamed : Type 0
+AnyIsUnnamed = (n : ℕ) (axioms : List Numbered) (ks : List ℕ) (q : Query) → q.on ≡ Any → IsUnnamed (question_of n axioms ks q)
+
+-- the same question of another concept on the right
+abbrev pub with_sup : Question → Concept → Question
+with_sup q sup = record { theory = q.theory; sub = q.sub; sup = sup; first = q.first; at = q.at; fact_of = q.fact_of }
+
+-- A search whether anything is in `sub` begins with a node that is in `sub` and in top. Where no axiom speaks of that
+-- node, and its run ends saturated and has nothing to do with whether the node is in class a, as many legal steps end
+-- saturated in the search whether `sub` is in a.
 abbrev pub OneRunAnswersMore : Type 0
-OneRunAnswersMore = (theory : Theory) (sub : Concept) (table : List Shape) (rows : List Row) (number k a : ℕ) (trail : List Item) (earlier : List (List Item))
-    → IsTable table → IsChoice theory table rows → number < length table → tree_of table number ≡ normal_form sub
-    → IsRun (record { theory = theory; table = table; rows = rows }) (start number 0) (trail ∷ earlier) → length earlier ≡ k
-    → IsSaturated (record { theory = theory; table = table; rows = rows }) trail → LeavesOut table (trail ∷ earlier) a
-    → EndsSaturated theory sub (name a) k
+OneRunAnswersMore = (q : Question) (table : List Shape) (rows : List Row) (number k a : ℕ) (trail : List Item) (earlier : List (List Item))
+    → IsTable table → IsChoice q.theory table rows → FactsHaveNumbers q table → q.at < q.first → IsUnnamed q
+    → number < length table → tree_of table number ≡ normal_form q.sub
+    → IsRun (context_of q table rows) (start q.at number 0) (trail ∷ earlier) → length earlier ≡ k
+    → IsSaturated (context_of q table rows) trail → LeavesOut q.at table (trail ∷ earlier) a
+    → EndsSaturated (with_sup q (name a)) k
 
 -- What a legal step puts into a trail stands at its end: from any place on that is neither past the end of the old
 -- trail nor past the last item of the new one. So who has noted all facts of the old trail need look no further back.

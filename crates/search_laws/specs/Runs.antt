@@ -28,17 +28,17 @@ puts c (Edge r x y) = false
 puts c (Apart y z) = false
 puts c (Same y z) = false
 
--- whether the fact gives node 0 the concept
-abbrev pub puts_at_root : ℕ → Fact ℕ → Bool
-puts_at_root c (Has x d) = x == 0 && d == c
-puts_at_root c (Edge r x y) = false
-puts_at_root c (Apart y z) = false
-puts_at_root c (Same y z) = false
+-- whether the fact gives the node `at` the concept
+abbrev pub puts_at : ℕ → ℕ → Fact ℕ → Bool
+puts_at at c (Has x d) = x == at && d == c
+puts_at at c (Edge r x y) = false
+puts_at at c (Apart y z) = false
+puts_at at c (Same y z) = false
 
--- the run has nothing to do with whether node 0 is in class a: no trail gives node 0 the class, or a union of which the
--- class's complement is a part, and none gives the complement to any node
-pub record LeavesOut (table : List Shape) (run : List (List Item)) (a : ℕ) : Type 0 where
-  pub class_is_not_at_root : (c : ℕ) → was_ever (puts_at_root c) run ≡ true → ¬ (shape_of table c ≡ name a)
-  pub unions_at_root_lack_complement : (c d : ℕ) (parts : List ℕ) → was_ever (puts_at_root c) run ≡ true → shape_of table c ≡ union parts → Contains parts d
+-- the run has nothing to do with whether the node `at` is in class a: no trail gives the node the class, or a union of
+-- which the class's complement is a part, and none gives the complement to any node
+pub record LeavesOut (at : ℕ) (table : List Shape) (run : List (List Item)) (a : ℕ) : Type 0 where
+  pub class_is_not_there : (c : ℕ) → was_ever (puts_at at c) run ≡ true → ¬ (shape_of table c ≡ name a)
+  pub unions_there_lack_complement : (c d : ℕ) (parts : List ℕ) → was_ever (puts_at at c) run ≡ true → shape_of table c ≡ union parts → Contains parts d
       → ¬ (shape_of table d ≡ not_name a)
   pub complement_is_never_put : (c : ℕ) → was_ever (puts c) run ≡ true → ¬ (shape_of table c ≡ not_name a)

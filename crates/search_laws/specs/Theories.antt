@@ -1,14 +1,10 @@
--- What it is that an interpretation meets a theory.
-use Rattle.std.specs.Prelude.{◌≡◌, ℕ, ◌<◌, true, not, List, Some}
-use Rattle.std.specs.List.{list_all}
-use Rattle.shq_terms.specs.declared.axioms.Numbered.{Numbered}
+-- What it is that an interpretation meets a theory, and the facts that axioms give.
+use Rattle.std.specs.Prelude.{◌≡◌, ℕ, ◌<◌, true, Option, Some}
+use Rattle.shq_terms.specs.Concept.{Concept}
 use Rattle.shq_meaning.specs.Truth.{Interpretation}
 use Rattle.calculus_specs.specs.Rows.{Part, Theory, part_at}
-use Rattle.shq_nnf.specs.Meeting.{meets_part, is_assertion}
-
--- no axiom is an assertion: a theory has only parts and roles
-abbrev pub HasNoAssertions : List Numbered → Type 0
-HasNoAssertions axioms = list_all (λ (a : Numbered). not (is_assertion a.axiom)) axioms ≡ true
+use Rattle.calculus_specs.specs.declared.facts.Fact.{Fact}
+use Rattle.shq_nnf.specs.Meeting.{meets_part, is_true}
 
 -- the pairs of a role are pairs of each role above it, and those of a transitive role are passed on
 pub record MeetsRoles (theory : Theory) (i : Interpretation) : Type 0 where
@@ -19,3 +15,7 @@ pub record MeetsRoles (theory : Theory) (i : Interpretation) : Type 0 where
 -- each part is met
 abbrev pub MeetsParts : Theory → Interpretation → Type 0
 MeetsParts theory i = (a p : ℕ) (part : Part) → part_at theory a p ≡ Some part → meets_part i part ≡ true
+
+-- each fact that an axiom gives is true of the individuals
+abbrev pub MeetsFacts : (ℕ → ℕ → Option (Fact Concept)) → Interpretation → Type 0
+MeetsFacts fact_of i = (a p : ℕ) (f : Fact Concept) → fact_of a p ≡ Some f → is_true i i.individual f ≡ true

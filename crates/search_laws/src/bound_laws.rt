@@ -4,27 +4,32 @@
 //! of tableau calculi (Horrocks, Sattler and Tobies, "Practical Reasoning for Expressive Description Logics", 1999),
 //! with its numbers:
 //!
-//! - A search gives its nodes concepts of the **closure** alone: what the query and the rows of the axioms contain,
-//!   with the complements that are chosen and the universal restrictions that transitive roles hand on. Let c be its
-//!   size.
+//! - A search gives its nodes concepts of the **closure** alone: what the query, the rows of the axioms and the
+//!   assertions of individuals contain, with the complements that are chosen and the universal restrictions that
+//!   transitive roles hand on. Let c be its size.
 //! - New nodes are made below clear nodes, and the labels of the clear nodes on a path all differ. So **a path** has at
-//!   most 2 ^ c + 1 nodes.
+//!   most 2 ^ c + 1 nodes, where nothing is asserted of individuals.
 //! - What a node has asked for stays met, also where its new nodes are joined to others, since 'at least' is read
 //!   through joins. So a node makes new nodes once at most for each of its concepts, at most g at a time: c * g
-//!   **children**, and (c * g + 1) ^ (2 ^ c + 2) **nodes** in all.
-//! - **The steps that a trail keeps** are counted by what they raise: concepts of nodes, nodes, joined nodes, and pairs
-//!   of nodes that are apart.
+//!   **children**, and, without individuals, (c * g + 1) ^ (2 ^ c + 2) **nodes** in all.
+//! - **The steps that a trail keeps** are counted by what they raise: concepts of nodes, nodes, joined nodes, pairs of
+//!   nodes that are apart, and given facts that are so.
 //! - **All steps.** The alternatives that the kept steps took are the digits of a number to the base b + 1, where b is
 //!   the greatest number of alternatives. Each step raises the number, a step back too.
 //!
-//! Two of the bounds are on the nodes that a trail has, and are close. The one on all steps is beyond any budget, and
-//! says that no strategy runs for ever.
-ghost use Rattle.search_laws.specs.ComputedClosure.{ClosureIsComputed};
+//! Two of the bounds are on the nodes that a trail has, and are close; they hold with individuals too. The one on all
+//! steps is beyond any budget, and says that no strategy runs for ever.
+ghost use Rattle.search_laws.specs.ComputedClosure.{ClosureIsComputed, ClosureOfAxiomsIsComputed};
 ghost use Rattle.search_laws.specs.BoundLaws.{ConceptsAreInClosure, PathsAreShort, FewChildren, FewNodes, FewStepsAtFirst, FewMarks, FewSteps, LegalRunsAreBounded};
 
-/// Where the transitive roles are listed, the closure is computed.
+/// Where the transitive roles are listed, and the concepts that axioms give to nodes, the closure is computed.
 pub fn the_closure_is_computed()
     ensures { ClosureIsComputed }
+{}
+
+/// So are the closure of numbered axioms and a query, and the list of the facts that these axioms give.
+pub fn the_closure_of_axioms_is_computed()
+    ensures { ClosureOfAxiomsIsComputed }
 {}
 
 /// Each concept of a reached trail is in the closure.
@@ -32,7 +37,7 @@ pub fn concepts_are_in_the_closure()
     ensures { ConceptsAreInClosure }
 {}
 
-/// In a reached trail the path from a first node to a node is short.
+/// In a reached trail the path from a first node to a node is short, where no fact is given.
 pub fn paths_are_short()
     ensures { PathsAreShort }
 {}
@@ -42,12 +47,13 @@ pub fn few_children()
     ensures { FewChildren }
 {}
 
-/// A reached trail has few nodes.
+/// A reached trail has few nodes, where node 0 is the only first node and no fact is given.
 pub fn few_nodes()
     ensures { FewNodes }
 {}
 
-/// Where no mark of a reached trail has gone on to a later alternative, its steps are few for its nodes.
+/// Where no mark of a reached trail has gone on to a later alternative, its steps are few for its nodes and the facts
+/// that are given.
 pub fn few_steps_without_going_back()
     ensures { FewStepsAtFirst }
 {}
@@ -57,13 +63,13 @@ pub fn few_marks()
     ensures { FewMarks }
 {}
 
-/// A search takes few steps, whatever its strategy.
+/// A search takes few steps, whatever its strategy, where node 0 is the only first node and no fact is given.
 pub fn few_steps()
     ensures { FewSteps }
 {}
 
-/// The three bounds of a search over axioms: on all its steps, on its steps before it first goes back, and on its
-/// marks.
+/// The three bounds of a search over axioms: on all its steps, where no individual is listed, on its steps before it
+/// first goes back, and on its marks.
 pub fn legal_runs_are_bounded()
     ensures { LegalRunsAreBounded }
 {}

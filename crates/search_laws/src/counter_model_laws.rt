@@ -13,17 +13,24 @@
 //!   and in the interpretation. Were all nodes that one node blocks sent to one element, 'at least 2' would lose a
 //!   successor.
 //! - **A class** has the elements whose blocker, or itself where it is clear, has the name. **A role** has the edges of
-//!   the roles below it, and the chains of such edges for each transitive role below it.
+//!   the roles below it, and the chains of such edges for each transitive role below it. **An individual** is the element
+//!   that its node is one with: the first nodes are never blocked, so that each is one with an element that is like
+//!   itself. What axioms assert of individuals is so in the trail, and so true of these elements.
 //! - **Truth** of what a label has goes by induction on how deep roles nest, and then on the numbers of the table. A
 //!   concept and the normal form of its complement nest equally deep, which 'at most' needs: it counts a successor
 //!   exactly where it chose that the successor is in the filler.
 //! - 'At most' counts edges alone, since no transitive role is below the role: the limits of an ontology say that each
 //!   counted role is simple.
-ghost use Rattle.search_laws.specs.CounterModelLaws.{ElementsAreFew, ElementsDiffer, SuccessorsAreElements, LabelsArePart, LabelsAreTrue, PartsAreMet, RolesAreMet, ComputedIsBuilt, ChainsStayWithin, LabelsCountSimple, SaturatedIsCounterModel, SaturatedDoesNotEntail};
+ghost use Rattle.search_laws.specs.CounterModelLaws.{ElementsAreFew, FirstNodesAreElements, ElementsDiffer, SuccessorsAreElements, LabelsArePart, LabelsAreTrue, PartsAreMet, RolesAreMet, AssertionsAreMet, ComputedIsBuilt, ChainsStayWithin, LabelsCountSimple, NodeInQuestionRefutes, SaturatedIsCounterModel, SaturatedDoesNotEntail};
 
-/// The first element is node 0, and there are at most as many elements as representatives.
+/// There is an element, and there are at most as many elements as representatives.
 pub fn elements_are_few()
     ensures { ElementsAreFew }
+{}
+
+/// Each first node is one with an element, which is like itself.
+pub fn first_nodes_are_elements()
+    ensures { FirstNodesAreElements }
 {}
 
 /// Different elements are different nodes, so that different successors of a node are different elements.
@@ -56,6 +63,11 @@ pub fn roles_are_met()
     ensures { RolesAreMet }
 {}
 
+/// What axioms assert of individuals is met, by the facts that they give.
+pub fn assertions_are_met()
+    ensures { AssertionsAreMet }
+{}
+
 /// What is computed of a reached trail is its interpretation.
 pub fn computed_interpretations_are_built()
     ensures { ComputedIsBuilt }
@@ -71,8 +83,14 @@ pub fn labels_count_simple()
     ensures { LabelsCountSimple }
 {}
 
+/// The element that the node in question is one with is in the one class of the query and not in the other, and it is
+/// the individual that the query is on, if it is on one.
+pub fn node_in_question_refutes()
+    ensures { NodeInQuestionRefutes }
+{}
+
 /// The interpretation of a saturated trail is a counter-model: it uses listed names alone, meets the axioms of the
-/// search, and its first element is in the one class of the query and not in the other.
+/// search, and has a counter-example to the query.
 pub fn saturated_is_counter_model()
     ensures { SaturatedIsCounterModel }
 {}

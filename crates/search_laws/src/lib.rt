@@ -15,11 +15,13 @@ mod trail_laws;
 pub use bound_laws::{
     concepts_are_in_the_closure, few_children, few_marks, few_nodes, few_steps,
     few_steps_without_going_back, legal_runs_are_bounded, paths_are_short, the_closure_is_computed,
+    the_closure_of_axioms_is_computed,
 };
 pub use counter_model_laws::{
-    chains_stay_within, computed_interpretations_are_built, elements_are_few, elements_differ,
-    labels_are_part, labels_are_true, labels_count_simple, parts_are_met, roles_are_met,
+    assertions_are_met, chains_stay_within, computed_interpretations_are_built, elements_are_few,
+    elements_differ, first_nodes_are_elements, labels_are_part, labels_are_true,
+    labels_count_simple, node_in_question_refutes, parts_are_met, roles_are_met,
     saturated_does_not_entail, saturated_is_counter_model, successors_are_elements,
 };
-pub use reuse_laws::{one_run_answers_more, steps_put_last};
+pub use reuse_laws::{any_is_unnamed, one_run_answers_more, steps_put_last};
 pub use trail_laws::{few_successors_fit, the_start_stays, theories_are_their_axioms};

@@ -6,17 +6,24 @@
 //! shown that the search whether X is in W could have made the same steps. That search begins with a node that is in X
 //! and in the complement of W.
 //!
-//! - **The same steps are legal** where W was never given to node 0, no union that node 0 was ever given has the
-//!   complement of W as a part, and the complement was given to no node at all. A complement of a name makes no step
-//!   possible, since no rule reads one. It forbids a step only where it clashes with its name, where it is a part of a
-//!   union at its node, or where it is itself to be put; and node 0 is neither a successor nor joined to another node.
-//! - **The end is saturated** by the same reasons. The blocks are the same: node 0 is never blocked, and it blocks no
-//!   other node less than before, since no other node has the complement.
+//! - **The same steps are legal** where W was never given to the node in question, no union that it was ever given has
+//!   the complement of W as a part, and the complement was given to no node at all. A complement of a name makes no
+//!   step possible, since no rule reads one. It forbids a step only where it clashes with its name, where it is a part
+//!   of a union at its node, or where it is itself to be put; and the node in question is neither a successor nor
+//!   joined to another node. That holds where it is the node of no individual, so that no given fact speaks of it: a
+//!   query on any element asks of such a node.
+//! - **The end is saturated** by the same reasons. The blocks are the same: a first node is never blocked, and the one
+//!   in question blocks no other node less than before, since no other node has the complement.
 //!
 //! Such reuse of a satisfiability test is the pseudo-model technique of classification (Haarslev, Moeller and Turhan,
 //! "Exploiting Pseudo Models for TBox and ABox Reasoning in Expressive Description Logics", 2001), here with a proof
 //! that it saves no step that a log owes.
-ghost use Rattle.search_laws.specs.ReuseLaws.{OneRunAnswersMore, StepsPutLast};
+ghost use Rattle.search_laws.specs.ReuseLaws.{AnyIsUnnamed, OneRunAnswersMore, StepsPutLast};
+
+/// No axiom speaks of the node in question of a query on any element.
+pub fn any_is_unnamed()
+    ensures { AnyIsUnnamed }
+{}
 
 /// A run for one class that ends saturated answers whether the class is in another, where it leaves the other out.
 pub fn one_run_answers_more()

@@ -2,7 +2,7 @@
 use Rattle.std.proofs.Common.{◌≡◌, ◌⊎◌, ℕ, ◌||◌, Bool, true, false, eqb, List, [], ◌∷◌, ◌++◌, Option, None, Some, refl, ap, sym, subst, ◌∙◌, inl, inr, arith, append-nil}
 use Rattle.std.specs.Prelude.{MatchOption}
 use Rattle.std.specs.List.{All, list_any}
-use Rattle.std.proofs.lemmas.Bool.{eqb-true, eq-eqb, or_parts, cases_Bool}
+use Rattle.std.proofs.lemmas.Bool.{eqb-true, eq-eqb}
 use Rattle.std.proofs.lemmas.List.Elements.{All-push}
 use Rattle.std.proofs.lemmas.List.Folds.{list_any-append}
 use Rattle.calculus_specs.specs.Shape.{Shape, shape_of}

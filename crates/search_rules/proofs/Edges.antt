@@ -8,7 +8,6 @@ use Rattle.std.proofs.lemmas.List.Elements.{All-head, All-tail, All-push}
 use Rattle.absorption.specs.declared.row.Row.{Row}
 use Rattle.absorption.specs.declared.row.Trigger.{Trigger}
 use Rattle.absorption.specs.Places.{RowsByNumber, rows_under}
-use Rattle.step_finders.specs.declared.state.PlainRow.{PlainRow}
 use Rattle.search_rules.specs.Files.{row_if, passing_rows, rows_above, rows_among}
 
 flat_one : {X A : Type 0} (f : X → List A) (xs : List X) (x : X) → flat_map f (xs ++ x ∷ []) ≡ flat_map f xs ++ f x

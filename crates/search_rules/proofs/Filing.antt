@@ -1,5 +1,5 @@
 -- The rows of a set are filed, and nothing else.
-use Rattle.std.proofs.Common.{◌≡◌, ◌⊎◌, ℕ, zero, suc, ◌+◌, ◌<◌, ◌&&◌, ◌||◌, ltb, Bool, true, false, eqb, List, [], ◌∷◌, ◌++◌, map, length, get_or, Option, None, Some, refl, ap, sym, subst, ◌∙◌, inl, inr, arith, cond}
+use Rattle.std.proofs.Common.{◌≡◌, ◌⊎◌, ℕ, zero, suc, ◌+◌, ◌<◌, ◌&&◌, ◌||◌, ltb, Bool, true, false, eqb, List, [], ◌∷◌, map, length, get_or, Some, refl, ap, sym, subst, ◌∙◌, inl, inr, arith, cond}
 use Rattle.std.specs.Prelude.{nat_eq, unwrap_or}
 use Rattle.std.specs.List.{All, Contains, flat_map, list_any, list_all, range_with_len}
 use Rattle.std.specs.Map.{lookup, keys_of}
@@ -9,7 +9,7 @@ use Rattle.shq_terms.specs.Concept.{Concept, top, bottom, name, complement, inte
 use Rattle.calculus_specs.specs.Shape.{Shape, shape_of, IsTable}
 use Rattle.calculus_specs.specs.Shape.Shape.{top as top_shape, bottom as bottom_shape, name as name_shape, not_name, intersection as intersection_shape, union as union_shape, some_of as some_shape, all_of as all_shape, at_least as least_shape, at_most as most_shape}
 use Rattle.calculus_specs.specs.Tree.{tree_over, trees_of, tree_of}
-use Rattle.calculus_specs.specs.Rows.{Part, Theory, part_at, conjunct_at, Trigger as PlainTrigger, Row as PlainRowOf}
+use Rattle.calculus_specs.specs.Rows.{Part, part_at, conjunct_at, Trigger as PlainTrigger, Row as PlainRowOf}
 use Rattle.calculus_specs.specs.Rows.Part.{inclusion, range}
 use Rattle.calculus_specs.specs.Rows.Trigger.{always, names, edge, end_of}
 use Rattle.shq_nnf.specs.Numbers.{AreNumbers, trees_at}
@@ -17,7 +17,7 @@ use Rattle.shq_nnf.proofs.Numbers.{shape_tree}
 use Rattle.calculus_specs.specs.declared.facts.Fact.{Fact}
 use Rattle.calculus_specs.specs.declared.facts.Fact.TheVariants.{Has, Edge as EdgeFact, Apart, Same}
 use Rattle.calculus_specs.specs.Joins.{rep}
-use Rattle.calculus_specs.specs.State.{node_count, has, label, has_edge, gives_edge, is_successor}
+use Rattle.calculus_specs.specs.State.{node_count_from, has, label, has_edge, gives_edge, is_successor}
 use Rattle.calculus_specs.proofs.Joined.{rep-joined, joined-rep}
 use Rattle.calculus_specs.proofs.State.{any-label}
 use Rattle.tableau_specs.specs.Steps.{SearchContext, below_of, is_named, has_name, has_names, begins_edge, ends_edge, is_triggered, is_used_at}
@@ -27,18 +27,16 @@ use Rattle.absorption.specs.Triggers.{trigger_for, premises_for}
 use Rattle.absorption.specs.declared.row.Row.{Row}
 use Rattle.absorption.specs.declared.row.Trigger.{Trigger}
 use Rattle.absorption.specs.declared.row.Trigger.TheVariants.{Always, Names, Edge, End}
-use Rattle.absorption.specs.Rows.{plain_trigger, plain_row, plain_rows, IsRowOfPart}
-use Rattle.absorption.specs.Places.{RowsByNumber, FiledRows, rows_under, all_filed, names_class, WaitsForName}
+use Rattle.absorption.specs.Rows.{plain_trigger, plain_row, IsRowOfPart}
+use Rattle.absorption.specs.Places.{RowsByNumber, rows_under, all_filed, names_class}
 use Rattle.absorption.specs.Tables.{HasFixedTrigger}
 use Rattle.absorption.specs.Laws.{IsFoundBy, FindsItsRows}
 use Rattle.absorption.proofs.Found.{finds, each_found}
 use Rattle.step_finders.specs.declared.state.PlainRow.{PlainRow}
-use Rattle.step_finders.specs.declared.state.NamedRow.{NamedRow}
 use Rattle.step_finders.specs.Found.{IsPlain, IsAtEdge, IsNamed, AreFiled, PlainHolds, NamedHold, HoldsRows}
-use Rattle.search_rules.specs.declared.edge_tables.Side.{Side}
 use Rattle.search_rules.specs.declared.edge_tables.Side.TheVariants.{Begin, End as Finish}
 use Rattle.search_rules.specs.RuleLists.{RuleLists, theory_in, context_in, IsReady}
-use Rattle.search_rules.specs.Files.{plain_of, positions_of, named_of, rows_at_shape, waits_for, row_if, passing_rows, rows_above, rows_among, edge_rows, files_in}
+use Rattle.search_rules.specs.Files.{plain_of, positions_of, named_of, rows_at_shape, waits_for, row_if, passing_rows, rows_above, edge_rows, files_in}
 
 -- ---- members of lists
 
@@ -365,23 +363,23 @@ module _ (r : RuleLists) (ready : IsReady r) where
 
   -- ---- each row is filed
 
-  module _ (fs : List (Fact ℕ)) (hold : (x : ℕ) → x < node_count fs → HoldsRows (files_in r) fs x) (x : ℕ) (lt : x < node_count fs) (q : Row) (is : Contains (all_filed r.filed) q) where
+  module _ (fs : List (Fact ℕ)) (hold : (x : ℕ) → x < node_count_from w.first fs → HoldsRows (files_in r) fs x) (x : ℕ) (lt : x < node_count_from w.first fs) (q : Row) (is : Contains (all_filed r.filed) q) where
     by_general : Contains r.filed.general q → has fs x q.concept ≡ true
     by_general there = All-contains (PlainHolds fs x) (map plain_of r.filed.general) (plain_of q) (hold x lt).at_each (to_map plain_of r.filed.general q there)
 
     by_begin : (e : ℕ) → q.trigger ≡ Edge e → Contains (rows_under r.filed.at_roles e) q → begins_edge w fs e x ≡ true → has fs x q.concept ≡ true
     by_begin e on there used =
-        let m = passing (λ y. has_edge fs (λ s. below_of w s e) x y) (range_with_len 0 (node_count fs)) used in
+        let m = passing (λ y. has_edge fs (λ s. below_of w s e) x y) (range_with_len 0 (node_count_from w.first fs)) used in
         let l = led fs (λ s. below_of w s e) x m.it m.passes in
         All-contains (PlainHolds fs x) ((files_in r).begins l.role) (plain_of q) ((hold x lt).edges.at_edges l.role (rep fs m.it) l.next).at_begin
         (to_edge (theory_in r).below (waits_for Begin) r.filed.at_roles l.role e q l.is_one there (ap (waits_for Begin) on))
 
     by_end : (e : ℕ) → q.trigger ≡ End e → Contains (rows_under r.filed.at_roles e) q → ends_edge w fs e x ≡ true → has fs x q.concept ≡ true
     by_end e on there used =
-        let m = passing (λ z. has_edge fs (λ s. below_of w s e) z x) (range_with_len 0 (node_count fs)) used in
+        let m = passing (λ z. has_edge fs (λ s. below_of w s e) z x) (range_with_len 0 (node_count_from w.first fs)) used in
         let l = led fs (λ s. below_of w s e) m.it x m.passes in
-        let in_row = in_range 0 (node_count fs) m.it m.is_in in
-        let less : m.it < node_count fs = omega (arith, in_row) in
+        let in_row = in_range 0 (node_count_from w.first fs) m.it m.is_in in
+        let less : m.it < node_count_from w.first fs = omega (arith, in_row) in
         sym (has_at fs (rep fs x) x q.concept (rep_twice fs x))
         ∙ All-contains (PlainHolds fs (rep fs x)) ((files_in r).ends l.role) (plain_of q) ((hold m.it less).edges.at_edges l.role (rep fs x) l.next).at_end
         (to_edge (theory_in r).below (waits_for Finish) r.filed.at_roles l.role e q l.is_one there (ap (waits_for Finish) on))

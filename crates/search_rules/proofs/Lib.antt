@@ -6,3 +6,4 @@ pub mod Edges
 pub mod Stays
 pub mod Ranged
 pub mod Filing
+pub mod Giving

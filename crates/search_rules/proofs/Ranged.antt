@@ -1,15 +1,15 @@
 -- A range is the first part of its axiom.
-use Rattle.std.proofs.Common.{◌≡◌, ℕ, zero, suc, ◌+◌, ◌-◌, ◌<◌, ◌≤◌, ◌&&◌, Bool, true, false, List, [], ◌∷◌, ◌++◌, map, length, get_or, Option, Some, None, refl, ap, sym, ◌∙◌, subst, arith, cond, leb}
-use Rattle.std.specs.Prelude.{slice_get, if◌then◌else◌}
-use Rattle.std.specs.List.{All, list_all}
-use Rattle.std.proofs.lemmas.Bool.{and_parts, leb-true, cases_lt}
-use Rattle.shq_terms.specs.Concept.{Concept, top}
+use Rattle.std.proofs.Common.{◌≡◌, ℕ, zero, suc, ◌-◌, ◌<◌, ◌&&◌, Bool, true, false, List, [], ◌∷◌, ◌++◌, map, length, Option, Some, None, refl, sym, ◌∙◌, arith, cond, leb}
+use Rattle.std.specs.Prelude.{slice_get}
+use Rattle.std.specs.List.{list_all}
+use Rattle.std.proofs.lemmas.Bool.{and_parts, leb-true}
+use Rattle.shq_terms.specs.Concept.{Concept}
 use Rattle.shq_terms.specs.declared.axioms.Axiom.{Axiom}
 use Rattle.shq_terms.specs.declared.axioms.Axiom.TheVariants.{SubClassOf, EquivalentClasses, DisjointClasses, DisjointUnion, SubRole, EquivalentRoles, Domain, Range, Functional, Transitive, Member, Pair, SameAll, Different}
 use Rattle.shq_terms.specs.declared.axioms.Numbered.{Numbered}
-use Rattle.calculus_specs.specs.Rows.{Part, inclusion, range, part_at, is_among, inclusion_of}
+use Rattle.calculus_specs.specs.Rows.{Part, inclusion, range, is_among, inclusion_of}
 use Rattle.shq_nnf.specs.Parts.{axiom_parts, part_in, disjoint_pair, disjoint_parts, chain_parts, equivalent_parts, union_parts}
-use Rattle.absorption.specs.Theory.{theory_of, part_of_axiom, parts_at, parts_in}
+use Rattle.absorption.specs.Theory.{theory_of, parts_at, parts_in}
 use Rattle.absorption.proofs.Numbered.{numbered}
 use Rattle.tableau_specs.specs.LineLaws.{RangesAreFirst}
 

@@ -1,22 +1,18 @@
 -- The rows of a set stay its rows while the table of concepts grows.
-use Rattle.std.proofs.Common.{◌≡◌, ℕ, ◌<◌, ◌||◌, Bool, true, false, eqb, List, [], ◌∷◌, length, Some, refl, ap, sym, ◌∙◌, subst, arith, Option}
-use Rattle.std.specs.List.{All, list_any}
+use Rattle.std.proofs.Common.{◌≡◌, ℕ, ◌<◌, ◌||◌, Bool, true, false, List, [], ◌∷◌, length, Some, refl, ap, sym, ◌∙◌, subst, arith, Option}
 use Rattle.std.proofs.lemmas.Bool.{or_right}
 use Rattle.shq_terms.specs.Concept.{Concept}
 use Rattle.calculus_specs.specs.Shape.{Shape, shape_of, IsTable}
-use Rattle.calculus_specs.specs.Shape.Shape.{top, bottom, name, not_name, intersection, union, some_of, all_of, at_least, at_most}
-use Rattle.calculus_specs.specs.Tree.{tree_of}
-use Rattle.calculus_specs.specs.Rows.{Theory, Row, IsRowOf, IsChoice}
+use Rattle.calculus_specs.specs.Rows.{Theory, Row, IsRowOf}
 use Rattle.shq_terms.specs.declared.axioms.Numbered.{Numbered}
 use Rattle.shq_nnf.specs.Numbers.{Extends}
-use Rattle.shq_nnf.proofs.Numbers.{length_extends, tree_stays, numbers_stay}
+use Rattle.shq_nnf.proofs.Numbers.{extends_twice, length_extends, tree_stays, numbers_stay}
 use Rattle.absorption.specs.Theory.{theory_of}
 use Rattle.tableau_specs.specs.Steps.{is_named}
 use Rattle.tableau_specs.proofs.Listed.{listed}
 use Rattle.absorption.proofs.Carried.{shape_stays}
 use Rattle.absorption.specs.declared.row.Row.{Row as Filed}
-use Rattle.absorption.specs.Rows.{plain_rows}
-use Rattle.absorption.specs.Places.{FiledRows, all_filed, names_class, WaitsForName, StandInPlaces}
+use Rattle.absorption.specs.Places.{FiledRows, names_class, WaitsForName, StandInPlaces}
 use Rattle.absorption.specs.Tables.{HasFixedTrigger, IsRowTable}
 use Rattle.shq_terms.specs.Listed.{Listed}
 use Rattle.shq_terms.specs.declared.axioms.Query.{Query}
@@ -28,7 +24,14 @@ use Rattle.role_box.specs.Paths.{is_below}
 use Rattle.absorption.specs.Closed.{IsClosed}
 use Rattle.search_rules.specs.declared.query_numbers.QueryNumbers.{QueryNumbers}
 use Rattle.search_rules.specs.Lists.{NumberLists, EdgeLists}
-use Rattle.search_rules.specs.RuleLists.{RuleLists, numbers_in}
+use Rattle.ontology_limits.specs.Limits.{IsOntologyInLimit}
+use Rattle.assertion_box.specs.Stated.{stated_facts}
+use Rattle.assertion_box.proofs.Answered.{are_given}
+use Rattle.step_finders.specs.declared.state.Given.{Given}
+use Rattle.step_finders.specs.Giving.{AreGiven}
+use Rattle.search_rules.specs.RuleLists.{RuleLists, numbers_in, context_in}
+use Rattle.search_rules.specs.GivenFacts.{AreNumbered}
+use Rattle.search_rules.proofs.Giving.{numbered_stay, facts_given, facts_numbered, given_stay}
 use Rattle.search_rules.specs.Tables.{AreNumberLists, AreEdgeLists, AreKept}
 use Rattle.search_rules.specs.Queries.{HasListsIf, IsFound}
 
@@ -92,18 +95,24 @@ module _ (old new : List Shape) (grown : Extends old new) where
   }
 
 -- what is built is kept
-pub kept_all : (o : Listed) (set copy : Limited) (only : List ℕ) (roles : List RoleAxiom) (a b : List Shape) (f : FiledRows) (numbers : NumberLists) (edges : EdgeLists)
-    → copy ≡ set → only ≡ member_list set → roles ≡ role_axioms o.axioms only → IsTable b → IsClosed (is_below roles) (is_transitive roles) b → Extends a b
-    → IsRowTable o.axioms (member_list set) a f → AreNumberLists b roles f.at_names numbers → AreEdgeLists (is_below roles) f edges
-    → AreKept (record { ontology = o; set = copy; table = b; filed = f }) roles numbers edges
-kept_all o set copy only roles a b f numbers edges same members is good closed grown rows lists at_edges =
+pub kept_all : (o : Listed) (set copy : Limited) (only : List ℕ) (roles : List RoleAxiom) (a b d : List Shape) (f : FiledRows) (gs : List Given) (numbers : NumberLists) (edges : EdgeLists)
+    → IsOntologyInLimit o → copy ≡ set → only ≡ member_list set → roles ≡ role_axioms o.axioms only → IsTable d → IsClosed (is_below roles) (is_transitive roles) d → Extends a b → Extends b d
+    → IsRowTable o.axioms (member_list set) a f → AreNumbered b (stated_facts o.axioms only) gs → AreNumberLists d roles f.at_names numbers → AreEdgeLists (is_below roles) f edges
+    → AreKept (record { ontology = o; set = copy; table = d; filed = f; given = gs }) roles numbers edges
+kept_all o set copy only roles a b d f gs numbers edges limits same members is good closed first later rows given lists at_edges =
     let all : roles ≡ role_axioms o.axioms (member_list set) = is ∙ ap (role_axioms o.axioms) members in
-    subst (λ (s : Limited). AreKept (record { ontology = o; set = s; table = b; filed = f }) roles numbers edges) (sym same)
+    let r : RuleLists = record { ontology = o; set = set; table = d; filed = f; given = gs } in
+    let numbered : AreNumbered b (stated_facts o.axioms (member_list set)) gs = subst (λ (ks : List ℕ). AreNumbered b (stated_facts o.axioms ks) gs) members given in
+    let facts : AreGiven (context_in r) gs = facts_given r (numbered_stay b d later (stated_facts o.axioms (member_list set)) gs (length (stated_facts o.axioms (member_list set))) numbered)
+    (are_given (length o.classes) (length o.roles) (length o.individuals) o.axioms (member_list set) limits.listed) in
+    subst (λ (s : Limited). AreKept (record { ontology = o; set = s; table = d; filed = f; given = gs }) roles numbers edges) (sym same)
     (record {
       ready = record {
         tabled = good;
-        closed = subst (λ (rs : List RoleAxiom). IsClosed (is_below rs) (is_transitive rs) b) all closed;
-        row_table = table_stays a b grown o.axioms (member_list set) f rows;
+        closed = subst (λ (rs : List RoleAxiom). IsClosed (is_below rs) (is_transitive rs) d) all closed;
+        row_table = table_stays a d (extends_twice a b d first later) o.axioms (member_list set) f rows;
+        facts_are = facts;
+        have_numbers = facts_numbered r facts;
       };
       roles_are = all;
       number_lists = lists;
@@ -113,14 +122,19 @@ kept_all o set copy only roles a b f numbers edges same members is good closed g
 -- and stays so with the new concepts of a query
 pub kept_grown : (r : RuleLists) (roles : List RoleAxiom) (numbers lists : NumberLists) (edges : EdgeLists) (new : List Shape) (q : Query) (found : QueryNumbers)
     → AreKept r roles numbers edges → IsFound r.table new roles r.filed.at_names q found → found.tables ≡ Some lists
-    → AreKept (record { ontology = r.ontology; set = r.set; table = new; filed = r.filed }) roles lists edges
-kept_grown r roles numbers lists edges new q found h f is = record {
-  ready = record {
-    tabled = f.tabled;
-    closed = subst (λ (rs : List RoleAxiom). IsClosed (is_below rs) (is_transitive rs) new) h.roles_are f.closed;
-    row_table = table_stays r.table new f.kept r.ontology.axioms (numbers_in r) r.filed h.ready.row_table;
-  };
-  roles_are = h.roles_are;
-  number_lists = subst (λ (o : Option NumberLists). HasListsIf r.table new roles r.filed.at_names o) is f.lists;
-  edge_lists = h.edge_lists;
-}
+    → AreKept (record { ontology = r.ontology; set = r.set; table = new; filed = r.filed; given = r.given }) roles lists edges
+kept_grown r roles numbers lists edges new q found h f is =
+    let grown : RuleLists = record { ontology = r.ontology; set = r.set; table = new; filed = r.filed; given = r.given } in
+    let facts : AreGiven (context_in grown) r.given = given_stay r new f.kept h.ready.facts_are in
+    record {
+      ready = record {
+        tabled = f.tabled;
+        closed = subst (λ (rs : List RoleAxiom). IsClosed (is_below rs) (is_transitive rs) new) h.roles_are f.closed;
+        row_table = table_stays r.table new f.kept r.ontology.axioms (numbers_in r) r.filed h.ready.row_table;
+        facts_are = facts;
+        have_numbers = facts_numbered grown facts;
+      };
+      roles_are = h.roles_are;
+      number_lists = subst (λ (o : Option NumberLists). HasListsIf r.table new roles r.filed.at_names o) is f.lists;
+      edge_lists = h.edge_lists;
+    }

@@ -6,7 +6,7 @@ use Rattle.calculus_specs.specs.Shape.{Shape, shape_of}
 use Rattle.calculus_specs.specs.Shape.Shape.{name}
 use Rattle.absorption.specs.declared.row.Row.{Row}
 use Rattle.absorption.specs.declared.row.Trigger.{Trigger}
-use Rattle.absorption.specs.declared.row.Trigger.TheVariants.{Always, Names, Edge, End}
+use Rattle.absorption.specs.declared.row.Trigger.TheVariants.{Names, Edge, End}
 use Rattle.absorption.specs.Places.{RowsByNumber, rows_under}
 use Rattle.step_finders.specs.declared.state.PlainRow.{PlainRow}
 use Rattle.step_finders.specs.declared.state.NamedRow.{NamedRow}

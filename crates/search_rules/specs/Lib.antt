@@ -4,4 +4,5 @@ pub mod Files
 pub mod Mosts
 pub mod Tables
 pub mod Queries
+pub mod GivenFacts
 pub use Rattle.ontology_limits.specs.Limits

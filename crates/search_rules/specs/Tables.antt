@@ -18,7 +18,7 @@ use Rattle.search_rules.specs.Files.{plain_of, waits_for, rows_at_shape, edge_ro
 
 -- what a search reads of a table and roles alone
 abbrev pub role_context : List Shape → List RoleAxiom → SearchContext
-role_context table roles = record { theory = record { parts = []; below = is_below roles; is_transitive = is_transitive roles }; table = table; rows = [] }
+role_context table roles = record { theory = record { parts = []; below = is_below roles; is_transitive = is_transitive roles }; table = table; rows = []; first = 1; fact_of = λ a p. None }
 
 -- the role and the filler of a universal restriction
 abbrev pub universal_of : Shape → Option (ℕ × ℕ)

@@ -1,5 +1,5 @@
 // Items in order, and lists of them by number.
-ghost use Rattle.std.specs.Prelude.{◌≡◌, ◌++◌, [], ◌∷◌, OnOk};
+ghost use Rattle.std.specs.Prelude.{◌≡◌, ℕ, ◌<◌, ◌==◌, ◌++◌, [], ◌∷◌, OnOk, length, slice_set, if◌then◌else◌};
 ghost use Rattle.search_rules.specs.Lists.{list_at, option_list};
 
 use crate::NoMemory;
@@ -61,4 +61,46 @@ pub(crate) fn list_at<T: Drop>(lists: &[ItemList<T>], number: u32) -> &[T]
         Some(list) => list.items(),
         None => &[],
     }
+}
+
+// Puts the item last in the list at a place.
+pub(crate) fn push_under<T: Drop>(
+    lists: &mut Vec<ItemList<T>>,
+    place: u32,
+    item: T,
+) -> Result<(), NoMemory>
+    requires { place < length lists.old.items }
+    ensures { OnOk result (lists.new.items ≡ slice_set lists.old.items place (list_at lists.old.items place ++ item ∷ [])) }
+{
+    let list = &mut lists[place as usize];
+    list.push(item)
+}
+
+// Puts the item last in the list under a number, and empty lists before that one where it is not there yet.
+pub(crate) fn push_grown<T: Drop>(
+    alloc: Global,
+    lists: &mut Vec<ItemList<T>>,
+    number: u32,
+    item: T,
+) -> Result<(), NoMemory>
+    ensures { OnOk result ((k : ℕ) → list_at lists.new.items k ≡ list_at lists.old.items k ++ (if number == k then item ∷ [] else [])) }
+{
+    match grow(alloc, lists, number) {
+        Ok(()) => push_under(lists, number, item),
+        Err(fault) => {
+            drop(item);
+            Err(fault)
+        }
+    }
+}
+
+// Puts empty lists last, until there is one under the number.
+fn grow<T: Drop>(alloc: Global, lists: &mut Vec<ItemList<T>>, number: u32) -> Result<(), NoMemory>
+    ensures long { OnOk result (number < length lists.new.items) }
+    ensures same { OnOk result ((k : ℕ) → list_at lists.new.items k ≡ list_at lists.old.items k) }
+{
+    for _ in lists.len()..number as usize + 1 {
+        lists.push(ItemList::new(alloc))?;
+    }
+    Ok(())
 }

@@ -1,5 +1,5 @@
 // The 'at most' with each filler.
-ghost use Rattle.std.specs.Prelude.{◌≡◌, ℕ, ◌+◌, ◌<◌, [], ◌∷◌, ◌++◌, length, slice_set, IfOk, OnOk};
+ghost use Rattle.std.specs.Prelude.{◌≡◌, ℕ, ◌+◌, ◌<◌, [], length, IfOk, OnOk};
 ghost use Rattle.calculus_specs.specs.Shape.{shape_of};
 ghost use Rattle.shq_nnf.specs.Shapes.{form_of};
 ghost use Rattle.step_finders.specs.Clashing.{AreMosts};
@@ -7,7 +7,7 @@ ghost use Rattle.search_rules.specs.Lists.{list_at};
 ghost use Rattle.search_rules.specs.Mosts.{filler_of_most, AreMostsTo};
 
 use crate::NoMemory;
-use crate::item_list::ItemList;
+use crate::item_list::{ItemList, push_under};
 use shq_nnf::{Concepts, Shape};
 use std::alloc::Global;
 
@@ -59,13 +59,4 @@ fn most_filler(shape: Shape<'_>) -> Option<u32>
         Shape::Max(_, _, filler) => Some(filler),
         _ => None,
     }
-}
-
-// Puts the number last in the list at a place.
-fn push_under(lists: &mut Vec<ItemList<u32>>, place: u32, number: u32) -> Result<(), NoMemory>
-    requires { place < length lists.old.items }
-    ensures { OnOk result (lists.new.items ≡ slice_set lists.old.items place (list_at lists.old.items place ++ number ∷ [])) }
-{
-    let list = &mut lists[place as usize];
-    list.push(number)
 }

@@ -5,10 +5,12 @@ ghost use Rattle.axiom_sets.specs.Sets.{IsWithin, member_list};
 ghost use Rattle.shq_nnf.specs.Counts.{has_counts_within};
 ghost use Rattle.shq_nnf.specs.Numbers.{Extends};
 ghost use Rattle.role_box.specs.RoleAxioms.{role_axioms};
+ghost use Rattle.absorption.specs.Theory.{node_in_question};
 ghost use Rattle.ontology_limits.specs.Limits.{IsOntologyInLimit};
 
 use crate::NoMemory;
 use crate::edge_tables::EdgeTables;
+use crate::given_facts::GivenFacts;
 use crate::number_tables::NumberTables;
 use crate::query_numbers::{QueryNumbers, closed_tables, query_numbers};
 use absorption::RowTable;
@@ -16,10 +18,10 @@ use axiom_sets::AxiomSet;
 use ontology_limits::each_axiom_is_in_limit;
 use role_box::RoleBox;
 use shq_nnf::{Concepts, Shape};
-use shq_terms::{Ontology, Query};
+use shq_terms::{On, Ontology, Query};
 use std::alloc::Global;
 use std::marker::Model;
-use step_finders::{NamedRow, PlainRow, Rules};
+use step_finders::{Given, NamedRow, PlainRow, Rules};
 
 /// The concepts, roles and rows by which searches use the axioms of one set, and what they ask of these.
 #[derive(Drop)]
@@ -29,6 +31,7 @@ pub struct SearchRules<'a> {
     concepts: Concepts,
     roles: RoleBox,
     rows: RowTable,
+    given: GivenFacts,
     numbers: NumberTables,
     edges: EdgeTables,
 }
@@ -44,9 +47,9 @@ impl<'a> Model for SearchRules<'a> {
 
     ghost coded = { Prim.hlevel (codes, concept_code, limited_code) };
 
-    ghost view = { λ r. record { ontology = r.ontology.now; set = r.set; table = r.concepts; filed = r.rows } };
+    ghost view = { λ r. record { ontology = r.ontology.now; set = r.set; table = r.concepts; filed = r.rows; given = r.given } };
 
-    ghost invariant = { λ r. AreKept (record { ontology = r.ontology.now; set = r.set; table = r.concepts; filed = r.rows }) r.roles r.numbers r.edges };
+    ghost invariant = { λ r. AreKept (record { ontology = r.ontology.now; set = r.set; table = r.concepts; filed = r.rows; given = r.given }) r.roles r.numbers r.edges };
 }
 
 impl<'a> SearchRules<'a> {
@@ -72,6 +75,7 @@ impl<'a> SearchRules<'a> {
         let roles = RoleBox::build(alloc, ontology, &only)?;
         let mut concepts = Concepts::new(alloc)?;
         let rows = RowTable::build(alloc, ontology, set, &mut concepts)?;
+        let given = GivenFacts::build(alloc, ontology, &only, &mut concepts)?;
         put_complements_of_names(&mut concepts)?;
         let numbers = closed_tables(alloc, &mut concepts, &roles, &rows)?;
         let edges = EdgeTables::build(alloc, &roles, &rows)?;
@@ -81,6 +85,7 @@ impl<'a> SearchRules<'a> {
             concepts,
             roles,
             rows,
+            given,
             numbers,
             edges,
         })
@@ -110,6 +115,24 @@ impl<'a> SearchRules<'a> {
                 Ok((sub, not_sup))
             }
             None => Ok((sub, not_sup)),
+        }
+    }
+
+    /// The node that a query asks of: that of the individual, or where it speaks of each element, the one after those of
+    /// all individuals. An individual that is not listed has none, and the answer is no first node then.
+    pub fn node_in_question(&self, query: &Query) -> u32
+        ensures { result ≡ node_in_question (length self.now.ontology.individuals) query.now.on }
+    {
+        let count = self.ontology.individual_count();
+        match query.on {
+            On::Any => count,
+            On::Individual(individual) => {
+                if individual < count {
+                    individual
+                } else {
+                    count + 1
+                }
+            }
         }
     }
 
@@ -200,6 +223,18 @@ impl<'a> Rules for SearchRules<'a> {
     ghost context = { context_in };
 
     ghost files = { files_in };
+
+    fn first(&self) -> u32 {
+        self.ontology.individual_count() + 1
+    }
+
+    fn given(&self) -> &[Given] {
+        self.given.facts()
+    }
+
+    fn given_into(&self, node: u32) -> &[(u32, u32)] {
+        self.given.edges_into(node)
+    }
 
     fn shape(&self, concept: u32) -> Shape<'_> {
         if concept < self.concepts.len() {

@@ -1,50 +1,61 @@
 -- What holds of a search that begins.
-use Rattle.std.proofs.Common.{◌≡◌, ℕ, ◌&&◌, eqb, Bool, true, cond, filter, map, List, [], ◌∷◌, Option, refl, ap, sym, subst}
+use Rattle.std.proofs.Common.{◌≡◌, ℕ, ◌&&◌, true, List, [], Option, refl, sym, subst}
+use Rattle.std.proofs.lemmas.Bool.{and_from}
 use Rattle.std.proofs.lemmas.List.Elements.{All-nil}
-use Rattle.std.specs.List.{list_any}
 use Rattle.std.specs.FinSet as sets
-use Rattle.search_trace.specs.Noted.{Marked, marked, is_within}
-use Rattle.search_state.proofs.Holding.{part_itself}
 use Rattle.shq_terms.specs.declared.axioms.Query.{Query}
 use Rattle.tableau_specs.specs.Steps.{SearchContext}
+use Rattle.search_trace.specs.Grounded.{is_known_within, AreGrounded}
+use Rattle.search_trace.proofs.Trail.{first_is_known}
 use Rattle.search_trace.proofs.Places.{start_is_traced}
 use Rattle.completion_tree.specs.declared.tree.Entry.{Entry}
 use Rattle.completion_tree.specs.Trail.{facts_in}
 use Rattle.step_agenda.specs.Followed.{Printed, AreFirstBlocks, IsCurrent}
 use Rattle.step_finders.specs.declared.clash.Clash.{Clash}
 use Rattle.search_trace.specs.Trace.{TraceLists, begun}
+use Rattle.search_state.specs.Marked.{marked_in}
 use Rattle.search_state.specs.Beginning.{begun_entries}
-use Rattle.search_state.specs.Progress.{ProgressLists, IsAsked, IsFitLine, IsStanding, IsClashOf}
+use Rattle.search_state.specs.Progress.{ProgressLists, asked_of, IsAsked, IsFitLine, IsStanding, IsClashOf}
 use Rattle.search_state.specs.Stepping.{HasBegun}
 
--- node 0 is known by what rests on no mark
-known_at_start : list_any (λ y. eqb y 0) (map (λ m. m.item) (filter (is_within sets.empty) (marked sets.empty 0 ∷ []))) ≡ true
-known_at_start = ap (λ (b : Bool). list_any (λ (y : ℕ). eqb y 0) (map (λ (m : Marked ℕ). m.item) (cond b (marked sets.empty 0 ∷ []) []))) (part_itself sets.empty)
+module _ (w : SearchContext) (q : Query) (at sub not_sup : ℕ) (asked : IsAsked w q at sub not_sup) where
+  abbrev entries_now : List Entry
+  entries_now = begun_entries at sub not_sup
 
-module _ (w : SearchContext) (q : Query) (sub not_sup : ℕ) (asked : IsAsked w q sub not_sup) where
   abbrev at_start : Printed → Option Clash → ProgressLists
-  at_start prints clash = record { query = q; sub = sub; not_sup = not_sup; entries = begun_entries sub not_sup; prints = prints; trace = begun; marks = []; clash = clash; steps = 0 }
+  at_start prints clash = record { query = q; at = at; sub = sub; not_sup = not_sup; first = w.first; entries = entries_now; prints = prints; trace = begun; marks = []; clash = clash; steps = 0 }
 
-  stands : (prints : Printed) → AreFirstBlocks (facts_in (begun_entries sub not_sup)) prints → (clash : Option Clash) → IsStanding w (at_start prints clash)
+  grounded_now : AreGrounded w.first (marked_in entries_now)
+  grounded_now =
+      let k = first_is_known w.first sets.empty (marked_in entries_now) at asked.at_first in
+      and_from (is_known_within w.first sets.empty (marked_in entries_now) at && true) ((is_known_within w.first sets.empty (marked_in entries_now) at && true) && true)
+      (and_from (is_known_within w.first sets.empty (marked_in entries_now) at) true k refl)
+      (and_from (is_known_within w.first sets.empty (marked_in entries_now) at && true) true (and_from (is_known_within w.first sets.empty (marked_in entries_now) at) true k refl) refl)
+
+  stands : (prints : Printed) → AreFirstBlocks w.first (facts_in entries_now) prints → (clash : Option Clash) → IsStanding w (at_start prints clash)
   stands prints blocks clash = record {
     asked = asked;
+    first_is = refl;
     follows = refl;
     blocks = blocks;
     places = [];
-    traced = record { are_at = tt; traced = start_is_traced w.theory w.table q.sub q.sup sub not_sup asked.sub_is asked.not_sup_is };
+    traced = record { are_at = tt; traced = start_is_traced (asked_of w q at) w.table sub not_sup asked.sub_is asked.not_sup_is };
     are_marks = tt;
-    grounded = ap (λ k. (k && true) && ((k && true) && true)) known_at_start;
+    grounded = grounded_now;
     fit = All-nil (IsFitLine w sub not_sup);
   }
 
-  starts : (prints : Printed) → IsCurrent (facts_in (begun_entries sub not_sup)) prints → AreFirstBlocks (facts_in (begun_entries sub not_sup)) prints → (clash : Option Clash) → IsClashOf w (facts_in (begun_entries sub not_sup)) clash
+  starts : (prints : Printed) → IsCurrent w.first (facts_in entries_now) prints → AreFirstBlocks w.first (facts_in entries_now) prints → (clash : Option Clash) → IsClashOf w (facts_in entries_now) clash
       → HasBegun w (at_start prints clash)
   starts prints current blocks clash is = record { is_searching = record { standing = stands prints blocks clash; clash = is }; current = current; trail_is = refl; no_steps = refl }
 
-  pub begins : (es : List Entry) → es ≡ begun_entries sub not_sup → (prints : Printed) → IsCurrent (facts_in es) prints → AreFirstBlocks (facts_in es) prints → (trace : TraceLists) → trace ≡ begun → (marks : List ℕ) → marks ≡ [] → (clash : Option Clash)
-      → IsClashOf w (facts_in es) clash → HasBegun w (record { query = q; sub = sub; not_sup = not_sup; entries = es; prints = prints; trace = trace; marks = marks; clash = clash; steps = 0 })
-  begins es are prints current blocks trace traced marks none clash is =
-      let h = starts prints (subst (λ (xs : List Entry). IsCurrent (facts_in xs) prints) are current) (subst (λ (xs : List Entry). AreFirstBlocks (facts_in xs) prints) are blocks) clash (subst (λ (xs : List Entry). IsClashOf w (facts_in xs) clash) are is) in
-      subst (λ (xs : List Entry). HasBegun w (record { query = q; sub = sub; not_sup = not_sup; entries = xs; prints = prints; trace = trace; marks = marks; clash = clash; steps = 0 })) (sym are)
-      (subst (λ (t : TraceLists). HasBegun w (record { query = q; sub = sub; not_sup = not_sup; entries = begun_entries sub not_sup; prints = prints; trace = t; marks = marks; clash = clash; steps = 0 })) (sym traced)
-      (subst (λ (ks : List ℕ). HasBegun w (record { query = q; sub = sub; not_sup = not_sup; entries = begun_entries sub not_sup; prints = prints; trace = begun; marks = ks; clash = clash; steps = 0 })) (sym none) h))
+  pub begins : (first : ℕ) → first ≡ w.first → (es : List Entry) → es ≡ entries_now → (prints : Printed) → IsCurrent first (facts_in es) prints → AreFirstBlocks first (facts_in es) prints → (trace : TraceLists) → trace ≡ begun
+      → (marks : List ℕ) → marks ≡ [] → (clash : Option Clash) → IsClashOf w (facts_in es) clash
+      → HasBegun w (record { query = q; at = at; sub = sub; not_sup = not_sup; first = first; entries = es; prints = prints; trace = trace; marks = marks; clash = clash; steps = 0 })
+  begins first one es are prints current blocks trace traced marks none clash is =
+      let h = starts prints (subst (λ (k : ℕ). IsCurrent k (facts_in entries_now) prints) one (subst (λ (xs : List Entry). IsCurrent first (facts_in xs) prints) are current))
+      (subst (λ (k : ℕ). AreFirstBlocks k (facts_in entries_now) prints) one (subst (λ (xs : List Entry). AreFirstBlocks first (facts_in xs) prints) are blocks)) clash
+      (subst (λ (xs : List Entry). IsClashOf w (facts_in xs) clash) are is) in
+      let all : at_start prints clash ≡ record { query = q; at = at; sub = sub; not_sup = not_sup; first = first; entries = es; prints = prints; trace = trace; marks = marks; clash = clash; steps = 0 } =
+      (λ i. record { query = q; at = at; sub = sub; not_sup = not_sup; first = sym one i; entries = sym are i; prints = prints; trace = sym traced i; marks = sym none i; clash = clash; steps = 0 }) in
+      subst (λ (s : ProgressLists). HasBegun w s) all h

@@ -16,7 +16,7 @@ use Rattle.tableau_specs.specs.declared.Item.TheVariants.{Fact as Says, Mark as 
 use Rattle.tableau_specs.specs.Clash.{IsPlainClash}
 use Rattle.tableau_specs.specs.Steps.{SearchContext, below_of, MayBranch, IsAlternative, IsLegal, next_choice}
 use Rattle.tableau_specs.specs.Steps.IsLegal.{choose, back}
-use Rattle.search_trace.specs.Noted.{marked, noted_start}
+use Rattle.search_trace.specs.Noted.{marked, start_of}
 use Rattle.search_trace.specs.Grounded.{is_known_within, AreGrounded}
 use Rattle.search_trace.specs.Trail.{MarkedFact}
 use Rattle.search_trace.specs.Places.{Place, opened_place, turned_place}
@@ -34,7 +34,7 @@ use Rattle.search_trace.proofs.Traced.{goes_on}
 use Rattle.search_state.specs.Marked.{marked_in}
 use Rattle.search_state.specs.Branchings.{AreMarks}
 use Rattle.search_state.specs.Resting.{RestsChoice}
-use Rattle.search_state.specs.Progress.{ProgressLists, IsStanding, HasMoved}
+use Rattle.search_state.specs.Progress.{ProgressLists, asked_by, IsStanding, HasMoved}
 use Rattle.search_state.specs.Turning.{IsTurning}
 use Rattle.search_state.proofs.Entries.{items-append, marked-append}
 use Rattle.search_state.proofs.Marks.{get-within, AreLeft, get-behind}
@@ -71,7 +71,7 @@ items-choice es c f by = items-append es (Mark c ∷ Grounded f by ∷ [])
 -- ---- a choice that is made
 
 module _ (w : SearchContext) (old : ProgressLists) (st : IsStanding w old) where
-  pub choice_moves : (k : Choosing) → ¬ IsPlainClash (below_of w) w.table (facts_in old.entries) → IsChoosable w (facts_in old.entries) k → FactsStayGrounded → AlternativesSpeakOfNodes
+  pub choice_moves : (k : Choosing) → ¬ IsPlainClash w.first (below_of w) w.table (facts_in old.entries) → IsChoosable w (facts_in old.entries) k → FactsStayGrounded → AlternativesSpeakOfNodes
       → (line : Line) (u : NumberSet) → RestsChoice w old.entries (branch_of k) line u → (left : ℕ) → left + 1 ≡ alternative_count w.table (branch_of k) → left + 1 < 2 ^ 32 → (f : Fact ℕ) → IsAlternative w.table (branch_of k) 1 f
       → (by : By) → by.marks ≡ sets.insert u old.trace.next
       → (new : ProgressLists) → IsNext old new (with_choice old.entries (record { line = old.trace.next; branch = branch_of k; alternative = 1 }) f by) (with_branching old.trace line u left) (length old.entries ∷ old.marks)
@@ -85,21 +85,21 @@ module _ (w : SearchContext) (old : ProgressLists) (st : IsStanding w old) where
       let rest = drop 1 r.children in
       let all : r.children ≡ child.added ∷ rest = first_is r.children child.added child.stands in
       let long : left ≡ length rest = omega (arith, counts, r.alternatives.count, ap length all) in
-      let at = r.resting.holds m in
+      let at = r.resting.holds (asked_by w old) m in
       let front : take (length old.entries) es ≡ old.entries = take-append_seam old.entries (Mark c ∷ Grounded f by ∷ []) in
       let place : Place = opened_place old.trace.lines ms (next_line old.trace line u) rest in
-      let traced : IsTracedAt w.theory w.table (noted_start old.query.sub old.query.sup) (with_branching old.trace line u (length rest)) (place ∷ st.places) (ms ++ map (marked (sets.insert u m)) (f ∷ [])) =
-      (goes_on w.theory w.table (noted_start old.query.sub old.query.sup) old.trace st.places ms st.traced).branching line u at.rule child.added rest (f ∷ []) at.holds (at.children_are ∙ all) r.branching child.puts in
+      let traced : IsTracedAt (asked_by w old) w.table (start_of (asked_by w old)) (with_branching old.trace line u (length rest)) (place ∷ st.places) (ms ++ map (marked (sets.insert u m)) (f ∷ [])) =
+      (goes_on (asked_by w old) w.table (start_of (asked_by w old)) old.trace st.places ms st.traced).branching line u at.rule child.added rest (f ∷ []) at.holds (at.children_are ∙ all) r.branching child.puts in
       let all_marked : marked_in es ≡ ms ++ map (marked (sets.insert u m)) (f ∷ []) = marked-choice old.entries c f by (sets.insert u m) same in
-      let ground : AreGrounded (ms ++ map (marked (sets.insert u m)) (f ∷ [])) =
-      stay u (sets.insert u m) ms f st.grounded (part_inserted u m) (subst (λ (xs : List ℕ). list_all (is_known_within u ms) xs ≡ true) (sym (speak w.table (branch_of k) 1 f alternative)) r.resting.knows) in
-      moved w old st.asked st.follows new es (with_branching old.trace line u left) (length old.entries ∷ old.marks)
+      let ground : AreGrounded w.first (ms ++ map (marked (sets.insert u m)) (f ∷ [])) =
+      stay w.first u (sets.insert u m) ms f st.grounded (part_inserted u m) (subst (λ (xs : List ℕ). list_all (is_known_within w.first u ms) xs ≡ true) (sym (speak w.table (branch_of k) 1 f alternative)) r.resting.knows) in
+      moved w old st.asked st.first_is st.follows new es (with_branching old.trace line u left) (length old.entries ∷ old.marks)
       (record {
         is_legal = subst (λ xs. IsLegal w (items_of old.entries) xs) (sym (items-choice old.entries c f by))
-            (choose c f (at_items w old st (λ fs. ¬ IsPlainClash (below_of w) w.table fs) none) (at_items w old st (λ fs. MayBranch w fs (branch_of k)) is.may) refl alternative);
+            (choose c f (at_items w old st (λ fs. ¬ IsPlainClash w.first (below_of w) w.table fs) none) (at_items w old st (λ fs. MayBranch w fs (branch_of k)) is.may) refl alternative);
         places = place ∷ st.places;
-        traced = subst (λ (i : ℕ). IsTracedAt w.theory w.table (noted_start old.query.sub old.query.sup) (with_branching old.trace line u i) (place ∷ st.places) (marked_in es)) (sym long)
-            (subst (λ (ns : List MarkedFact). IsTracedAt w.theory w.table (noted_start old.query.sub old.query.sup) (with_branching old.trace line u (length rest)) (place ∷ st.places) ns) (sym all_marked) traced);
+        traced = subst (λ (i : ℕ). IsTracedAt (asked_by w old) w.table (start_of (asked_by w old)) (with_branching old.trace line u i) (place ∷ st.places) (marked_in es)) (sym long)
+            (subst (λ (ns : List MarkedFact). IsTracedAt (asked_by w old) w.table (start_of (asked_by w old)) (with_branching old.trace line u (length rest)) (place ∷ st.places) ns) (sym all_marked) traced);
         are_marks = (
           record {
             choice = c;
@@ -116,7 +116,7 @@ module _ (w : SearchContext) (old : ProgressLists) (st : IsStanding w old) where
           },
           subst (λ (us : List Entry). AreMarks w us old.marks st.places) (sym front) st.are_marks,
         );
-        grounded = subst AreGrounded (sym all_marked) ground;
+        grounded = subst (AreGrounded w.first) (sym all_marked) ground;
         fit = lines_fit w old st m line u r.children (branch_nodes (branch_of k)) r.resting;
       })
       n
@@ -152,18 +152,18 @@ module _ (w : SearchContext) (s : ProgressLists) (mark : ℕ) (marks : NumberSet
       let long : length front ≡ l.at = length-take-le l.at s.entries (omega (arith, get-within s.entries l.at _ m.stands)) in
       let here : take l.at es ≡ front = ap (λ (i : ℕ). take i es) (sym long) ∙ take-append_seam front (Mark c ∷ Grounded f by ∷ []) in
       let place : Place = turned_place p s.trace.lines t.used rest in
-      let traced : IsTracedAt w.theory w.table (noted_start s.query.sub s.query.sup) s.trace (place ∷ t.older) (p.facts ++ map (marked marks) (f ∷ [])) = t.traced child.added rest (f ∷ []) all child.puts in
+      let traced : IsTracedAt (asked_by w s) w.table (start_of (asked_by w s)) s.trace (place ∷ t.older) (p.facts ++ map (marked marks) (f ∷ [])) = t.traced child.added rest (f ∷ []) all child.puts in
       let all_marked : marked_in es ≡ p.facts ++ map (marked marks) (f ∷ []) = marked-choice front c f by marks same ∙ ap (λ (ns : List MarkedFact). ns ++ map (marked marks) (f ∷ [])) m.before in
       let more : sets.is_subset p.marks marks ≡ true = subst (λ (v : NumberSet). sets.is_subset p.marks v ≡ true) (sym t.marks_are) (part_inserted p.marks p.mark) in
-      let ground : AreGrounded (p.facts ++ map (marked marks) (f ∷ [])) =
-      stay p.marks marks p.facts f m.grounded more (subst (λ (xs : List ℕ). list_all (is_known_within p.marks p.facts) xs ≡ true) (sym (speak w.table m.choice.branch (m.choice.alternative + 1) f alternative)) m.known) in
+      let ground : AreGrounded w.first (p.facts ++ map (marked marks) (f ∷ [])) =
+      stay w.first p.marks marks p.facts f m.grounded more (subst (λ (xs : List ℕ). list_all (is_known_within w.first p.marks p.facts) xs ≡ true) (sym (speak w.table m.choice.branch (m.choice.alternative + 1) f alternative)) m.known) in
       let stands : slice_get es l.at ≡ Some (Mark c) = ap (λ (i : ℕ). slice_get es i) (sym long) ∙ get-behind front (Mark c) (Grounded f by ∷ []) in
       let legal : IsLegal w (items_of s.entries) (take l.at (items_of s.entries) ++ Marks c ∷ Says f ∷ []) = back l.at m.choice f t.has_clash (get_item s.entries l.at m.choice m.stands) alternative in
-      moved w s t.asked t.follows new es s.trace (l.at ∷ l.older)
+      moved w s t.asked t.first_is t.follows new es s.trace (l.at ∷ l.older)
       (record {
         is_legal = subst (λ (xs : List Item). IsLegal w (items_of s.entries) xs) (sym (items-choice front c f by ∙ ap (λ (is : List Item). is ++ Marks c ∷ Says f ∷ []) (take_items l.at s.entries))) legal;
         places = place ∷ t.older;
-        traced = subst (λ (ns : List MarkedFact). IsTracedAt w.theory w.table (noted_start s.query.sub s.query.sup) s.trace (place ∷ t.older) ns) (sym all_marked) traced;
+        traced = subst (λ (ns : List MarkedFact). IsTracedAt (asked_by w s) w.table (start_of (asked_by w s)) s.trace (place ∷ t.older) ns) (sym all_marked) traced;
         are_marks = (
           record {
             choice = c;
@@ -180,7 +180,7 @@ module _ (w : SearchContext) (s : ProgressLists) (mark : ℕ) (marks : NumberSet
           },
           subst (λ (us : List Entry). AreMarks w us l.older t.older) (sym here) l.others,
         );
-        grounded = subst AreGrounded (sym all_marked) ground;
+        grounded = subst (AreGrounded w.first) (sym all_marked) ground;
         fit = t.fit;
       })
       n

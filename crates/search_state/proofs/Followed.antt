@@ -14,14 +14,15 @@ pub entries_same : (old new : ProgressLists) → IsSameButBlocks old new → new
 entries_same old new same = ap (λ (q : ProgressLists). q.entries) same
 
 -- all blocks are those that are there
-pub followed_first : (old new : ProgressLists) → HasFollowed old new → AreFirstBlocks (facts_in new.entries) new.prints
-followed_first old new h = all_are_first (facts_in new.entries) new.prints h.current
+pub followed_first : (old new : ProgressLists) → HasFollowed old new → AreFirstBlocks new.first (facts_in new.entries) new.prints
+followed_first old new h = all_are_first new.first (facts_in new.entries) new.prints h.current
 
-pub still_stands : (w : SearchContext) (old new : ProgressLists) → IsSameButBlocks old new → AreFirstBlocks (facts_in new.entries) new.prints → IsStanding w old → IsStanding w new
+pub still_stands : (w : SearchContext) (old new : ProgressLists) → IsSameButBlocks old new → AreFirstBlocks new.first (facts_in new.entries) new.prints → IsStanding w old → IsStanding w new
 still_stands w old new same first st = subst (λ (q : ProgressLists). IsStanding w q) (sym same) (record {
   asked = st.asked;
+  first_is = st.first_is;
   follows = st.follows;
-  blocks = subst (λ (es : List Entry). AreFirstBlocks (facts_in es) new.prints) (entries_same old new same) first;
+  blocks = subst (λ (q : ProgressLists). AreFirstBlocks q.first (facts_in q.entries) new.prints) same first;
   places = st.places;
   traced = st.traced;
   are_marks = st.are_marks;
@@ -32,7 +33,7 @@ still_stands w old new same first st = subst (λ (q : ProgressLists). IsStanding
 pub still_none : (w : SearchContext) (old new : ProgressLists) → IsSameButBlocks old new → IsClashOf w (facts_in old.entries) None → IsClashOf w (facts_in new.entries) None
 still_none w old new same none = subst (λ (es : List Entry). IsClashOf w (facts_in es) None) (sym (entries_same old new same)) none
 
-pub still_searches : (w : SearchContext) (old new : ProgressLists) → IsSameButBlocks old new → AreFirstBlocks (facts_in new.entries) new.prints → IsSearching w old → IsSearching w new
+pub still_searches : (w : SearchContext) (old new : ProgressLists) → IsSameButBlocks old new → AreFirstBlocks new.first (facts_in new.entries) new.prints → IsSearching w old → IsSearching w new
 still_searches w old new same first h = record {
   standing = still_stands w old new same first h.standing;
   clash = subst (λ (q : ProgressLists). IsClashOf w (facts_in q.entries) q.clash) (sym same) h.clash;
@@ -48,7 +49,7 @@ stepped_after w old mid new same s h = by_kind s (subst (λ (q : ProgressLists).
     by_kind : (s : Stepped) → IsStepped w before new s → IsStepped w old new s
     by_kind Moved h = (
       record {
-        same = record { query = h.0.same.query; sub = h.0.same.sub; not_sup = h.0.same.not_sup };
+        same = record { query = h.0.same.query; at = h.0.same.at; sub = h.0.same.sub; not_sup = h.0.same.not_sup; first = h.0.same.first };
         standing = h.0.standing;
         is_legal = h.0.is_legal;
         counted = h.0.counted;
@@ -57,7 +58,7 @@ stepped_after w old mid new same s h = by_kind s (subst (λ (q : ProgressLists).
     )
     by_kind Saturated h = (record { same = h.0.same; current = h.0.current }, h.1)
     by_kind Closed h = record {
-      same = record { query = h.same.query; sub = h.same.sub; not_sup = h.same.not_sup };
+      same = record { query = h.same.query; at = h.same.at; sub = h.same.sub; not_sup = h.same.not_sup; first = h.same.first };
       entries = h.entries;
       blocks = h.blocks;
       steps = h.steps;

@@ -1,10 +1,11 @@
 -- Where a search is once its trace has gone back from a clash.
 use Rattle.std.proofs.Common.{◌≡◌, List, [], ◌∷◌, ◌++◌, length, sym, subst}
 use Rattle.lane_sieve.specs.Sets.{NumberSet}
+use Rattle.calculus_specs.specs.Rules.{Question}
 use Rattle.calculus_specs.specs.Line.{Line}
 use Rattle.tableau_specs.specs.Steps.{SearchContext, HasClash}
 use Rattle.std.specs.List.{All}
-use Rattle.search_trace.specs.Noted.{Noted, noted_start}
+use Rattle.search_trace.specs.Noted.{Noted, start_of}
 use Rattle.search_trace.specs.Places.{Place}
 use Rattle.completion_tree.specs.Trail.{items_of}
 use Rattle.search_trace.specs.declared.opens.Back.{Back}
@@ -16,37 +17,41 @@ use Rattle.search_state.specs.Marked.{marked_in}
 use Rattle.search_state.specs.Branchings.{AreMarks}
 use Rattle.search_state.specs.Resting.{RestsClash}
 use Rattle.search_state.specs.Backing.{closed_trace}
-use Rattle.search_state.specs.Progress.{ProgressLists, IsFitLine, IsStanding}
+use Rattle.search_state.specs.Progress.{ProgressLists, asked_by, IsFitLine, IsStanding}
 use Rattle.search_state.specs.Turning.{HasGoneBack}
 use Rattle.search_state.proofs.Moving.{lines_fit}
 use Rattle.search_state.proofs.Fitting.{fit_back}
 
 module _ (w : SearchContext) (old : ProgressLists) (st : IsStanding w old) (clash : HasClash w (items_of old.entries)) (line : Line) (u : NumberSet) (r : RestsClash w old.entries line u) where
+  abbrev asked : Question
+  asked = asked_by w old
+
   abbrev start : Noted
-  start = noted_start old.query.sub old.query.sup
+  start = start_of asked
 
   abbrev lined : TraceLists
   lined = with_line old.trace line u
 
-  closing : IsClosingAt w.theory w.table start lined st.places u
-  closing = let at = r.resting.holds old.trace.next in (goes_on w.theory w.table start old.trace st.places (marked_in old.entries) st.traced).clash line u at.rule at.holds at.children_are
+  closing : IsClosingAt asked w.table start lined st.places u
+  closing = let at = r.resting.holds (asked_by w old) old.trace.next in (goes_on asked w.table start old.trace st.places (marked_in old.entries) st.traced).clash line u at.rule at.holds at.children_are
 
-  gone : GoesBack w.theory w.table start lined st.places u
-  gone = goes_back w.theory w.table start lined st.places u closing
+  gone : GoesBack asked w.table start lined st.places u
+  gone = goes_back asked w.table start lined st.places u closing
 
   -- the progress with the trace that has gone back
   abbrev pub back_progress : ProgressLists
-  back_progress = record { query = old.query; sub = old.sub; not_sup = old.not_sup; entries = old.entries; prints = old.prints; trace = closed_trace old.trace line u; marks = old.marks; clash = old.clash; steps = old.steps }
+  back_progress = record { query = old.query; at = old.at; sub = old.sub; not_sup = old.not_sup; first = old.first; entries = old.entries; prints = old.prints; trace = closed_trace old.trace line u; marks = old.marks; clash = old.clash; steps = old.steps }
 
   fit : All (IsFitLine w old.sub old.not_sup) (turned_back lined u).lines
   fit = fit_back w old.sub old.not_sup lined u (lines_fit w old st old.trace.next line u [] [] r.resting)
 
-  by_left : (left : List Place) (b : Back) → gone.passed ++ left ≡ st.places → length left ≡ length (turned_back lined u).opens → IsLeft w.theory w.table start (turned_back lined u) (gone_back lined.lines lined.opens u).used left b → HasGoneBack w back_progress b
-  by_left [] Closed are count is = record { asked = st.asked; follows = st.follows; blocks = st.blocks; has_clash = clash; closes = is; fit = fit }
+  by_left : (left : List Place) (b : Back) → gone.passed ++ left ≡ st.places → length left ≡ length (turned_back lined u).opens → IsLeft asked w.table start (turned_back lined u) (gone_back lined.lines lined.opens u).used left b → HasGoneBack w back_progress b
+  by_left [] Closed are count is = record { asked = st.asked; first_is = st.first_is; follows = st.follows; blocks = st.blocks; has_clash = clash; closes = is; fit = fit }
   by_left [] (Turned mark marks) are count is = absurd is
   by_left (p ∷ older) Closed are count is = absurd is
   by_left (p ∷ older) (Turned mark marks) are count is = record {
     asked = st.asked;
+    first_is = st.first_is;
     follows = st.follows;
     blocks = st.blocks;
     has_clash = clash;

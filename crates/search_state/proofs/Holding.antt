@@ -19,7 +19,7 @@ use Rattle.search_trace.specs.Among.{IsAmong}
 use Rattle.search_trace.specs.Noted.{Marked, is_within, within}
 use Rattle.search_trace.specs.Premises.{Added}
 use Rattle.search_trace.specs.Trail.{MarkedFact}
-use Rattle.search_trace.specs.Grounded.{AreGrounded}
+use Rattle.search_trace.specs.Grounded.{named, AreGrounded}
 use Rattle.search_trace.proofs.Among.{any_implies, any_within, given_stays, edge_stays, apart_stays}
 use Rattle.completion_tree.specs.declared.tree.Entry.{Entry}
 use Rattle.completion_tree.specs.Trail.{facts_in}
@@ -27,11 +27,12 @@ use Rattle.absorption.specs.ClosureLaws.{IsClosedFor}
 use Rattle.absorption.proofs.Lacking.{lack_nothing}
 use Rattle.step_finders.specs.declared.choosing.Choosing.{Choosing}
 use Rattle.step_finders.specs.declared.make.NewNodes.{NewNodes}
+use Rattle.step_finders.specs.declared.state.Given.{Given}
 use Rattle.step_finders.specs.Choosing.{branch_of, IsChoosable}
 use Rattle.step_lines.specs.Serving.{Serves, HoldWithin}
-use Rattle.step_lines.specs.Kinds.{ServesAddition, ServesNewNodes, ServesChoice, ServesClash}
+use Rattle.step_lines.specs.Kinds.{ServesAddition, ServesGiven, ServesNewNodes, ServesChoice, ServesClash}
 use Rattle.search_state.specs.Marked.{marked_in}
-use Rattle.search_state.specs.Resting.{IsResting, RestsAddition, RestsNewNodes, RestsChoice, RestsClash}
+use Rattle.search_state.specs.Resting.{IsResting, RestsAddition, RestsGiven, RestsNewNodes, RestsChoice, RestsClash}
 use Rattle.search_state.proofs.Entries.{items-marked}
 
 -- ---- more marks
@@ -97,10 +98,10 @@ so_at fs (g ∷ gs) (suc i) d lt h = so_at fs gs i d (omega (arith, lt)) (and_pa
 
 -- ---- lines
 
-module _ (w : SearchContext) (es : List Entry) (line : Line) (grounds : List (Fact ℕ)) (u : NumberSet) (grounded : AreGrounded (marked_in es)) (hold : HoldWithin u (marked_in es) grounds) where
+module _ (w : SearchContext) (es : List Entry) (line : Line) (grounds : List (Fact ℕ)) (u : NumberSet) (grounded : AreGrounded w.first (marked_in es)) (hold : HoldWithin u (marked_in es) grounds) where
   resting : (children : List Added) (nodes : List ℕ) → Serves w (facts_in es) line grounds children nodes → IsResting w es line u children nodes
   resting children nodes s = record {
-    holds = λ number. s.holds_by number u (marked_in es) (items-marked es) grounded hold;
+    holds = λ q number. s.holds_by q number u (marked_in es) (items-marked es) grounded hold;
     knows = s.knows u (marked_in es) grounded hold;
     of_kind = s.of_kind;
     numbered = s.numbered;
@@ -109,6 +110,9 @@ module _ (w : SearchContext) (es : List Entry) (line : Line) (grounds : List (Fa
 
   pub addition_rests : (x d : ℕ) → ServesAddition w (facts_in es) x d line grounds → RestsAddition w es x d line u
   addition_rests x d s = record { child = s.child; resting = resting (s.child ∷ []) (x ∷ []) s.serves; puts = s.puts; single = s.single }
+
+  pub given_rests : (g : Given) → u ≡ sets.empty → ServesGiven w (facts_in es) g line grounds → RestsGiven w es g.fact line u
+  given_rests g none s = record { child = s.child; resting = resting (s.child ∷ []) (named g.fact) s.serves; puts = s.puts; single = s.single; on_nothing = none }
 
   pub new_nodes_rest : (m : NewNodes) → ServesNewNodes w (facts_in es) m line grounds → RestsNewNodes w es m line u
   new_nodes_rest m s = record { child = s.child; resting = resting (s.child ∷ []) (m.parent ∷ []) s.serves; puts = s.puts; single = s.single }

@@ -7,7 +7,7 @@ use Rattle.std.proofs.lemmas.List.Folds.{list_any-append}
 use Rattle.calculus_specs.specs.declared.facts.Fact.{Fact}
 use Rattle.calculus_specs.specs.declared.facts.Fact.TheVariants.{Has}
 use Rattle.calculus_specs.specs.Joins.{rep}
-use Rattle.calculus_specs.specs.State.{node_count, has, is_given, gives_concept, fresh_facts}
+use Rattle.calculus_specs.specs.State.{node_count_from, has, is_given, gives_concept, fresh_facts}
 use Rattle.tableau_specs.specs.Clash.{IsPlainClash}
 use Rattle.tableau_specs.specs.Steps.{SearchContext, below_of}
 use Rattle.tableau_specs.proofs.GenerateLines.{count-fresh}
@@ -31,30 +31,30 @@ has_new fs x s e first (suc n) lt =
     or_right (eqb e 0) (is_given (λ d. eqb d e) gs first)
     (list_any-append p fs new ∙ or_right (list_any p fs) (list_any p new) (or_left (p (Has first e)) _ here))
 
-module _ (w : SearchContext) (s : ProgressLists) (st : IsStanding w s) (m : NewNodes) (first : ℕ) (last : IsLastNew w s.entries m first) where
-  all_facts : facts_in s.entries ≡ facts_in last.front ++ fresh_facts m.parent m.role m.filler (node_count (facts_in last.front)) m.count
+module _ (w : SearchContext) (s : ProgressLists) (st : IsStanding w s) (m : NewNodes) (new : ℕ) (last : IsLastNew w s.entries m new) where
+  all_facts : facts_in s.entries ≡ facts_in last.front ++ fresh_facts m.parent m.role m.filler (node_count_from w.first (facts_in last.front)) m.count
   all_facts =
-      let new = fresh_facts m.parent m.role m.filler (node_count (facts_in last.front)) m.count in
-      ap facts_in last.splits ∙ facts-append last.front (grounded last.by new) ∙ ap (λ (fs : List (Fact ℕ)). facts_in last.front ++ fs) (facts-grounded last.by new)
+      let fresh = fresh_facts m.parent m.role m.filler (node_count_from w.first (facts_in last.front)) m.count in
+      ap facts_in last.splits ∙ facts-append last.front (grounded last.by fresh) ∙ ap (λ (fs : List (Fact ℕ)). facts_in last.front ++ fs) (facts-grounded last.by fresh)
 
-  pub new_lookable : IsNewLookable (facts_in s.entries) m first
+  pub new_lookable : IsNewLookable w (facts_in s.entries) m new
   new_lookable =
       let fs = facts_in last.front in
-      let count : node_count (facts_in s.entries) ≡ node_count fs + m.count = ap node_count all_facts ∙ count-fresh fs m.parent m.role m.filler m.count in
+      let count : node_count_from w.first (facts_in s.entries) ≡ node_count_from w.first fs + m.count = ap (node_count_from w.first) all_facts ∙ count-fresh w.first fs m.parent m.role m.filler m.count in
       record {
         parent = omega (arith, count, last.is_node);
-        is_node = omega (arith, count, last.first_is, last.is_some);
-        holds = subst (λ (gs : List (Fact ℕ)). has gs first m.filler ≡ true) (sym all_facts)
-            (subst (λ (n : ℕ). has (fs ++ fresh_facts m.parent m.role m.filler (node_count fs) m.count) n m.filler ≡ true) (sym last.first_is) (has_new fs m.parent m.role m.filler (node_count fs) m.count last.is_some));
+        is_node = omega (arith, count, last.new_is, last.is_some);
+        holds = subst (λ (gs : List (Fact ℕ)). has gs new m.filler ≡ true) (sym all_facts)
+            (subst (λ (n : ℕ). has (fs ++ fresh_facts m.parent m.role m.filler (node_count_from w.first fs) m.count) n m.filler ≡ true) (sym last.new_is) (has_new fs m.parent m.role m.filler (node_count_from w.first fs) m.count last.is_some));
       }
 
-  none_new : (NoClashByNew w (facts_in s.entries) m.parent m.role m.filler) → ¬ IsPlainClash (below_of w) w.table (facts_in s.entries)
+  none_new : (NoClashByNew w (facts_in s.entries) m.parent m.role m.filler) → ¬ IsPlainClash w.first (below_of w) w.table (facts_in s.entries)
   none_new free =
       let fs = facts_in last.front in
-      let new = fs ++ fresh_facts m.parent m.role m.filler (node_count fs) m.count in
-      let free' : NoClashByNew w new m.parent m.role m.filler = subst (λ (gs : List (Fact ℕ)). NoClashByNew w gs m.parent m.role m.filler) all_facts free in
-      subst (λ (gs : List (Fact ℕ)). ¬ IsPlainClash (below_of w) w.table gs) (sym all_facts)
-      (λ clash. free'.none ((block_clashes (below_of w) w.table fs m.parent m.role m.filler m.count st.asked.is_table.begins_with_top last.speak last.is_node last.is_some last.none).0 clash))
+      let all = fs ++ fresh_facts m.parent m.role m.filler (node_count_from w.first fs) m.count in
+      let free' : NoClashByNew w all m.parent m.role m.filler = subst (λ (gs : List (Fact ℕ)). NoClashByNew w gs m.parent m.role m.filler) all_facts free in
+      subst (λ (gs : List (Fact ℕ)). ¬ IsPlainClash w.first (below_of w) w.table gs) (sym all_facts)
+      (λ clash. free'.none ((block_clashes w.first (below_of w) w.table fs m.parent m.role m.filler m.count st.asked.is_table.begins_with_top last.speak last.is_node last.is_some last.none).0 clash))
 
   known : (found : Option Clash) → MatchOption found (NoClashByNew w (facts_in s.entries) m.parent m.role m.filler) (IsShown w (facts_in s.entries)) → IsClashOf w (facts_in s.entries) found
   known None h = none_new h
@@ -62,6 +62,6 @@ module _ (w : SearchContext) (s : ProgressLists) (st : IsStanding w s) (m : NewN
 
   pub new_looked : (found : Option Clash) → MatchOption found (NoClashByNew w (facts_in s.entries) m.parent m.role m.filler) (IsShown w (facts_in s.entries)) → IsSearching w (record s { clash = found })
   new_looked found h = record {
-    standing = record { asked = st.asked; follows = st.follows; blocks = st.blocks; places = st.places; traced = st.traced; are_marks = st.are_marks; grounded = st.grounded; fit = st.fit };
+    standing = record { asked = st.asked; first_is = st.first_is; follows = st.follows; blocks = st.blocks; places = st.places; traced = st.traced; are_marks = st.are_marks; grounded = st.grounded; fit = st.fit };
     clash = known found h;
   }

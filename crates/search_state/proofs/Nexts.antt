@@ -6,15 +6,15 @@ use Rattle.calculus_specs.specs.Shape.{Shape, shape_of}
 use Rattle.calculus_specs.specs.Shape.Shape.{top, bottom, name, not_name, intersection, union, some_of, all_of, at_least, at_most}
 use Rattle.calculus_specs.specs.declared.facts.Fact.{Fact}
 use Rattle.calculus_specs.specs.declared.facts.Fact.TheVariants.{Has, Same, Apart}
-use Rattle.calculus_specs.specs.State.{node_count, fresh_facts}
+use Rattle.calculus_specs.specs.State.{node_count_from, fresh_facts}
 use Rattle.calculus_specs.specs.Line.{Line}
 use Rattle.tableau_specs.specs.declared.Branch.{Branch}
 use Rattle.tableau_specs.specs.declared.Branch.TheVariants.{Or, Choose, Pair}
 use Rattle.tableau_specs.specs.declared.Item.TheVariants.{Fact as Says, Mark as Marks}
 use Rattle.tableau_specs.specs.LineLaws.{IsNumbered}
-use Rattle.tableau_specs.specs.Steps.{SearchContext, below_of, IsAlternative, HasClash, HasPlainClash, next_choice}
+use Rattle.tableau_specs.specs.Steps.{SearchContext, IsGiven, below_of, IsAlternative, HasClash, HasPlainClash, next_choice}
 use Rattle.tableau_specs.specs.Steps.IsAlternative.{of_union, of_filler, of_complement, of_joining, of_parting}
-use Rattle.tableau_specs.specs.Steps.IsLegal.{add, generate, choose, back}
+use Rattle.tableau_specs.specs.Steps.IsLegal.{add, give, generate, choose, back}
 use Rattle.tableau_specs.specs.declared.Choice.{Choice}
 use Rattle.tableau_specs.specs.Items.{facts_of, says}
 use Rattle.tableau_specs.specs.Clash.{IsClash, IsPlainClash}
@@ -23,7 +23,7 @@ use Rattle.completion_tree.specs.declared.tree.Entry.{Entry}
 use Rattle.completion_tree.specs.Trail.{facts_in, items_of}
 use Rattle.step_finders.specs.declared.clash.Clash.{Clash}
 use Rattle.step_finders.specs.declared.step.Step.{Step}
-use Rattle.step_finders.specs.declared.step.Step.TheVariants.{Add, Generate, Choose as ChooseStep}
+use Rattle.step_finders.specs.declared.step.Step.TheVariants.{Give, Add, Generate, Choose as ChooseStep}
 use Rattle.step_finders.specs.Choosing.{branch_of}
 use Rattle.step_finders.specs.Clashing.{IsShown}
 use Rattle.step_finders.specs.Found.{Files}
@@ -94,12 +94,12 @@ clash_has_next w old st clash line u r is =
 
 -- a clash that is shown is one
 pub shown_is_clash : (w : SearchContext) (es : List Entry) (clash : Clash) → IsShown w (facts_in es) clash → HasClash w (items_of es)
-shown_is_clash w es clash shown = subst (λ (fs : List (Fact ℕ)). IsClash (below_of w) w.table fs) (sym (facts-items es)) (plain_is_clash (below_of w) w.table (facts_in es) (shown_is_plain w (facts_in es) clash shown))
+shown_is_clash w es clash shown = subst (λ (fs : List (Fact ℕ)). IsClash w.first (below_of w) w.table fs) (sym (facts-items es)) (plain_is_clash w.first (below_of w) w.table (facts_in es) (shown_is_plain w (facts_in es) clash shown))
 
 -- where the trace closes everything
 pub closing_is_closed : (w : SearchContext) (old new : ProgressLists) → new ≡ record old { trace = new.trace } → IsClosing w new → IsClosed w old new
 closing_is_closed w old new same h = record {
-  same = record { query = ap (λ (q : ProgressLists). q.query) same; sub = ap (λ (q : ProgressLists). q.sub) same; not_sup = ap (λ (q : ProgressLists). q.not_sup) same };
+  same = record { query = ap (λ (q : ProgressLists). q.query) same; at = ap (λ (q : ProgressLists). q.at) same; first = ap (λ (q : ProgressLists). q.first) same; sub = ap (λ (q : ProgressLists). q.sub) same; not_sup = ap (λ (q : ProgressLists). q.not_sup) same };
   entries = ap (λ (q : ProgressLists). q.entries) same;
   blocks = h.blocks;
   steps = ap (λ (q : ProgressLists). q.steps) same;
@@ -109,15 +109,18 @@ closing_is_closed w old new same h = record {
 }
 
 -- without a plain clash, what can be made is a next step
-pub step_has_next : (w : SearchContext) (s : ProgressLists) (files : Files) (step : Step) → ¬ IsPlainClash (below_of w) w.table (facts_in s.entries) → IsStep w (facts_in s.entries) files step → HasNext w s
-step_has_next w s files step none is = by_step step (at (λ fs. ¬ IsPlainClash (below_of w) w.table fs) none) (at (λ fs. IsStep w fs files step) is)
+pub step_has_next : (w : SearchContext) (s : ProgressLists) (files : Files) (step : Step) → ¬ IsPlainClash w.first (below_of w) w.table (facts_in s.entries) → IsStep w (facts_in s.entries) files step → HasNext w s
+step_has_next w s files step none is = by_step step (at (λ fs. ¬ IsPlainClash w.first (below_of w) w.table fs) none) (at (λ fs. IsStep w fs files step) is)
   where
     at : (P : List (Fact ℕ) → Type 0) → P (facts_in s.entries) → P (facts_of (items_of s.entries))
     at P h = subst P (sym (facts-items s.entries)) h
 
     by_step : (step : Step) → ¬ HasPlainClash w (items_of s.entries) → IsStep w (facts_of (items_of s.entries)) files step → HasNext w s
+    by_step (Give g) none h =
+        let given : IsGiven w g.fact = record { axiom_number = g.«axiom»; place = g.place; is_there = h.is_given.is_there; listed = h.is_given.listed; on_first = h.is_given.on_first } in
+        record { next = items_of s.entries ++ Says g.fact ∷ []; is_legal = give g.fact none given h.lacks }
     by_step (Add a) none h = record { next = items_of s.entries ++ Says (Has a.node a.concept) ∷ []; is_legal = add a.node a.concept none h.adds h.lacks }
-    by_step (Generate m) none h = let new : List (Fact ℕ) = fresh_facts m.parent m.role m.filler (node_count (facts_of (items_of s.entries))) m.count in record { next = items_of s.entries ++ says new; is_legal = generate new none h.generates }
+    by_step (Generate m) none h = let new : List (Fact ℕ) = fresh_facts m.parent m.role m.filler (node_count_from w.first (facts_of (items_of s.entries))) m.count in record { next = items_of s.entries ++ says new; is_legal = generate new none h.generates }
     by_step (ChooseStep k) none h =
         let c : Choice = record { line = 0; branch = branch_of k; alternative = 1 } in
         record { next = items_of s.entries ++ Marks c ∷ Says h.first ∷ []; is_legal = choose c h.first none h.may refl h.is_first }

@@ -1,11 +1,11 @@
 -- The mark to whose next alternative a search goes back.
-use Rattle.std.proofs.Common.{◌≡◌, ℕ, zero, suc, ◌+◌, ◌^◌, ◌<◌, ◌≤◌, List, [], ◌∷◌, ◌++◌, length, take, drop, reverse, Some, refl, ap, ◌∙◌, sym, subst, arith, append_assoc}
+use Rattle.std.proofs.Common.{◌≡◌, ℕ, zero, suc, ◌+◌, ◌^◌, ◌<◌, ◌≤◌, true, List, [], ◌∷◌, ◌++◌, length, take, drop, reverse, Some, refl, ap, ◌∙◌, sym, subst, arith, append_assoc}
 use Rattle.std.specs.Prelude.{slice_get}
 use Rattle.std.proofs.lemmas.List.{length-append, length-reverse, reverse-append, take-append-drop, length-take-le}
 use Rattle.std.proofs.Math.Seq.{take-append_seam}
 use Rattle.lane_sieve.specs.Sets.{NumberSet}
 use Rattle.calculus_specs.specs.declared.facts.Fact.{Fact}
-use Rattle.calculus_specs.specs.State.{node_count}
+use Rattle.calculus_specs.specs.State.{node_count_from}
 use Rattle.fact_tree.specs.Entries.{IsFit}
 use Rattle.tableau_specs.specs.declared.Choice.{Choice}
 use Rattle.tableau_specs.specs.declared.Item.TheVariants.{Mark as Marks}
@@ -29,6 +29,7 @@ use Rattle.search_state.proofs.Marks.{same_count, marks_left, AreLeft, get-withi
 use Rattle.search_state.proofs.Choices.{with_choice, take_items, get_item, turn_moves}
 use Rattle.search_state.proofs.Moving.{IsNext}
 use Rattle.search_state.proofs.Parts.{alternative_fits}
+use Rattle.search_trace.specs.Trail.{makes_no_node}
 
 -- ---- lists
 
@@ -107,16 +108,16 @@ module _ (w : SearchContext) (s : ProgressLists) (mark : ℕ) (marks : NumberSet
   facts_before : facts_of (take left.at (items_of s.entries)) ≡ facts_in (take left.at s.entries)
   facts_before = ap facts_of (sym (take_items left.at s.entries)) ∙ facts-items (take left.at s.entries)
 
-  on : BranchIsOn (node_count (facts_in (take left.at s.entries))) left.mark.choice.branch
-  on = subst (λ (fs : List (Fact ℕ)). BranchIsOn (node_count fs) left.mark.choice.branch) facts_before
-      (nodes_before w s.sub s.not_sup s.steps (items_of s.entries) t.follows left.at (Marks left.mark.choice) (get_item s.entries left.at left.mark.choice left.mark.stands))
+  on : BranchIsOn (node_count_from w.first (facts_in (take left.at s.entries))) left.mark.choice.branch
+  on = subst (λ (fs : List (Fact ℕ)). BranchIsOn (node_count_from w.first fs) left.mark.choice.branch) facts_before
+      (nodes_before w s.at s.sub s.not_sup s.steps (items_of s.entries) t.asked.at_first t.follows left.at (Marks left.mark.choice) (get_item s.entries left.at left.mark.choice left.mark.stands))
 
-  fits : (k : ℕ) (f : Fact ℕ) → IsAlternative w.table left.mark.choice.branch k f → IsFit (node_count (facts_in (take left.at s.entries))) f
-  fits k f a = alternative_fits w.table (node_count (facts_in (take left.at s.entries))) left.mark.choice.branch k f a on
+  fits : (k : ℕ) (f : Fact ℕ) → IsAlternative w.table left.mark.choice.branch k f → IsFit (node_count_from w.first (facts_in (take left.at s.entries))) f
+  fits k f a = alternative_fits w.table (node_count_from w.first (facts_in (take left.at s.entries))) left.mark.choice.branch k f a on
 
-  no_clash_before : ¬ IsPlainClash (below_of w) w.table (facts_in (take left.at s.entries))
-  no_clash_before = subst (λ (fs : List (Fact ℕ)). ¬ IsPlainClash (below_of w) w.table fs) facts_before
-      (reached_before w s.sub s.not_sup s.steps (items_of s.entries) t.follows left.at left.mark.choice (get_item s.entries left.at left.mark.choice left.mark.stands))
+  no_clash_before : ¬ IsPlainClash w.first (below_of w) w.table (facts_in (take left.at s.entries))
+  no_clash_before = subst (λ (fs : List (Fact ℕ)). ¬ IsPlainClash w.first (below_of w) w.table fs) facts_before
+      (reached_before w s.at s.sub s.not_sup s.steps (items_of s.entries) t.asked.at_first t.follows left.at left.mark.choice (get_item s.entries left.at left.mark.choice left.mark.stands))
 
   front_long : length (take left.at s.entries) ≡ left.at
   front_long = length-take-le left.at s.entries place_within
@@ -127,12 +128,13 @@ module _ (w : SearchContext) (s : ProgressLists) (mark : ℕ) (marks : NumberSet
   still_within : (c : Choice) (f : Fact ℕ) (by : By) → left.at ≤ length (with_choice (take left.at s.entries) c f by)
   still_within c f by = omega (arith, front_long, length-append (take left.at s.entries) (Mark c ∷ Grounded f by ∷ []))
 
-  is_last : (c : Choice) (f : Fact ℕ) (by : By) → IsLast w (with_choice (take left.at s.entries) c f by) f
-  is_last c f by = let front = take left.at s.entries in record {
+  is_last : (c : Choice) (f : Fact ℕ) (by : By) → makes_no_node w.first f ≡ true → IsLast w (with_choice (take left.at s.entries) c f by) f
+  is_last c f by no_node = let front = take left.at s.entries in record {
     front = front ++ Mark c ∷ [];
     by = by;
     splits = sym (append_assoc front (Mark c ∷ []) (Grounded f by ∷ []));
-    none = subst (λ (fs : List (Fact ℕ)). ¬ IsPlainClash (below_of w) w.table fs) (sym (facts-marked front c)) no_clash_before;
+    no_node = no_node;
+    none = subst (λ (fs : List (Fact ℕ)). ¬ IsPlainClash w.first (below_of w) w.table fs) (sym (facts-marked front c)) no_clash_before;
   }
 
   -- ---- as it is found: the latest of the marks that are kept, and its choice
@@ -156,8 +158,8 @@ module _ (w : SearchContext) (s : ProgressLists) (mark : ℕ) (marks : NumberSet
     pub front_at : (c : Choice) (f : Fact ℕ) (by : By) → take at (with_choice (take at s.entries) c f by) ≡ take at s.entries
     front_at c f by = subst (λ (k : ℕ). take k (with_choice (take k s.entries) c f by) ≡ take k s.entries) (sym at_is) (front_stays c f by)
 
-    pub last_at : (c : Choice) (f : Fact ℕ) (by : By) → IsLast w (with_choice (take at s.entries) c f by) f
-    last_at c f by = subst (λ (k : ℕ). IsLast w (with_choice (take k s.entries) c f by) f) (sym at_is) (is_last c f by)
+    pub last_at : (c : Choice) (f : Fact ℕ) (by : By) → makes_no_node w.first f ≡ true → IsLast w (with_choice (take at s.entries) c f by) f
+    last_at c f by no_node = subst (λ (k : ℕ). IsLast w (with_choice (take k s.entries) c f by) f) (sym at_is) (is_last c f by no_node)
 
     module _ (c : Choice) (stands : slice_get s.entries at ≡ Some (Mark c)) where
       c_is : c ≡ left.mark.choice
@@ -172,8 +174,8 @@ module _ (w : SearchContext) (s : ProgressLists) (mark : ℕ) (marks : NumberSet
       pub numbered_at : IsNumbered w.table c.branch
       numbered_at = subst (λ (d : Choice). IsNumbered w.table d.branch) (sym c_is) is_numbered
 
-      pub fits_at : (f : Fact ℕ) → IsAlternative w.table c.branch (c.alternative + 1) f → IsFit (node_count (facts_in (take at s.entries))) f
-      fits_at f a = subst (λ (k : ℕ). IsFit (node_count (facts_in (take k s.entries))) f) (sym at_is) (fits (c.alternative + 1) f (subst (λ (d : Choice). IsAlternative w.table d.branch (c.alternative + 1) f) c_is a))
+      pub fits_at : (f : Fact ℕ) → IsAlternative w.table c.branch (c.alternative + 1) f → IsFit (node_count_from w.first (facts_in (take at s.entries))) f
+      fits_at f a = subst (λ (k : ℕ). IsFit (node_count_from w.first (facts_in (take k s.entries))) f) (sym at_is) (fits (c.alternative + 1) f (subst (λ (d : Choice). IsAlternative w.table d.branch (c.alternative + 1) f) c_is a))
 
       pub moves_at : FactsStayGrounded → AlternativesSpeakOfNodes → (f : Fact ℕ) → IsAlternative w.table c.branch (c.alternative + 1) f → (by : By) → by.marks ≡ marks
           → (new : ProgressLists) → IsNext s new (with_choice (take at s.entries) (next_choice w c) f by) s.trace (reverse (take count kept)) → HasMoved w s new

@@ -10,6 +10,6 @@ use Rattle.completion_tree.specs.declared.tree.Entry.TheVariants.{Fact as Ground
 abbrev pub by_start : By
 by_start = record { line = 0; marks = sets.empty }
 
--- node 0 has what the query asks
-abbrev pub begun_entries : ℕ → ℕ → List Entry
-begun_entries sub not_sup = Grounded (Has 0 sub) by_start ∷ Grounded (Has 0 not_sup) by_start ∷ []
+-- the node in question has what the query asks
+abbrev pub begun_entries : ℕ → ℕ → ℕ → List Entry
+begun_entries at sub not_sup = Grounded (Has at sub) by_start ∷ Grounded (Has at not_sup) by_start ∷ []

@@ -28,8 +28,8 @@ pub record IsMarkOf (w : SearchContext) (es : List Entry) (at : ℕ) (p : Place)
   pub stands : slice_get es at ≡ Some (Mark choice)
   pub line : choice.line ≡ p.mark
   pub before : marked_in (take at es) ≡ p.facts
-  pub grounded : AreGrounded p.facts
-  pub known : list_all (is_known_within p.marks p.facts) (branch_nodes choice.branch) ≡ true
+  pub grounded : AreGrounded w.first p.facts
+  pub known : list_all (is_known_within w.first p.marks p.facts) (branch_nodes choice.branch) ≡ true
   pub facts : List (Fact ℕ)
   pub children : List Added
   pub alternatives : AreAlternatives w facts choice.branch children

@@ -4,7 +4,7 @@ use Rattle.tableau_specs.specs.declared.Item.{Item}
 use Rattle.tableau_specs.specs.Steps.{SearchContext, IsLegal, IsSaturated, HasClash}
 use Rattle.tableau_specs.specs.Reached.{start}
 use Rattle.search_trace.specs.Leaves.{leaves}
-use Rattle.search_trace.specs.Noted.{noted_start}
+use Rattle.search_trace.specs.Noted.{start_of}
 use Rattle.search_trace.specs.Back.{step_of}
 use Rattle.completion_tree.specs.Trail.{facts_in, items_of}
 use Rattle.step_agenda.specs.Followed.{AreFirstBlocks, IsCurrent}
@@ -12,13 +12,13 @@ use Rattle.search_state.specs.declared.stepping.Stepped.{Stepped}
 use Rattle.search_state.specs.declared.stepping.Stepped.TheVariants.{Moved, Saturated, Closed}
 use Rattle.search_state.specs.declared.stepping.Rested.{Rested}
 use Rattle.search_state.specs.declared.stepping.Rested.TheVariants.{CanMove, Saturated as RestSaturated, Closed as RestClosed}
-use Rattle.search_state.specs.Progress.{ProgressLists, IsFitLine, IsSearching, IsSameQuery, HasMoved}
+use Rattle.search_state.specs.Progress.{ProgressLists, asked_by, IsFitLine, IsSearching, IsSameQuery, HasMoved}
 
 -- what has begun
 pub record HasBegun (w : SearchContext) (s : ProgressLists) : Type 0 where
   pub is_searching : IsSearching w s
-  pub current : IsCurrent (facts_in s.entries) s.prints
-  pub trail_is : items_of s.entries ≡ start s.sub s.not_sup
+  pub current : IsCurrent s.first (facts_in s.entries) s.prints
+  pub trail_is : items_of s.entries ≡ start s.at s.sub s.not_sup
   pub no_steps : s.steps ≡ 0
 
 -- nothing has changed but what is known of blocks
@@ -28,17 +28,17 @@ IsSameButBlocks old new = new ≡ record old { prints = new.prints }
 -- nothing was done but that the blocks of all nodes were found
 pub record HasFollowed (old new : ProgressLists) : Type 0 where
   pub same : IsSameButBlocks old new
-  pub current : IsCurrent (facts_in new.entries) new.prints
+  pub current : IsCurrent new.first (facts_in new.entries) new.prints
 
 module _ (w : SearchContext) where
   -- the lines close everything, the trail is as it was, and the blocks that are known are those of the trail
   pub record IsClosed (old new : ProgressLists) : Type 0 where
     pub same : IsSameQuery old new
     pub entries : new.entries ≡ old.entries
-    pub blocks : AreFirstBlocks (facts_in new.entries) new.prints
+    pub blocks : AreFirstBlocks new.first (facts_in new.entries) new.prints
     pub steps : new.steps ≡ old.steps
     pub has_clash : HasClash w (items_of new.entries)
-    pub closes : leaves (step_of w.theory w.table) (noted_start new.query.sub new.query.sup ∷ []) new.trace.lines ≡ Some []
+    pub closes : leaves (step_of (asked_by w new) w.table) (start_of (asked_by w new) ∷ []) new.trace.lines ≡ Some []
     pub fit : All (IsFitLine w new.sub new.not_sup) new.trace.lines
 
   abbrev pub IsStepped : ProgressLists → ProgressLists → Stepped → Type 0

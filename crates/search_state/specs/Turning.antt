@@ -7,7 +7,7 @@ use Rattle.tableau_specs.specs.Steps.{SearchContext, HasClash}
 use Rattle.tableau_specs.specs.Reached.{start, Follows}
 use Rattle.search_trace.specs.Premises.{Added}
 use Rattle.search_trace.specs.Leaves.{leaves}
-use Rattle.search_trace.specs.Noted.{marked, noted_start}
+use Rattle.search_trace.specs.Noted.{marked, start_of}
 use Rattle.search_trace.specs.Trail.{Puts}
 use Rattle.search_trace.specs.Back.{step_of}
 use Rattle.search_trace.specs.Places.{Place, turned_place}
@@ -17,14 +17,15 @@ use Rattle.search_trace.specs.declared.opens.Back.{Back}
 use Rattle.search_trace.specs.declared.opens.Back.TheVariants.{Turned, Closed}
 use Rattle.search_trace.specs.Laws.{IsTracedAt}
 use Rattle.search_state.specs.Branchings.{AreMarks}
-use Rattle.search_state.specs.Progress.{ProgressLists, IsAsked, IsFitLine}
+use Rattle.search_state.specs.Progress.{ProgressLists, asked_by, IsAsked, IsFitLine}
 
 -- The trail is as it was, and has a clash. The trace has gone back to a branching that is to take its next alternative,
 -- whose fact rests on these marks.
 pub record IsTurning (w : SearchContext) (s : ProgressLists) (mark : ℕ) (marks : NumberSet) : Type 0 where
-  pub asked : IsAsked w s.query s.sub s.not_sup
-  pub follows : Follows w (start s.sub s.not_sup) s.steps (items_of s.entries)
-  pub blocks : AreFirstBlocks (facts_in s.entries) s.prints
+  pub asked : IsAsked w s.query s.at s.sub s.not_sup
+  pub first_is : s.first ≡ w.first
+  pub follows : Follows w (start s.at s.sub s.not_sup) s.steps (items_of s.entries)
+  pub blocks : AreFirstBlocks s.first (facts_in s.entries) s.prints
   pub has_clash : HasClash w (items_of s.entries)
   pub passed : List Place
   pub place : Place
@@ -35,17 +36,18 @@ pub record IsTurning (w : SearchContext) (s : ProgressLists) (mark : ℕ) (marks
   pub marks_are : marks ≡ sets.insert place.marks place.mark
   pub used : NumberSet
   pub has_next : (a : Added) × (rest : List Added) × (place.rest ≡ a ∷ rest)
-  pub traced : (a : Added) (rest : List Added) (new : List (Fact ℕ)) → place.rest ≡ a ∷ rest → Puts w.table a new
-      → IsTracedAt w.theory w.table (noted_start s.query.sub s.query.sup) s.trace (turned_place place s.trace.lines used rest ∷ older) (place.facts ++ map (marked marks) new)
+  pub traced : (a : Added) (rest : List Added) (new : List (Fact ℕ)) → place.rest ≡ a ∷ rest → Puts w.first w.table a new
+      → IsTracedAt (asked_by w s) w.table (start_of (asked_by w s)) s.trace (turned_place place s.trace.lines used rest ∷ older) (place.facts ++ map (marked marks) new)
   pub fit : All (IsFitLine w s.sub s.not_sup) s.trace.lines
 
 -- the trail has a clash, and the lines of the trace close everything
 pub record IsClosing (w : SearchContext) (s : ProgressLists) : Type 0 where
-  pub asked : IsAsked w s.query s.sub s.not_sup
-  pub follows : Follows w (start s.sub s.not_sup) s.steps (items_of s.entries)
-  pub blocks : AreFirstBlocks (facts_in s.entries) s.prints
+  pub asked : IsAsked w s.query s.at s.sub s.not_sup
+  pub first_is : s.first ≡ w.first
+  pub follows : Follows w (start s.at s.sub s.not_sup) s.steps (items_of s.entries)
+  pub blocks : AreFirstBlocks s.first (facts_in s.entries) s.prints
   pub has_clash : HasClash w (items_of s.entries)
-  pub closes : leaves (step_of w.theory w.table) (noted_start s.query.sub s.query.sup ∷ []) s.trace.lines ≡ Some []
+  pub closes : leaves (step_of (asked_by w s) w.table) (start_of (asked_by w s) ∷ []) s.trace.lines ≡ Some []
   pub fit : All (IsFitLine w s.sub s.not_sup) s.trace.lines
 
 abbrev pub HasGoneBack : SearchContext → ProgressLists → Back → Type 0

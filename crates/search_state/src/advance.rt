@@ -4,6 +4,7 @@ ghost use Rattle.completion_tree.specs.Trail.{facts_in};
 ghost use Rattle.step_agenda.specs.Followed.{AreFirstBlocks, IsCurrent};
 ghost use Rattle.step_finders.specs.Clashing.{IsShown};
 ghost use Rattle.step_finders.specs.Choosing.{IsChoosable};
+ghost use Rattle.step_finders.specs.Giving.{IsGiving};
 ghost use Rattle.step_finders.specs.Making.{IsMaking};
 ghost use Rattle.step_finders.specs.Reasons.{IsAddition};
 ghost use Rattle.step_finders.specs.Stepping.{NoStep, IsStep};
@@ -19,7 +20,7 @@ ghost use Rattle.search_state.specs.Stepping.{HasFollowed, IsStepped};
 use crate::alternatives::count_alternatives;
 use crate::next_alternative::alternative_after;
 use crate::progress::Progress;
-use crate::resting::{rest_addition, rest_choice, rest_new_nodes};
+use crate::resting::{rest_addition, rest_choice, rest_given, rest_new_nodes};
 use crate::{NoMemory, Stepped};
 use calculus_specs::Fact;
 use completion_tree::Deps;
@@ -27,7 +28,7 @@ use search_trace::Back;
 use std::alloc::Allocator;
 use step_agenda::{TreeState, TreeWithBlocks};
 use step_finders::{
-    Addition, Choosing, Clash, NewNodes, Rules, Step, find_step, no_step_is_saturated,
+    Addition, Choosing, Clash, Given, NewNodes, Rules, Step, find_step, no_step_is_saturated,
 };
 
 impl<'b, A: Allocator + Copy> Progress<'b, A> {
@@ -42,6 +43,20 @@ impl<'b, A: Allocator + Copy> Progress<'b, A> {
         let resting = rest_addition(self.heap, &self.tree, rules, addition)?;
         self.put_addition(rules, addition, resting)?;
         self.look(rules, Fact::Has(addition.node, addition.concept));
+        Ok(())
+    }
+
+    // A fact that an axiom gives becomes so.
+    fn give<R: Rules>(&mut self, rules: &R, given: &Given) -> Result<(), NoMemory>
+        requires standing { IsStanding (R.context rules.now) self.old }
+        requires none { IsClashOf (R.context rules.now) (facts_in self.old.entries) None }
+        requires giving { IsGiving (R.context rules.now) (facts_in self.old.entries) given.now }
+        requires countable { self.old.steps + 1 < 2 ^ 64 }
+        ensures { OnOk result (HasAdvanced (R.context rules.now) self.old self.new) }
+    {
+        let resting = rest_given(self.heap, &self.tree, rules, given)?;
+        self.put_given(rules, given, resting)?;
+        self.look(rules, given.fact);
         Ok(())
     }
 
@@ -108,15 +123,16 @@ impl<'b, A: Allocator + Copy> Progress<'b, A> {
     ///
     /// Out of memory. The search serves no more then.
     pub fn follow(&mut self) -> Result<(), NoMemory>
-        requires { AreFirstBlocks (facts_in self.old.entries) self.old.prints }
+        requires { AreFirstBlocks self.old.first (facts_in self.old.entries) self.old.prints }
         ensures followed { OnOk result (HasFollowed self.old self.new) }
-        ensures first { OnOk result (AreFirstBlocks (facts_in self.new.entries) self.new.prints) }
+        ensures first { OnOk result (AreFirstBlocks self.new.first (facts_in self.new.entries) self.new.prints) }
     {
         self.prints.complete(&self.tree)
     }
 
     // A step that can be made whatever is blocked, where one is seen at the latest facts.
     fn latest_at_any<R: Rules>(&mut self, rules: &R) -> Result<Option<Step>, NoMemory>
+        requires { self.old.first ≡ (R.context rules.now).first }
         ensures found { let w = R.context rules.now in let fs = facts_in self.old.entries in
             IfOk result (λ found. IfSome found (IsStep w fs (R.files rules.now))) }
         ensures same { self.new ≡ self.old }
@@ -130,7 +146,8 @@ impl<'b, A: Allocator + Copy> Progress<'b, A> {
 
     // A step that rests on blocks, or one that comes after these, where one is seen at the latest facts.
     fn latest_with_blocks<R: Rules>(&mut self, rules: &R) -> Result<Option<Step>, NoMemory>
-        requires { IsCurrent (facts_in self.old.entries) self.old.prints }
+        requires one_first { self.old.first ≡ (R.context rules.now).first }
+        requires current { IsCurrent self.old.first (facts_in self.old.entries) self.old.prints }
         ensures found { let w = R.context rules.now in let fs = facts_in self.old.entries in
             IfOk result (λ found. IfSome found (IsStep w fs (R.files rules.now))) }
         ensures same { self.new ≡ self.old }
@@ -147,7 +164,8 @@ impl<'b, A: Allocator + Copy> Progress<'b, A> {
 
     // The next step where there is no plain clash; none exactly where there is none.
     pub(crate) fn next_step<R: Rules>(&self, rules: &R) -> Result<Option<Step>, NoMemory>
-        requires { IsCurrent (facts_in self.now.entries) self.now.prints }
+        requires one_first { self.now.first ≡ (R.context rules.now).first }
+        requires current { IsCurrent self.now.first (facts_in self.now.entries) self.now.prints }
         ensures { let w = R.context rules.now in let fs = facts_in self.now.entries in
             IfOk result (λ found. MatchOption found (NoStep w fs) (IsStep w fs (R.files rules.now))) }
     {
@@ -164,6 +182,7 @@ impl<'b, A: Allocator + Copy> Progress<'b, A> {
         ensures { OnOk result (HasAdvanced (R.context rules.now) self.old self.new) }
     {
         match step {
+            Step::Give(given) => self.give(rules, given),
             Step::Add(addition) => self.add(rules, addition),
             Step::Generate(new) => self.generate(rules, new),
             Step::Choose(choosing) => self.choose(rules, choosing),
@@ -201,7 +220,7 @@ impl<'b, A: Allocator + Copy> Progress<'b, A> {
     // The same, where the blocks of all nodes are known.
     fn go_on_followed<R: Rules>(&mut self, rules: &R) -> Result<Stepped, NoMemory>
         requires standing { IsStanding (R.context rules.now) self.old }
-        requires current { IsCurrent (facts_in self.old.entries) self.old.prints }
+        requires current { IsCurrent self.old.first (facts_in self.old.entries) self.old.prints }
         requires none { IsClashOf (R.context rules.now) (facts_in self.old.entries) None }
         requires countable { self.old.steps + 1 < 2 ^ 64 }
         ensures { IfOk result (IsStepped (R.context rules.now) self.old self.new) }
@@ -218,7 +237,7 @@ impl<'b, A: Allocator + Copy> Progress<'b, A> {
     // What there is to do where there is no plain clash.
     fn go_on_anywhere<R: Rules>(&mut self, rules: &R) -> Result<Stepped, NoMemory>
         requires standing { IsStanding (R.context rules.now) self.old }
-        requires current { IsCurrent (facts_in self.old.entries) self.old.prints }
+        requires current { IsCurrent self.old.first (facts_in self.old.entries) self.old.prints }
         requires none { IsClashOf (R.context rules.now) (facts_in self.old.entries) None }
         requires countable { self.old.steps + 1 < 2 ^ 64 }
         ensures { IfOk result (IsStepped (R.context rules.now) self.old self.new) }

@@ -1,7 +1,7 @@
 // Going back from a clash.
 ghost use Rattle.std.specs.Prelude.{◌≡◌, ℕ, ◌+◌, ◌<◌, ◌≤◌, ◌^◌, min, length, take, drop, true, Some, slice_get, OnOk, IfOk};
 ghost use Rattle.calculus_specs.specs.Joins.{rep};
-ghost use Rattle.calculus_specs.specs.State.{node_count};
+ghost use Rattle.calculus_specs.specs.State.{node_count_from};
 ghost use Rattle.step_agenda.specs.Changed.{least_touched};
 ghost use Rattle.refutation_tree.specs.RuleLine.{line_of};
 ghost use Rattle.tableau_specs.specs.Steps.{HasClash};
@@ -10,7 +10,6 @@ ghost use Rattle.completion_tree.specs.Trail.{facts_in, items_of, IsMarkAt};
 ghost use Rattle.step_agenda.specs.Followed.{Printed, AreBlocksBelow};
 ghost use Rattle.step_finders.specs.Clashing.{IsShown};
 ghost use Rattle.search_state.specs.Backing.{closed_trace, can_turn, IsLatest};
-ghost use Rattle.search_state.specs.Looking.{IsNoEdge};
 ghost use Rattle.search_state.specs.Progress.{IsStanding, HasMoved, IsLast};
 ghost use Rattle.search_state.specs.Resting.{RestsClash};
 ghost use Rattle.search_state.specs.Turning.{IsTurning, HasGoneBack};
@@ -74,7 +73,6 @@ impl<'b, A: Allocator + Copy> Progress<'b, A> {
         requires countable { self.old.steps + 1 < 2 ^ 64 }
         ensures moved { OnOk result (HasMoved (R.context rules.now) self.old self.new) }
         ensures last { IfOk result (IsLast (R.context rules.now) self.new.entries) }
-        ensures chosen { IfOk result IsNoEdge }
     {
         let count = self.trace.open_count();
         let lost = self.marks.len().saturating_sub(count);
@@ -120,8 +118,8 @@ fn cut_marks(marks: &mut Vec<u32>, count: usize) -> u32
 
 // The choice of the mark at a place of the trail.
 fn choice_at<A: Allocator + Copy>(tree: &Tree<A>, place: u32) -> Choice
-    requires { IsMarkAt tree.now place }
-    ensures { slice_get tree.now place ≡ Some (Marks result) }
+    requires { IsMarkAt tree.now.entries place }
+    ensures { slice_get tree.now.entries place ≡ Some (Marks result) }
 {
     match tree.item(place) {
         Item::Mark(choice) => choice,
@@ -132,11 +130,13 @@ fn choice_at<A: Allocator + Copy>(tree: &Tree<A>, place: u32) -> Choice
 // Takes the entries from a place on out, and answers below which node the blocks stand of those below `from`, where
 // these stood before: the least of which these entries say something, or the number of nodes.
 fn cut<A: Allocator + Copy>(tree: &mut Tree<A>, place: u32, from: u32) -> u32
-    requires { place ≤ length tree.old }
-    ensures cut { tree.new ≡ take place tree.old }
-    ensures stand { (p : Printed) → AreBlocksBelow (facts_in tree.old) from p → AreBlocksBelow (facts_in (take place tree.old)) result p }
-    ensures least { let fs = facts_in tree.old in
-        result ≡ min (min from (least_touched (rep fs) (node_count fs) (facts_in (drop place tree.old)))) (node_count (facts_in (take place tree.old))) }
+    requires { place ≤ length tree.old.entries }
+    ensures cut { let es = take place tree.old.entries in tree.new ≡ record tree.old { entries = es } }
+    ensures stand { (p : Printed) → AreBlocksBelow tree.old.first (facts_in tree.old.entries) from p
+        → AreBlocksBelow tree.old.first (facts_in (take place tree.old.entries)) result p }
+    ensures least { let first = tree.old.first in let fs = facts_in tree.old.entries in
+        result ≡ min (min from (least_touched first (rep fs) (node_count_from first fs) (facts_in (drop place tree.old.entries))))
+        (node_count_from first (facts_in (take place tree.old.entries))) }
 {
     let _nodes = tree.nodes();
     let below = current_before(tree, place, from);

@@ -1,5 +1,5 @@
 // Where a search begins.
-ghost use Rattle.std.specs.Prelude.{◌≡◌, [], ◌∷◌, ◌++◌, OnOk, IfOk};
+ghost use Rattle.std.specs.Prelude.{◌≡◌, ◌<◌, [], ◌∷◌, ◌++◌, OnOk, IfOk};
 ghost use Rattle.calculus_specs.specs.declared.facts.Fact.TheVariants.{Has};
 ghost use Rattle.completion_tree.specs.declared.tree.Entry.TheVariants.{Fact as Grounded};
 ghost use Rattle.completion_tree.specs.Trail.{facts_in};
@@ -19,7 +19,8 @@ use step_agenda::{Agenda, Blocks, blocks_stay};
 use step_finders::{Clash, Rules};
 
 impl<'b, A: Allocator + Copy> Progress<'b, A> {
-    /// A search that begins, whose tree is in `alloc`. The numbers are those of what the query asks.
+    /// A search that begins, whose tree is in `alloc`. The query asks of the first node `at`, and the numbers are those of
+    /// what it asks.
     ///
     /// # Errors
     ///
@@ -29,24 +30,26 @@ impl<'b, A: Allocator + Copy> Progress<'b, A> {
         heap: Global,
         rules: &R,
         query: &'b Query,
+        at: u32,
         sub: u32,
         not_sup: u32,
     ) -> Result<Progress<'b, A>, NoMemory>
-        requires { IsAsked (R.context rules.now) query.now sub not_sup }
+        requires { IsAsked (R.context rules.now) query.now at sub not_sup }
         ensures begun { IfOk result (HasBegun (R.context rules.now)) }
-        ensures query { IfOk result (λ p. p.query ≡ query.entry.now) }
+        ensures query { IfOk result (λ p. (p.query ≡ query.entry.now) × (p.at ≡ at)) }
         ensures numbers { IfOk result (λ p. (p.sub ≡ sub) × (p.not_sup ≡ not_sup)) }
     {
-        let mut tree = Tree::new_in(alloc)?;
-        put_start(&mut tree, sub)?;
-        put_start(&mut tree, not_sup)?;
+        let mut tree = Tree::new_in(alloc, rules.first())?;
+        put_start(&mut tree, at, sub)?;
+        put_start(&mut tree, at, not_sup)?;
         let mut prints = Blocks::new(heap);
         blocks_stay();
         prints.complete(&tree)?;
-        let clash = find_clash_at_start(&tree, rules, sub, not_sup);
+        let clash = find_clash_at_start(&tree, rules, at, sub, not_sup);
         Ok(Progress {
             heap,
             query,
+            at,
             sub,
             not_sup,
             tree,
@@ -61,30 +64,39 @@ impl<'b, A: Allocator + Copy> Progress<'b, A> {
     }
 }
 
-// Gives node 0 a concept, which rests on nothing.
-fn put_start<A: Allocator + Copy>(tree: &mut Tree<A>, concept: u32) -> Result<(), NoMemory>
-    ensures { OnOk result (tree.new ≡ tree.old ++ Grounded (Has 0 concept) by_start ∷ []) }
+// Gives the node a concept, which rests on nothing.
+fn put_start<A: Allocator + Copy>(
+    tree: &mut Tree<A>,
+    node: u32,
+    concept: u32,
+) -> Result<(), NoMemory>
+    requires { node < tree.old.first }
+    ensures { let es = tree.old.entries ++ Grounded (Has node concept) by_start ∷ [] in
+        OnOk result (tree.new ≡ record tree.old { entries = es }) }
 {
     let by = By {
         line: 0,
         marks: Deps::none(),
     };
-    tree.add(Fact::Has(0, concept), by)
+    tree.add(Fact::Has(node, concept), by)
 }
 
 // The plain clash that there is at the beginning, if there is one.
 fn find_clash_at_start<A: Allocator + Copy, R: Rules>(
     tree: &Tree<A>,
     rules: &R,
+    at: u32,
     sub: u32,
     not_sup: u32,
 ) -> Option<Clash>
-    requires begun { tree.now ≡ begun_entries sub not_sup }
-    ensures { IsClashOf (R.context rules.now) (facts_in tree.now) result }
+    requires one_first { tree.now.first ≡ (R.context rules.now).first }
+    requires at_first { at < tree.now.first }
+    requires begun { tree.now.entries ≡ begun_entries at sub not_sup }
+    ensures { IsClashOf (R.context rules.now) (facts_in tree.now.entries) result }
 {
     rules.is_ready();
-    match find_clash_by(tree, rules, Fact::Has(0, sub)) {
+    match find_clash_by(tree, rules, Fact::Has(at, sub)) {
         Some(clash) => Some(clash),
-        None => find_clash_by(tree, rules, Fact::Has(0, not_sup)),
+        None => find_clash_by(tree, rules, Fact::Has(at, not_sup)),
     }
 }

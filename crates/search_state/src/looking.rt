@@ -9,8 +9,8 @@ use completion_tree::Tree;
 use std::alloc::Allocator;
 use step_agenda::TreeState;
 use step_finders::{
-    Clash, NewNodes, Rules, find_clash, find_clash_of_apart, find_clash_of_join,
-    find_clash_of_new_nodes,
+    Clash, NewNodes, Rules, find_clash, find_clash_of_apart, find_clash_of_edge,
+    find_clash_of_join, find_clash_of_new_nodes,
 };
 
 /// A plain clash that is there by the fact; none exactly where there is none.
@@ -19,14 +19,15 @@ pub(crate) fn find_clash_by<A: Allocator + Copy, R: Rules>(
     rules: &R,
     fact: Fact<u32>,
 ) -> Option<Clash>
-    requires lookable { IsLookable (facts_in tree.now) fact }
-    ensures { let w = R.context rules.now in let fs = facts_in tree.now in
+    requires one_first { tree.now.first ≡ (R.context rules.now).first }
+    requires lookable { IsLookable (R.context rules.now) (facts_in tree.now.entries) fact }
+    ensures { let w = R.context rules.now in let fs = facts_in tree.now.entries in
         MatchOption result (NoClashByFact w fs fact) (IsShown w fs) }
 {
     let state = TreeState::new(tree);
     match fact {
         Fact::Has(node, concept) => find_clash(&state, rules, node, concept),
-        Fact::Edge(_, _, _) => None,
+        Fact::Edge(role, begin, end) => find_clash_of_edge(&state, rules, role, begin, end),
         Fact::Apart(first, second) => find_clash_of_apart(&state, rules, first, second),
         Fact::Same(first, _) => find_clash_of_join(&state, rules, first),
     }
@@ -39,8 +40,9 @@ pub(crate) fn find_clash_by_new<A: Allocator + Copy, R: Rules>(
     new: &NewNodes,
     first: u32,
 ) -> Option<Clash>
-    requires lookable { IsNewLookable (facts_in tree.now) new.now first }
-    ensures { let w = R.context rules.now in let fs = facts_in tree.now in
+    requires one_first { tree.now.first ≡ (R.context rules.now).first }
+    requires lookable { IsNewLookable (R.context rules.now) (facts_in tree.now.entries) new.now first }
+    ensures { let w = R.context rules.now in let fs = facts_in tree.now.entries in
         MatchOption result (NoClashByNew w fs new.now.parent new.now.role new.now.filler) (IsShown w fs) }
 {
     let state = TreeState::new(tree);

@@ -2,7 +2,7 @@
 ghost use Rattle.std.specs.Prelude.{◌≡◌, ◌+◌, ◌<◌, ◌≤◌, ◌^◌, [], ◌∷◌, ◌++◌, None, OnOk, IfOk, min, length, take, drop};
 ghost use Rattle.calculus_specs.specs.declared.facts.Fact.TheVariants.{Has};
 ghost use Rattle.calculus_specs.specs.Joins.{rep};
-ghost use Rattle.calculus_specs.specs.State.{node_count};
+ghost use Rattle.calculus_specs.specs.State.{node_count_from};
 ghost use Rattle.refutation_tree.specs.RuleLine.{line_of};
 ghost use Rattle.completion_tree.specs.Trail.{facts_in};
 ghost use Rattle.step_agenda.specs.Changed.{least_touched};
@@ -12,10 +12,11 @@ ghost use Rattle.fact_tree.specs.Entries.{IsFit};
 ghost use Rattle.completion_tree.specs.declared.tree.Entry.TheVariants.{Fact as Grounded, Mark};
 ghost use Rattle.tableau_specs.specs.Steps.{IsAlternative};
 ghost use Rattle.step_finders.specs.Choosing.{branch_of, IsChoosable};
+ghost use Rattle.step_finders.specs.Giving.{IsGiving};
 ghost use Rattle.step_finders.specs.Making.{IsMaking};
 ghost use Rattle.step_lines.specs.Kinds.{alternative_count};
 ghost use Rattle.search_state.specs.Looking.{IsLookable, IsNewLookable};
-ghost use Rattle.search_state.specs.Resting.{RestsAddition, RestsNewNodes, RestsChoice};
+ghost use Rattle.search_state.specs.Resting.{RestsAddition, RestsGiven, RestsNewNodes, RestsChoice};
 ghost use Rattle.search_state.specs.Progress.{IsStanding, IsClashOf, IsSearching, HasMoved, IsLast, IsLastNew};
 
 use crate::NoMemory;
@@ -30,7 +31,7 @@ use shq_terms::Query;
 use std::alloc::{Allocator, Global};
 use std::marker::Model;
 use step_agenda::{Agenda, Blocks, still_current};
-use step_finders::{Addition, Choosing, Clash, NewNodes, Rules};
+use step_finders::{Addition, Choosing, Clash, Given, NewNodes, Rules};
 use step_lines::{alternatives_speak_of_nodes, facts_stay_grounded, new_nodes_stay_grounded};
 
 /// The tree of a search with the blocks that are known of its nodes, its trace, and the places of the marks.
@@ -38,6 +39,7 @@ use step_lines::{alternatives_speak_of_nodes, facts_stay_grounded, new_nodes_sta
 pub struct Progress<'b, A: Allocator> {
     pub(crate) heap: Global,
     pub(crate) query: &'b Query,
+    pub(crate) at: u32,
     pub(crate) sub: u32,
     pub(crate) not_sup: u32,
     pub(crate) tree: Tree<A>,
@@ -66,9 +68,11 @@ impl<'b, A: Allocator> Model for Progress<'b, A> {
 
     ghost view = { λ p. record {
       query = p.query.now;
+      at = p.at;
       sub = p.sub;
       not_sup = p.not_sup;
-      entries = p.tree;
+      first = p.tree.first;
+      entries = p.tree.entries;
       prints = p.prints;
       trace = p.trace;
       marks = reverse p.marks.items;
@@ -85,11 +89,11 @@ pub(crate) fn keep_blocks<A: Allocator + Copy>(
     place: u32,
     from: u32,
 )
-    requires place { place ≤ length tree.now }
-    requires stood { AreBlocksBelow (facts_in (take place tree.now)) from prints.old }
-    ensures kept { let fs = facts_in tree.now in
-        prints.new ≡ printed_first (min from (least_touched (rep fs) (node_count fs) (facts_in (drop place tree.now)))) prints.old }
-    ensures first { AreFirstBlocks (facts_in tree.now) prints.new }
+    requires place { place ≤ length tree.now.entries }
+    requires stood { AreBlocksBelow tree.now.first (facts_in (take place tree.now.entries)) from prints.old }
+    ensures kept { let first = tree.now.first in let fs = facts_in tree.now.entries in
+        prints.new ≡ printed_first (min from (least_touched first (rep fs) (node_count_from first fs) (facts_in (drop place tree.now.entries)))) prints.old }
+    ensures first { AreFirstBlocks tree.now.first (facts_in tree.now.entries) prints.new }
 {
     let _count = tree.nodes();
     let still = still_current(tree, place, from);
@@ -129,11 +133,42 @@ impl<'b, A: Allocator + Copy> Progress<'b, A> {
         Ok(())
     }
 
+    // Puts the line of a given fact, and the fact.
+    pub(crate) fn put_given<R: Rules>(
+        &mut self,
+        rules: &R,
+        given: &Given,
+        resting: RestingLine,
+    ) -> Result<(), NoMemory>
+        requires standing { IsStanding (R.context rules.now) self.old }
+        requires none { IsClashOf (R.context rules.now) (facts_in self.old.entries) None }
+        requires giving { IsGiving (R.context rules.now) (facts_in self.old.entries) given.now }
+        requires rests { RestsGiven (R.context rules.now) self.old.entries given.now.fact (line_of resting.line) resting.marks }
+        requires countable { self.old.steps + 1 < 2 ^ 64 }
+        ensures moved { OnOk result (HasMoved (R.context rules.now) self.old self.new) }
+        ensures last { OnOk result (IsLast (R.context rules.now) self.new.entries given.now.fact) }
+    {
+        let RestingLine { line, marks } = resting;
+        let place = self.tree.len();
+        let known = self.prints.len();
+        let shared = marks.try_clone()?;
+        let number = self.trace.put(line, shared)?;
+        let by = By {
+            line: number,
+            marks,
+        };
+        self.tree.add(given.fact, by)?;
+        keep_blocks(&self.tree, &mut self.prints, place, known);
+        facts_stay_grounded();
+        self.steps += 1;
+        Ok(())
+    }
+
     // Finds the plain clash that the last fact has made, if it has made one.
     pub(crate) fn look<R: Rules>(&mut self, rules: &R, fact: Fact<u32>)
         requires standing { IsStanding (R.context rules.now) self.old }
         requires last { IsLast (R.context rules.now) self.old.entries fact }
-        requires lookable { IsLookable (facts_in self.old.entries) fact }
+        requires lookable { IsLookable (R.context rules.now) (facts_in self.old.entries) fact }
         ensures found { IsSearching (R.context rules.now) self.new }
         ensures same { self.new ≡ record self.old { clash = self.new.clash } }
     {
@@ -178,7 +213,7 @@ impl<'b, A: Allocator + Copy> Progress<'b, A> {
     pub(crate) fn look_at_new_nodes<R: Rules>(&mut self, rules: &R, new: &NewNodes, first: u32)
         requires standing { IsStanding (R.context rules.now) self.old }
         requires last { IsLastNew (R.context rules.now) self.old.entries new.now first }
-        requires lookable { IsNewLookable (facts_in self.old.entries) new.now first }
+        requires lookable { IsNewLookable (R.context rules.now) (facts_in self.old.entries) new.now first }
         ensures found { IsSearching (R.context rules.now) self.new }
         ensures same { self.new ≡ record self.old { clash = self.new.clash } }
     {
@@ -202,7 +237,7 @@ impl<'b, A: Allocator + Copy> Progress<'b, A> {
         requires left { left + 1 ≡ alternative_count (R.context rules.now).table (branch_of choosing.now) }
         requires small { left + 1 < 2 ^ 32 }
         requires first { IsAlternative (R.context rules.now).table (branch_of choosing.now) 1 fact }
-        requires fits { IsFit (node_count (facts_in self.old.entries)) fact }
+        requires fits { IsFit (node_count_from self.old.first (facts_in self.old.entries)) fact }
         requires countable { self.old.steps + 1 < 2 ^ 64 }
         ensures moved { OnOk result (HasMoved (R.context rules.now) self.old self.new) }
         ensures last { OnOk result (IsLast (R.context rules.now) self.new.entries fact) }
@@ -241,8 +276,9 @@ pub(crate) fn put_alternative<A: Allocator + Copy>(
     fact: Fact<u32>,
     by: By,
 ) -> Result<(), NoMemory>
-    requires { IsFit (node_count (facts_in tree.old)) fact }
-    ensures { OnOk result (tree.new ≡ tree.old ++ Mark choice ∷ Grounded fact by ∷ []) }
+    requires { IsFit (node_count_from tree.old.first (facts_in tree.old.entries)) fact }
+    ensures { let es = tree.old.entries ++ Mark choice ∷ Grounded fact by ∷ [] in
+        OnOk result (tree.new ≡ record tree.old { entries = es }) }
 {
     tree.put_mark(choice)?;
     tree.add(fact, by)

@@ -8,13 +8,14 @@ ghost use Rattle.search_trace.specs.Grounded.{AreGrounded};
 ghost use Rattle.completion_tree.specs.Trail.{facts_in};
 ghost use Rattle.step_finders.specs.Choosing.{branch_of, IsChoosable};
 ghost use Rattle.step_finders.specs.Clashing.{IsShown};
+ghost use Rattle.step_finders.specs.Giving.{IsGiving};
 ghost use Rattle.step_finders.specs.Making.{IsMaking};
 ghost use Rattle.step_finders.specs.Reasons.{IsAddition};
 ghost use Rattle.absorption.specs.ClosureLaws.{IsClosedFor};
 ghost use Rattle.step_lines.specs.Serving.{HoldWithin};
 ghost use Rattle.search_trace.specs.Noted.{within};
 ghost use Rattle.search_state.specs.Marked.{marked_in};
-ghost use Rattle.search_state.specs.Resting.{RestsAddition, RestsNewNodes, RestsChoice, RestsClash};
+ghost use Rattle.search_state.specs.Resting.{RestsAddition, RestsGiven, RestsNewNodes, RestsChoice, RestsClash};
 
 use crate::NoMemory;
 use calculus_specs::Fact;
@@ -22,8 +23,10 @@ use completion_tree::{Deps, Tree};
 use refutation_tree::Line;
 use std::alloc::{Allocator, Global};
 use step_agenda::TreeState;
-use step_finders::{Addition, Choosing, Clash, NewNodes, Rules};
-use step_lines::{line_of_addition, line_of_choice, line_of_clash, line_of_new_nodes};
+use step_finders::{Addition, Choosing, Clash, Given, NewNodes, Rules};
+use step_lines::{
+    line_of_addition, line_of_choice, line_of_clash, line_of_given, line_of_new_nodes,
+};
 
 /// A rule line, and the marks that it rests on.
 #[derive(Drop)]
@@ -38,8 +41,8 @@ fn marks_of_all<A: Allocator + Copy>(
     tree: &Tree<A>,
     grounds: &[Fact<u32>],
 ) -> Result<Deps, NoMemory>
-    requires { list_all (is_so (facts_in tree.now)) grounds.now ≡ true }
-    ensures { IfOk result (λ u. HoldWithin u (marked_in tree.now) grounds.now) }
+    requires { list_all (is_so (facts_in tree.now.entries)) grounds.now ≡ true }
+    ensures { IfOk result (λ u. HoldWithin u (marked_in tree.now.entries) grounds.now) }
 {
     let mut used = Deps::none();
     for ground in grounds {
@@ -55,9 +58,9 @@ fn with_marks<A: Allocator + Copy>(
     ground: Fact<u32>,
     used: Deps,
 ) -> Result<Deps, NoMemory>
-    requires { is_so (facts_in tree.now) ground ≡ true }
+    requires { is_so (facts_in tree.now.entries) ground ≡ true }
     ensures more { IfOk result (λ u. set.is_subset used u ≡ true) }
-    ensures holds { IfOk result (λ u. is_so (within u (marked_in tree.now)) ground ≡ true) }
+    ensures holds { IfOk result (λ u. is_so (within u (marked_in tree.now.entries)) ground ≡ true) }
 {
     let marks = tree.marks_of(alloc, ground)?;
     let all = used.union(alloc, &marks)?;
@@ -71,15 +74,34 @@ pub(crate) fn rest_addition<A: Allocator + Copy, R: Rules>(
     rules: &R,
     addition: &Addition,
 ) -> Result<RestingLine, NoMemory>
-    requires grounded { AreGrounded (marked_in tree.now) }
-    requires addition { IsAddition (R.context rules.now) (facts_in tree.now) (R.files rules.now) addition.now }
-    ensures { IfOk result (λ l. RestsAddition (R.context rules.now) tree.now addition.now.node addition.now.concept (line_of l.line) l.marks) }
+    requires one_first { tree.now.first ≡ (R.context rules.now).first }
+    requires grounded { AreGrounded (R.context rules.now).first (marked_in tree.now.entries) }
+    requires addition { IsAddition (R.context rules.now) (facts_in tree.now.entries) (R.files rules.now) addition.now }
+    ensures { IfOk result (λ l. RestsAddition (R.context rules.now) tree.now.entries addition.now.node addition.now.concept (line_of l.line) l.marks) }
 {
     let line = line_of_addition(alloc, &TreeState::new(tree), rules, addition)?;
     let marks = marks_of_all(alloc, tree, &line.grounds)?;
     Ok(RestingLine {
         line: line.line,
         marks,
+    })
+}
+
+/// The line of a given fact, which rests on nothing.
+pub(crate) fn rest_given<A: Allocator + Copy, R: Rules>(
+    alloc: Global,
+    tree: &Tree<A>,
+    rules: &R,
+    given: &Given,
+) -> Result<RestingLine, NoMemory>
+    requires grounded { AreGrounded (R.context rules.now).first (marked_in tree.now.entries) }
+    requires giving { IsGiving (R.context rules.now) (facts_in tree.now.entries) given.now }
+    ensures { IfOk result (λ l. RestsGiven (R.context rules.now) tree.now.entries given.now.fact (line_of l.line) l.marks) }
+{
+    let line = line_of_given(alloc, rules, given)?;
+    Ok(RestingLine {
+        line: line.line,
+        marks: Deps::none(),
     })
 }
 
@@ -90,9 +112,10 @@ pub(crate) fn rest_new_nodes<A: Allocator + Copy, R: Rules>(
     rules: &R,
     new: &NewNodes,
 ) -> Result<RestingLine, NoMemory>
-    requires grounded { AreGrounded (marked_in tree.now) }
-    requires making { IsMaking (R.context rules.now) (facts_in tree.now) new.now }
-    ensures { IfOk result (λ l. RestsNewNodes (R.context rules.now) tree.now new.now (line_of l.line) l.marks) }
+    requires one_first { tree.now.first ≡ (R.context rules.now).first }
+    requires grounded { AreGrounded (R.context rules.now).first (marked_in tree.now.entries) }
+    requires making { IsMaking (R.context rules.now) (facts_in tree.now.entries) new.now }
+    ensures { IfOk result (λ l. RestsNewNodes (R.context rules.now) tree.now.entries new.now (line_of l.line) l.marks) }
 {
     let line = line_of_new_nodes(alloc, &TreeState::new(tree), rules, new)?;
     let marks = marks_of_all(alloc, tree, &line.grounds)?;
@@ -109,10 +132,11 @@ pub(crate) fn rest_choice<A: Allocator + Copy, R: Rules>(
     rules: &R,
     choosing: &Choosing,
 ) -> Result<RestingLine, NoMemory>
-    requires grounded { AreGrounded (marked_in tree.now) }
-    requires choosable { IsChoosable (R.context rules.now) (facts_in tree.now) choosing.now }
+    requires one_first { tree.now.first ≡ (R.context rules.now).first }
+    requires grounded { AreGrounded (R.context rules.now).first (marked_in tree.now.entries) }
+    requires choosable { IsChoosable (R.context rules.now) (facts_in tree.now.entries) choosing.now }
     requires closed { IsClosedFor (R.context rules.now) }
-    ensures { IfOk result (λ l. RestsChoice (R.context rules.now) tree.now (branch_of choosing.now) (line_of l.line) l.marks) }
+    ensures { IfOk result (λ l. RestsChoice (R.context rules.now) tree.now.entries (branch_of choosing.now) (line_of l.line) l.marks) }
 {
     let line = line_of_choice(alloc, &TreeState::new(tree), rules, choosing)?;
     let marks = marks_of_all(alloc, tree, &line.grounds)?;
@@ -129,9 +153,10 @@ pub(crate) fn rest_clash<A: Allocator + Copy, R: Rules>(
     rules: &R,
     clash: &Clash,
 ) -> Result<RestingLine, NoMemory>
-    requires grounded { AreGrounded (marked_in tree.now) }
-    requires shown { IsShown (R.context rules.now) (facts_in tree.now) clash.now }
-    ensures { IfOk result (λ l. RestsClash (R.context rules.now) tree.now (line_of l.line) l.marks) }
+    requires one_first { tree.now.first ≡ (R.context rules.now).first }
+    requires grounded { AreGrounded (R.context rules.now).first (marked_in tree.now.entries) }
+    requires shown { IsShown (R.context rules.now) (facts_in tree.now.entries) clash.now }
+    ensures { IfOk result (λ l. RestsClash (R.context rules.now) tree.now.entries (line_of l.line) l.marks) }
 {
     let line = line_of_clash(alloc, &TreeState::new(tree), rules, clash)?;
     let marks = marks_of_all(alloc, tree, &line.grounds)?;

@@ -6,7 +6,7 @@ ghost use Rattle.search_trace.specs.Trace.{begun, answer_of, is_turn};
 ghost use Rattle.search_state.specs.Resting.{RestsClash};
 ghost use Rattle.completion_tree.specs.Trail.{facts_in, items_of};
 ghost use Rattle.step_finders.specs.Clashing.{IsShown};
-ghost use Rattle.search_state.specs.Progress.{IsAsked, IsClashOf, IsSearching, IsStanding};
+ghost use Rattle.search_state.specs.Progress.{tree_in, IsAsked, IsClashOf, IsSearching, IsStanding};
 ghost use Rattle.search_state.specs.Stepping.{HasBegun, IsStepped, IsRested};
 
 use crate::resting::{RestingLine, rest_clash};
@@ -133,7 +133,7 @@ impl<'b, A: Allocator + Copy> Progress<'b, A> {
 
     /// The tree of the search.
     pub fn tree(&self) -> &Tree<A>
-        ensures { result.now ≡ self.now.entries }
+        ensures { result.now ≡ tree_in self.now }
     {
         &self.tree
     }
@@ -143,6 +143,13 @@ impl<'b, A: Allocator + Copy> Progress<'b, A> {
         ensures { result.now ≡ self.now.prints }
     {
         &self.prints
+    }
+
+    /// The first node of which the query asks.
+    pub fn at(&self) -> u32
+        ensures { result ≡ self.now.at }
+    {
+        self.at
     }
 
     /// How many steps were made.

@@ -36,12 +36,26 @@ const BESIDE: &[Fact<u32>] = &[
     Has(3, 1),
 ];
 
+/// Nodes 0 to 2 are first nodes, node 2 has nothing, and an edge leads from node 1 back to node 0. Node 3 is below node
+/// 2, and node 4 below node 3. Node 3 has what node 1 has, and node 0 has no more than node 1.
+const BELOW: &[Fact<u32>] = &[
+    Has(0, 1),
+    Has(1, 1),
+    Has(1, 2),
+    Edge(7, 1, 0),
+    Edge(7, 2, 3),
+    Has(3, 1),
+    Has(3, 2),
+    Edge(7, 3, 4),
+];
+
 const CLEAR: Block = Block::Clear;
 
 const UNDER: Block = Block::Under;
 
-/// The facts of a tree, one more, and the blocks of its nodes before and after that.
+/// The number of first nodes, the facts of a tree, one more, and the blocks of its nodes before and after that.
 type Example = (
+    u32,
     &'static [Fact<u32>],
     Fact<u32>,
     &'static [Block],
@@ -50,49 +64,82 @@ type Example = (
 
 const EXAMPLES: &[Example] = &[
     (
+        1,
         CHAIN,
         Has(2, 2),
         &[CLEAR, CLEAR, Block::By(0), UNDER],
         &[CLEAR, CLEAR, CLEAR, Block::By(2)],
     ),
     (
+        1,
         CHAIN,
         Has(1, 1),
         &[CLEAR, CLEAR, Block::By(0), UNDER],
         &[CLEAR, CLEAR, Block::By(0), UNDER],
     ),
     (
+        1,
         CHAIN,
         Same(0, 2),
         &[CLEAR, CLEAR, Block::By(0), UNDER],
         &[CLEAR, CLEAR, Block::By(0), CLEAR],
     ),
     (
+        1,
         BESIDE,
         Has(3, 2),
         &[CLEAR, CLEAR, CLEAR, Block::By(1)],
         &[CLEAR, CLEAR, CLEAR, CLEAR],
     ),
     (
+        1,
         BESIDE,
         Has(2, 1),
         &[CLEAR, CLEAR, CLEAR, Block::By(1)],
         &[CLEAR, CLEAR, CLEAR, Block::By(1)],
     ),
+    (
+        3,
+        BELOW,
+        Edge(8, 2, 0),
+        &[CLEAR, CLEAR, CLEAR, Block::By(1), UNDER],
+        &[CLEAR, CLEAR, CLEAR, Block::By(1), UNDER],
+    ),
+    (
+        3,
+        BELOW,
+        Same(1, 0),
+        &[CLEAR, CLEAR, CLEAR, Block::By(1), UNDER],
+        &[CLEAR, CLEAR, CLEAR, Block::By(0), UNDER],
+    ),
+    (
+        3,
+        BELOW,
+        Has(3, 3),
+        &[CLEAR, CLEAR, CLEAR, Block::By(1), UNDER],
+        &[CLEAR, CLEAR, CLEAR, CLEAR, Block::By(0)],
+    ),
+    (
+        3,
+        BELOW,
+        Has(2, 3),
+        &[CLEAR, CLEAR, CLEAR, Block::By(1), UNDER],
+        &[CLEAR, CLEAR, CLEAR, Block::By(1), UNDER],
+    ),
 ];
 
 // Whether a node is there and has this block, and is clear if that says so.
 fn is_block(tree: &Tree<Global>, blocks: &Blocks, node: u32, wanted: Block) -> bool
-    requires { IsCurrent (facts_in tree.now) blocks.now }
+    requires { IsCurrent tree.now.first (facts_in tree.now.entries) blocks.now }
 {
     node < tree.nodes()
         && state(tree, blocks, node) == wanted
         && is_clear(tree, blocks, node) == (wanted == CLEAR)
 }
 
-// Whether these are the blocks of the first nodes.
+// Whether these are the blocks of the nodes from 0 on.
 fn are_blocks(tree: &Tree<Global>, blocks: &Blocks, wanted: &[Block]) -> bool
-    requires { IsCurrent (facts_in tree.now) blocks.now }
+    requires { IsCurrent tree.now.first (facts_in tree.now.entries) blocks.now }
 {
     let mut are_so = !is_clear(tree, blocks, 1000);
     let mut node = 0u32;
@@ -108,9 +155,9 @@ fn is_followed(
     blocks: &mut Blocks,
     example: &Example,
 ) -> Result<bool, NoMemory>
-    requires { IsCurrent (facts_in tree.old) blocks.old }
+    requires { IsCurrent tree.old.first (facts_in tree.old.entries) blocks.old }
 {
-    let (facts, more, before, after) = example;
+    let (_, facts, more, before, after) = example;
     fill(tree, blocks, facts)?;
     let is_before = are_blocks(tree, blocks, before);
     put(tree, blocks, *more)?;
@@ -118,7 +165,8 @@ fn is_followed(
 }
 
 fn is_example(heap: Global, example: &Example) -> Result<bool, NoMemory> {
-    let (mut tree, mut blocks) = start(heap)?;
+    let (first, _, _, _, _) = example;
+    let (mut tree, mut blocks) = start(heap, (*first).max(1))?;
     is_followed(&mut tree, &mut blocks, example)
 }
 
@@ -154,6 +202,7 @@ fn are_nodes<S: State>(state: &S) -> bool {
         && state.parent(2) == Some(1)
         && state.origin(2) == Some((7, 1))
         && state.representative(2) == 2
+        && state.members(2) == [2].as_slice()
         && state.are_apart(2, 0)
         && !state.are_apart(2, 1)
 }
@@ -167,7 +216,7 @@ fn is_state_with_blocks<S: StateWithBlocks>(state: &S) -> bool {
 }
 
 fn is_state_of(tree: &mut Tree<Global>, blocks: &mut Blocks) -> Result<bool, NoMemory>
-    requires { IsCurrent (facts_in tree.old) blocks.old }
+    requires { IsCurrent tree.old.first (facts_in tree.old.entries) blocks.old }
 {
     fill(tree, blocks, STATE)?;
     let is_alone = is_state(&TreeState::new(tree));
@@ -175,7 +224,7 @@ fn is_state_of(tree: &mut Tree<Global>, blocks: &mut Blocks) -> Result<bool, NoM
 }
 
 fn is_told(heap: Global) -> Result<bool, NoMemory> {
-    let (mut tree, mut blocks) = start(heap)?;
+    let (mut tree, mut blocks) = start(heap, 1)?;
     is_state_of(&mut tree, &mut blocks)
 }
 

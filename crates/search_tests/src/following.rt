@@ -1,5 +1,5 @@
 // A tree whose blocks are followed after each change.
-ghost use Rattle.std.specs.Prelude.{◌≡◌, ◌≤◌, length, take, OnOk, IfOk, IsTrue};
+ghost use Rattle.std.specs.Prelude.{◌≡◌, ◌<◌, ◌≤◌, length, take, OnOk, IfOk, IsTrue};
 ghost use Rattle.fact_tree.specs.Entries.{IsFit};
 ghost use Rattle.completion_tree.specs.Trail.{facts_in};
 ghost use Rattle.blocking.specs.Followed.{IsCurrent};
@@ -9,7 +9,7 @@ use calculus_specs::{Fact, NoMemory};
 use completion_tree::{By, Deps, Mark, Tree};
 use std::alloc::Global;
 
-/// Whether the fact speaks of the first `nodes` nodes, or makes the next.
+/// Whether the fact speaks of the nodes below `nodes`, or makes the next.
 pub(crate) fn is_fit(nodes: u32, fact: Fact<u32>) -> bool
     ensures { IsTrue result → IsFit nodes fact }
 {
@@ -21,11 +21,12 @@ pub(crate) fn is_fit(nodes: u32, fact: Fact<u32>) -> bool
     }
 }
 
-/// A tree with node 0, and its blocks.
-pub(crate) fn start(heap: Global) -> Result<(Tree<Global>, Blocks), NoMemory>
-    ensures { IfOk result (λ p. IsCurrent (facts_in p.0) p.1) }
+/// A tree with so many first nodes, and its blocks.
+pub(crate) fn start(heap: Global, first: u32) -> Result<(Tree<Global>, Blocks), NoMemory>
+    requires { 0 < first }
+    ensures { IfOk result (λ p. IsCurrent p.0.first (facts_in p.0.entries) p.1) }
 {
-    let tree = Tree::new_in(heap)?;
+    let tree = Tree::new_in(heap, first)?;
     let mut blocks = Blocks::new(heap);
     blocks_stay();
     blocks.follow(&tree, 0)?;
@@ -38,8 +39,8 @@ pub(crate) fn put(
     blocks: &mut Blocks,
     fact: Fact<u32>,
 ) -> Result<(), NoMemory>
-    requires { IsCurrent (facts_in tree.old) blocks.old }
-    ensures { OnOk result (IsCurrent (facts_in tree.new) blocks.new) }
+    requires { IsCurrent tree.old.first (facts_in tree.old.entries) blocks.old }
+    ensures { OnOk result (IsCurrent tree.new.first (facts_in tree.new.entries) blocks.new) }
 {
     let from = tree.nodes();
     let place = tree.len();
@@ -64,8 +65,8 @@ pub(crate) fn fill(
     blocks: &mut Blocks,
     facts: &[Fact<u32>],
 ) -> Result<(), NoMemory>
-    requires { IsCurrent (facts_in tree.old) blocks.old }
-    ensures { OnOk result (IsCurrent (facts_in tree.new) blocks.new) }
+    requires { IsCurrent tree.old.first (facts_in tree.old.entries) blocks.old }
+    ensures { OnOk result (IsCurrent tree.new.first (facts_in tree.new.entries) blocks.new) }
 {
     for fact in facts {
         put(tree, blocks, *fact)?;
@@ -75,9 +76,9 @@ pub(crate) fn fill(
 
 /// Goes back to so many facts, and follows.
 pub(crate) fn back(tree: &mut Tree<Global>, blocks: &mut Blocks, len: u32) -> Result<(), NoMemory>
-    requires current { IsCurrent (facts_in tree.old) blocks.old }
-    requires len { len ≤ length tree.old }
-    ensures { OnOk result (IsCurrent (facts_in tree.new) blocks.new) }
+    requires current { IsCurrent tree.old.first (facts_in tree.old.entries) blocks.old }
+    requires len { len ≤ length tree.old.entries }
+    ensures { OnOk result (IsCurrent tree.new.first (facts_in tree.new.entries) blocks.new) }
 {
     let from = tree.nodes();
     blocks_stay();

@@ -9,6 +9,8 @@ mod closed_tests;
 #[cfg(test)]
 mod closing_tests;
 #[cfg(test)]
+mod finder_tests;
+#[cfg(test)]
 mod following;
 #[cfg(test)]
 mod model_tests;

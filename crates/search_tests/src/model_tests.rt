@@ -87,7 +87,7 @@ const CASES: &[Case] = &[
 // The model of the tree of these facts, with three roles.
 fn made_model(alloc: Global, facts: &[Fact<u32>], roles: &RoleBox) -> Result<Interp, NoMemory> {
     let concepts = table(alloc, CLASSES)?;
-    let (mut tree, mut blocks) = start(alloc)?;
+    let (mut tree, mut blocks) = start(alloc, 1)?;
     fill(&mut tree, &mut blocks, facts)?;
     interpretation_of_elements(alloc, &tree, &blocks, &concepts, roles, 3)
 }

@@ -5,12 +5,15 @@ use calculus_specs::Fact;
 
 const MOST: usize = 64;
 
-/// The blocks of the first nodes, as many as `count`.
-pub(crate) fn plain_blocks(facts: &[Fact<u32>], count: u32) -> [Block; MOST] {
+/// The blocks of the nodes below `count`, of which those below `first` are first nodes.
+pub(crate) fn plain_blocks(facts: &[Fact<u32>], first: u32, count: u32) -> [Block; MOST] {
     let reps = plain_reps(facts);
     let labels = plain_labels(facts, &reps);
     let mut blocks = [Block::Under; MOST];
-    for node in 0..count.min(MOST as u32) {
+    for node in 0..first.min(count).min(MOST as u32) {
+        blocks[node as usize % MOST] = Block::Clear;
+    }
+    for node in first..count.min(MOST as u32) {
         blocks[node as usize % MOST] = plain_block(facts, &reps, &labels, &blocks, node);
     }
     blocks
@@ -23,9 +26,6 @@ fn plain_block(
     blocks: &[Block; MOST],
     node: u32,
 ) -> Block {
-    if node == 0 {
-        return Block::Clear;
-    }
     let above = reps[plain_parent(facts, node) as usize % MOST];
     if blocks[above as usize % MOST] != Block::Clear {
         return Block::Under;

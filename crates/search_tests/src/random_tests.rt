@@ -1,4 +1,4 @@
-//! Facts of all kinds come and go, and the blocks are compared with those by a plain reading.
+//! Facts of all kinds come and go, over one first node or some, and the blocks are compared with those by a plain reading.
 ghost use Rattle.std.specs.Prelude.{OnOk};
 ghost use Rattle.completion_tree.specs.Trail.{facts_in};
 ghost use Rattle.blocking.specs.Followed.{IsCurrent};
@@ -59,10 +59,10 @@ fn check(
     tree: &Tree<Global>,
     blocks: &Blocks,
 ) -> Result<(), NoMemory>
-    requires { IsCurrent (facts_in tree.now) blocks.now }
+    requires { IsCurrent tree.now.first (facts_in tree.now.entries) blocks.now }
 {
     let facts = facts_of(heap, tree)?;
-    let plain = plain_blocks(&facts, tree.nodes());
+    let plain = plain_blocks(&facts, tree.first(), tree.nodes());
     for node in 0..tree.nodes() {
         let is_same = state(tree, blocks, node) == plain[node as usize % 64];
         assert!(rt; is_same, "of {node} by {facts:?}");
@@ -71,8 +71,8 @@ fn check(
 }
 
 fn step(tree: &mut Tree<Global>, blocks: &mut Blocks, seed: u64) -> Result<(), NoMemory>
-    requires { IsCurrent (facts_in tree.old) blocks.old }
-    ensures { OnOk result (IsCurrent (facts_in tree.new) blocks.new) }
+    requires { IsCurrent tree.old.first (facts_in tree.old.entries) blocks.old }
+    ensures { OnOk result (IsCurrent tree.new.first (facts_in tree.new.entries) blocks.new) }
 {
     if seed % 23 == 0 {
         let len = tree.len();
@@ -83,7 +83,7 @@ fn step(tree: &mut Tree<Global>, blocks: &mut Blocks, seed: u64) -> Result<(), N
 }
 
 fn walk(rt: &impl Abort, heap: Global, seed: u64) -> Result<(), NoMemory> {
-    let (mut tree, mut blocks) = start(heap)?;
+    let (mut tree, mut blocks) = start(heap, 1 + bits(seed, 8) % 5)?;
     let mut seed = seed;
     for _ in 0..STEPS {
         seed = next(seed);

@@ -58,6 +58,12 @@ const EDGES: &[Edge] = &[
     },
 ];
 
+/// The elements that individuals 0 to 2 are.
+const PLACES: &[u32] = &[2, 0, 3];
+
+/// An individual, and the element that it is: one that has no place is element 0.
+const INDIVIDUALS: &[(u32, u32)] = &[(0, 2), (1, 0), (2, 3), (3, 0)];
+
 /// A role, two elements, and whether the role leads from the one to the other.
 const LEADS: &[(u32, u32, u32, bool)] = &[
     (0, 0, 1, true),
@@ -76,12 +82,14 @@ fn made_model(
     members: &[Member],
     edges: &[Edge],
     roles: &RoleBox,
+    places: &[u32],
 ) -> Result<Interp, NoMemory> {
     let inside = members.iter().all(|member| member.element < 4)
         && edges.iter().all(|edge| edge.from < 4)
-        && edges.iter().all(|edge| edge.to < 4);
-    if inside {
-        interpretation(alloc, 4, members, edges, roles, 4)
+        && edges.iter().all(|edge| edge.to < 4)
+        && places.iter().all(|place| *place < 4);
+    if inside && places.len() <= 4 {
+        interpretation(alloc, 4, members, edges, roles, 4, places)
     } else {
         Err(NoMemory)
     }
@@ -89,7 +97,7 @@ fn made_model(
 
 fn whole_model(alloc: Global) -> Result<Interp, AddFault> {
     let roles = role_box(alloc, CHAIN, &[1, 2, 3])?;
-    Ok(made_model(alloc, MEMBERS, EDGES, &roles)?)
+    Ok(made_model(alloc, MEMBERS, EDGES, &roles, PLACES)?)
 }
 
 fn some(alloc: Global, role: u32, class: u32) -> Result<Concept, NoMemory> {
@@ -119,8 +127,25 @@ fn test_model(rt: &impl Abort, alloc: Global) -> Result<(), AddFault> {
     Ok(test_leads(rt, alloc, &model)?)
 }
 
+fn test_places(rt: &impl Abort, alloc: Global) -> Result<(), AddFault> {
+    let model = whole_model(alloc)?;
+    for (individual, wanted) in INDIVIDUALS {
+        assert!(rt;
+            model.individual(*individual) == *wanted,
+            "individual {individual}"
+        );
+    }
+    Ok(())
+}
+
 #[test]
 fn roles_have_edges_and_chains(rt: HostRuntime) -> Result<(), Fail> {
     test_model(&rt, rt.alloc())?;
+    Ok(())
+}
+
+#[test]
+fn individuals_are_at_their_places(rt: HostRuntime) -> Result<(), Fail> {
+    test_places(&rt, rt.alloc())?;
     Ok(())
 }

@@ -1,5 +1,11 @@
-// Each call of a tree once, over the heap and in an arena, and nodes that are joined in several orders.
+// Each call of a tree once, over the heap and in an arena, and nodes that are joined in several orders: new ones, and
+// first ones.
+ghost use Rattle.std.specs.Prelude.{◌≡◌, true, IsTrue};
+ghost use Rattle.calculus_specs.specs.declared.facts.Fact.TheVariants.{Edge};
+ghost use Rattle.calculus_specs.specs.State.{is_so as is_so_in};
+ghost use Rattle.completion_tree.specs.Trail.{facts_in};
 
+use crate::following::is_fit;
 use bumpalo::Bump;
 use calculus_specs::{Fact, NoMemory};
 use completion_tree::{By, Choice, Deps, Item, Mark, Tree};
@@ -7,6 +13,8 @@ use fact_tree::FactTree;
 use std::alloc::{Allocator, Global};
 use std::process::Abort;
 use std::test::Fail;
+use step_agenda::TreeState;
+use step_finders::is_so;
 use tableau_specs::Branch;
 
 /// Three pairs of nodes that are joined one after the other, and then the representatives of nodes 0 to 4.
@@ -26,9 +34,9 @@ fn join_each(tree: &mut FactTree<Global>, pairs: &[(u32, u32)]) -> Result<(), No
     Ok(())
 }
 
-fn undo(tree: &mut FactTree<Global>) {
-    if 14 <= tree.len() {
-        tree.undo_to(14);
+fn undo(tree: &mut FactTree<Global>, len: usize) {
+    if len <= tree.len() {
+        tree.undo_to(len);
     }
 }
 
@@ -42,16 +50,30 @@ fn are_representatives(tree: &FactTree<Global>, representatives: &[u32]) -> bool
     are_so
 }
 
+// Whether the nodes that are told to be one with a node are those of its representative.
+fn are_members(tree: &FactTree<Global>) -> bool {
+    let mut are_so = true;
+    for node in 0..tree.nodes() {
+        let members = tree.members(node);
+        for other in 0..tree.nodes() {
+            let is_one = tree.representative(other) == tree.representative(node);
+            are_so &= members.contains(&other) == is_one;
+        }
+    }
+    are_so
+}
+
 // Joins in an order, and takes the nodes apart again.
 fn is_order(
     tree: &mut FactTree<Global>,
     pairs: &[(u32, u32)],
     representatives: &[u32],
 ) -> Result<bool, NoMemory> {
+    let len = tree.len();
     join_each(tree, pairs)?;
-    let are_joined = are_representatives(tree, representatives);
-    undo(tree);
-    Ok(are_joined && are_representatives(tree, &[0, 1, 2, 3, 4]))
+    let are_joined = are_representatives(tree, representatives) && are_members(tree);
+    undo(tree, len);
+    Ok(are_joined && are_representatives(tree, &[0, 1, 2, 3, 4]) && are_members(tree))
 }
 
 fn are_grounds(tree: &FactTree<Global>) -> bool {
@@ -73,8 +95,49 @@ fn is_grown(tree: &mut FactTree<Global>) -> Result<bool, NoMemory> {
     Ok(first == 1 && are_grounds(tree))
 }
 
+/// Edges between first nodes, and the places where they stand.
+const GIVEN: &[Fact<u32>] = &[
+    Fact::Edge(7, 0, 1),
+    Fact::Edge(7, 3, 1),
+    Fact::Edge(7, 0, 2),
+    Fact::Edge(8, 2, 0),
+    Fact::Edge(7, 1, 1),
+];
+
+fn put_each(tree: &mut FactTree<Global>, facts: &[Fact<u32>]) -> Result<(), NoMemory> {
+    for fact in facts {
+        if is_fit(tree.nodes(), *fact) {
+            tree.add(*fact)?;
+        }
+    }
+    Ok(())
+}
+
+fn are_given_grounds(tree: &FactTree<Global>) -> bool {
+    let mut are_so = tree.ground(Fact::Edge(7, 1, 0)) == None;
+    for (place, fact) in GIVEN.iter().enumerate() {
+        are_so &= tree.ground(*fact) == Some(place);
+    }
+    are_so
+}
+
+fn have_no_parents(tree: &FactTree<Global>) -> bool {
+    let mut are_so = true;
+    for node in 0..tree.nodes() {
+        are_so &= tree.parent(node) == None && tree.origin(node) == None;
+    }
+    are_so
+}
+
+// Five first nodes with edges that lead to earlier and to later ones.
+fn is_begun(tree: &mut FactTree<Global>) -> Result<bool, NoMemory> {
+    put_each(tree, GIVEN)?;
+    let are_nodes = tree.first() == 5 && tree.nodes() == 5 && have_no_parents(tree);
+    let are_edges = tree.edges(0) == [(7, 1), (7, 2)].as_slice();
+    Ok(are_nodes && are_edges && are_given_grounds(tree))
+}
+
 fn test_orders(rt: &impl Abort, tree: &mut FactTree<Global>) -> Result<(), NoMemory> {
-    assert!(rt; is_grown(tree)?, "new nodes");
     for (pairs, representatives) in ORDERS {
         assert!(rt; is_order(tree, pairs, representatives)?, "{pairs:?}");
     }
@@ -82,7 +145,11 @@ fn test_orders(rt: &impl Abort, tree: &mut FactTree<Global>) -> Result<(), NoMem
 }
 
 fn test_joins(rt: &impl Abort, heap: Global) -> Result<(), NoMemory> {
-    let mut tree = FactTree::new_in(heap)?;
+    let mut tree = FactTree::new_in(heap, 1)?;
+    assert!(rt; is_grown(&mut tree)?, "new nodes");
+    test_orders(rt, &mut tree)?;
+    let mut tree = FactTree::new_in(heap, 5)?;
+    assert!(rt; is_begun(&mut tree)?, "first nodes");
     test_orders(rt, &mut tree)
 }
 
@@ -232,8 +299,66 @@ fn is_tree<A: Allocator + Copy>(heap: Global, tree: &mut Tree<A>) -> Result<bool
 }
 
 fn is_tree_in<A: Allocator + Copy>(heap: Global, alloc: A) -> Result<bool, NoMemory> {
-    let mut tree = Tree::new_in(alloc)?;
+    let mut tree = Tree::new_in(alloc, 1)?;
     is_tree(heap, &mut tree)
+}
+
+// Puts a fact last, where it may be put.
+fn add<A: Allocator + Copy>(
+    heap: Global,
+    tree: &mut Tree<A>,
+    fact: Fact<u32>,
+    mark: u32,
+) -> Result<(), NoMemory> {
+    if is_fit(tree.nodes(), fact) {
+        tree.add(fact, by(heap, 2, mark)?)?;
+    }
+    Ok(())
+}
+
+// Whether an edge of role 7 leads from the node to node 0.
+fn leads<A: Allocator + Copy>(tree: &Tree<A>, from: u32) -> bool
+    ensures { IsTrue result → is_so_in (facts_in tree.now.entries) (Edge 7 from 0) ≡ true }
+{
+    let nodes = tree.nodes();
+    from < nodes && 0 < nodes && is_so(&TreeState::new(tree), Fact::Edge(7, from, 0))
+}
+
+// Whether the edge to node 0 is there, and rests on what gave it, and on the join where that is said.
+fn is_edge_marked<A: Allocator + Copy>(
+    heap: Global,
+    tree: &Tree<A>,
+    from: u32,
+    has_join: bool,
+) -> Result<bool, NoMemory> {
+    if !leads(tree, from) {
+        return Ok(false);
+    }
+    let marks = tree.marks_of(heap, Fact::Edge(7, from, 0))?;
+    Ok(marks.has(20) && marks.has(3) == has_join)
+}
+
+fn has_members<A: Allocator + Copy>(tree: &Tree<A>, node: u32, count: usize) -> bool {
+    node < tree.nodes() && tree.members(node).len() == count
+}
+
+/// Three first nodes: an edge leads from node 1 to node 0, and then nodes 1 and 2 are one.
+fn is_given<A: Allocator + Copy>(heap: Global, tree: &mut Tree<A>) -> Result<bool, NoMemory> {
+    add(heap, tree, Fact::Edge(7, 1, 0), 20)?;
+    let is_alone = !leads(tree, 2) && has_members(tree, 2, 1);
+    add(heap, tree, Fact::Same(2, 1), 3)?;
+    let are_marked = is_edge_marked(heap, tree, 1, false)? && is_edge_marked(heap, tree, 2, true)?;
+    let is_joined = tree.representative(2) == 1 && has_members(tree, 2, 2);
+    if 1 <= tree.len() {
+        tree.back(Mark { len: 1 });
+    }
+    let is_back = tree.representative(2) == 2 && !leads(tree, 2) && has_members(tree, 2, 1);
+    Ok(is_alone && are_marked && is_joined && is_back && tree.nodes() == tree.first())
+}
+
+fn is_given_in<A: Allocator + Copy>(heap: Global, alloc: A) -> Result<bool, NoMemory> {
+    let mut tree = Tree::new_in(alloc, 3)?;
+    is_given(heap, &mut tree)
 }
 
 fn is_tree_in_arena(heap: Global) -> Result<bool, NoMemory> {
@@ -246,5 +371,6 @@ fn trees_over_the_heap_and_in_an_arena(rt: HostRuntime) -> Result<(), Fail> {
     test_joins(&rt, rt.alloc())?;
     assert!(rt; is_tree_in(rt.alloc(), rt.alloc())?, "over the heap");
     assert!(rt; is_tree_in_arena(rt.alloc())?, "in an arena");
+    assert!(rt; is_given_in(rt.alloc(), rt.alloc())?, "of first nodes");
     Ok(())
 }

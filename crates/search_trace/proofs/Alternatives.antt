@@ -5,7 +5,7 @@ use Rattle.calculus_specs.specs.Concept.{Concept}
 use Rattle.calculus_specs.specs.Normal.{negated_form}
 use Rattle.calculus_specs.specs.Shape.{Shape, IsTable}
 use Rattle.calculus_specs.specs.Tree.{tree_of}
-use Rattle.calculus_specs.specs.Rows.{Theory}
+use Rattle.calculus_specs.specs.Rules.{Question}
 use Rattle.calculus_specs.specs.declared.facts.Fact.{Fact}
 use Rattle.calculus_specs.specs.declared.facts.Fact.TheVariants.{Has, Apart, Same}
 use Rattle.tableau_specs.specs.declared.Branch.{Branch}
@@ -29,13 +29,13 @@ get-map f (x ∷ xs) (suc k) v h = get-map f xs k v h
 same_has : (x : ℕ) (c d : Concept) → c ≡ d → IsAmong (Has x c ∷ []) (Has x d ∷ [])
 same_has x c d e = subst (λ (u : Concept). IsAmong (Has x c ∷ []) (Has x u ∷ [])) e (λ p h. h)
 
-module _ (theory : Theory) (table : List Shape) (is : IsTable table) where
-  pub alternative_put : (b : Branch) → HasShape table b → (n : ℕ) (f : Fact ℕ) → IsAlternative table b n f → (k : ℕ) → n ≡ k + 1 → IsPut theory table b k f
+module _ (q : Question) (table : List Shape) (is : IsTable table) where
+  pub alternative_put : (b : Branch) → HasShape table b → (n : ℕ) (f : Fact ℕ) → IsAlternative table b n f → (k : ℕ) → n ≡ k + 1 → IsPut q table b k f
   alternative_put b' listed n' f' (of_union x c j d parts sh get) k e =
       let same : j ≡ k = omega arith in
       record {
         rule = _;
-        is_rule = (rules_by_shape theory table is).by_or x c parts listed sh;
+        is_rule = (rules_by_shape q table is).by_or x c parts listed sh;
         added = more_facts (Has x (tree_of table d) ∷ []);
         is_child = get-map (λ p. more_facts (Has x (tree_of table p) ∷ [])) parts k d (subst (λ (i : ℕ). slice_get parts i ≡ Some d) same get);
         puts = some_facts (Has x (tree_of table d) ∷ []) (Has x d ∷ []) refl (λ p h. h);
@@ -44,7 +44,7 @@ module _ (theory : Theory) (table : List Shape) (is : IsTable table) where
       let same : k ≡ 0 = omega arith in
       record {
         rule = _;
-        is_rule = (rules_by_shape theory table is).by_choose y c listed;
+        is_rule = (rules_by_shape q table is).by_choose y c listed;
         added = more_facts (Has y (tree_of table c) ∷ []);
         is_child = ap (slice_get (more_facts (Has y (tree_of table c) ∷ []) ∷ more_facts (Has y (negated_form (tree_of table c)) ∷ []) ∷ [])) same;
         puts = some_facts (Has y (tree_of table c) ∷ []) (Has y c ∷ []) refl (λ p h. h);
@@ -53,7 +53,7 @@ module _ (theory : Theory) (table : List Shape) (is : IsTable table) where
       let same : k ≡ 1 = omega arith in
       record {
         rule = _;
-        is_rule = (rules_by_shape theory table is).by_choose y c listed;
+        is_rule = (rules_by_shape q table is).by_choose y c listed;
         added = more_facts (Has y (negated_form (tree_of table c)) ∷ []);
         is_child = ap (slice_get (more_facts (Has y (tree_of table c) ∷ []) ∷ more_facts (Has y (negated_form (tree_of table c)) ∷ []) ∷ [])) same;
         puts = some_facts (Has y (negated_form (tree_of table c)) ∷ []) (Has y d ∷ []) refl (same_has y (tree_of table d) (negated_form (tree_of table c)) other.negates);

@@ -5,21 +5,20 @@ use Rattle.calculus_specs.specs.Concept.{Concept, top as top_tree, all_of as all
 use Rattle.calculus_specs.specs.Shape.{Shape, shape_of, IsTable}
 use Rattle.calculus_specs.specs.Shape.Shape.{name, not_name, intersection, union, some_of, all_of, at_least, at_most}
 use Rattle.calculus_specs.specs.Tree.{tree_of, trees_of, tree_over}
-use Rattle.calculus_specs.specs.Rows.{Theory}
 use Rattle.calculus_specs.proofs.Unique.{tree_of_shape}
 use Rattle.calculus_specs.specs.declared.facts.Fact.{Fact}
 use Rattle.calculus_specs.specs.declared.facts.Fact.TheVariants.{Has}
-use Rattle.calculus_specs.specs.Rules.{when}
+use Rattle.calculus_specs.specs.Rules.{Question, when}
 use Rattle.tableau_specs.specs.Lines.{concept_in}
 use Rattle.calculus_specs.proofs.Unique.{part_list-parts_of}
-use Rattle.search_trace.specs.Premises.{Premise, is_node, has_concept, has_edge_below, Added, more_facts, more_nodes, Rule, and_rule, or_rule, all_rule, carry_rule, some_rule, least_rule, choose_rule, clash_rule, most_rule, filler_premises, apart_premises}
+use Rattle.search_trace.specs.Premises.{Premise, is_node, has_concept, has_edge_below, Added, more_facts, more_nodes, Rule, and_rule, or_rule, all_rule, carry_rule, some_rule, least_rule, choose_rule, clash_rule, most_rule, fact_rule, filler_premises, apart_premises}
 use Rattle.search_trace.specs.ByShape.{RulesByShape}
 
 map_twice : {A B C : Type 0} → (g : B → C) (f : A → B) (xs : List A) → map g (map f xs) ≡ map (λ x. g (f x)) xs
 map_twice g f [] = refl
 map_twice g f (x ∷ xs) = ap (λ (ys : List _). g (f x) ∷ ys) (map_twice g f xs)
 
-module _ (theory : Theory) (table : List Shape) (is : IsTable table) where
+module _ (q : Question) (table : List Shape) (is : IsTable table) where
   listed : (c : ℕ) → c < length table → concept_in table c ≡ Some (tree_of table c)
   listed c lt = ap (λ (b : Bool). when b (Some (tree_of table c))) (lt-ltb c (length table) lt)
 
@@ -39,7 +38,7 @@ module _ (theory : Theory) (table : List Shape) (is : IsTable table) where
   parts_read : (parts : List ℕ) → part_list (parts_of (map (λ p. get_or (trees_of table) p top_tree) parts)) ≡ map (tree_of table) parts
   parts_read parts = part_list-parts_of (map (λ p. get_or (trees_of table) p top_tree) parts)
 
-  pub rules_by_shape : RulesByShape theory table
+  pub rules_by_shape : RulesByShape q table
   rules_by_shape = record {
     by_and = λ x c parts lt e.
         at_shape (and_rule x) c (intersection parts) lt e
@@ -55,9 +54,9 @@ module _ (theory : Theory) (table : List Shape) (is : IsTable table) where
         at_shape (all_rule x y) c (all_of s e) lt sh
         ∙ ap (asking x (is_node y ∷ has_edge_below s x y ∷ []) (more_facts (Has y (tree_of table e) ∷ []) ∷ [])) (sym (reads c (all_of s e) lt sh));
     by_carry = λ x y r c s e d lt sh dt dh transitive below.
-        at_shape (carry_rule theory x y r) c (all_of s e) lt sh
+        at_shape (carry_rule q.theory x y r) c (all_of s e) lt sh
         ∙ ap (λ (b : Bool). when b (asking x (is_node y ∷ has_edge_below r x y ∷ []) (more_facts (Has y (all_tree r (tree_of table e)) ∷ []) ∷ []) (all_tree s (tree_of table e))))
-        (and_from (theory.is_transitive r) (theory.below r s) transitive below)
+        (and_from (q.theory.is_transitive r) (q.theory.below r s) transitive below)
         ∙ ap (λ (u : Concept). asking x (is_node y ∷ has_edge_below r x y ∷ []) (more_facts (Has y u ∷ []) ∷ []) (all_tree s (tree_of table e))) (sym (reads d (all_of r e) dt dh))
         ∙ ap (asking x (is_node y ∷ has_edge_below r x y ∷ []) (more_facts (Has y (tree_of table d) ∷ []) ∷ [])) (sym (reads c (all_of s e) lt sh));
     by_some = λ x y c s e lt sh.
@@ -76,4 +75,6 @@ module _ (theory : Theory) (table : List Shape) (is : IsTable table) where
         at_shape (most_rule x ys) c (at_most n s e) lt sh
         ∙ ap (λ (b : Bool). when b (asking x (filler_premises x s (tree_of table e) ys ++ apart_premises ys) [] (tree_over (trees_of table) (at_most n s e)))) (eq-eqb (length ys) (n + 1) many)
         ∙ ap (asking x (filler_premises x s (tree_of table e) ys ++ apart_premises ys) []) (sym (reads c (at_most n s e) lt sh));
+    by_fact = λ a p f e. ap fact_rule e;
+    by_differ = λ y z. refl;
   }

@@ -6,16 +6,14 @@ use Rattle.std.proofs.lemmas.Bool.{and_from, or_right}
 use Rattle.std.proofs.lemmas.Cmp.{nat_cmp_total}
 use Rattle.lane_sieve.specs.Sets.{NumberSet}
 use Rattle.lane_sieve.proofs.Bits.{contains_insert}
-use Rattle.calculus_specs.specs.Concept.{Concept}
 use Rattle.calculus_specs.specs.Shape.{Shape}
-use Rattle.calculus_specs.specs.Rows.{Theory}
 use Rattle.calculus_specs.specs.declared.facts.Fact.{Fact}
-use Rattle.calculus_specs.specs.State.{node_count}
+use Rattle.calculus_specs.specs.State.{node_count_from}
 use Rattle.tableau_specs.specs.declared.Item.{Item}
 use Rattle.tableau_specs.specs.declared.Item.TheVariants.{Fact as Says, Mark}
 use Rattle.tableau_specs.specs.Items.{facts_of, says}
 use Rattle.calculus_specs.specs.Line.{Line}
-use Rattle.calculus_specs.specs.Rules.{on_any, Known, when, children_of}
+use Rattle.calculus_specs.specs.Rules.{Question, Known, when, children_of}
 use Rattle.tableau_specs.specs.Lines.{known_by, concept_in}
 use Rattle.search_trace.specs.Premises.{Rule, rule_of, holds, is_new, with_added, is_start, children_by}
 use Rattle.search_trace.specs.Noted.{Marked, marked, is_within, items}
@@ -70,16 +68,16 @@ facts-says u (f ∷ fs) = ap (λ (ms : List MarkedFact). marked u f ∷ ms) (fac
 
 -- ---- a line whose premises hold in the state
 
-by_all_of : (theory : Theory) (table : List Shape) (u : NumberSet) (ms : List MarkedFact) (line : Line) → AllWithin u ms → ((x : ℕ) → x < node_count (items ms) → list_any (λ y. eqb y x) (items (nodes_of ms)) ≡ true)
-    → (r : Option Rule) → rule_of theory (concept_in table) line ≡ r → (kids : List Known) → children_by theory (known_by table (items ms)) r ≡ Some kids → HoldsByAll theory table u ms line
-by_all_of theory table u ms line all full None e kids h = cc
-by_all_of theory table u ms line all full (Some r) e kids h =
-    let k = known_by table (items ms) in
-    let a = when_some (list_all (holds theory k) r.premises) (when (list_all (is_new k) r.children) (Some (map (with_added k) r.children))) kids h in
-    record { rule = r; is_rule = e; premises = premises_stay theory k (trail_within table u ms) (whole_part table u ms all full) r.premises a.0 }
+by_all_of : (q : Question) (table : List Shape) (u : NumberSet) (ms : List MarkedFact) (line : Line) → AllWithin u ms → ((x : ℕ) → x < node_count_from q.first (items ms) → list_any (λ y. eqb y x) (items (nodes_of q.first ms)) ≡ true)
+    → (r : Option Rule) → rule_of q (concept_in table) line ≡ r → (kids : List Known) → children_by q (known_by q.first table (items ms)) r ≡ Some kids → HoldsByAll q table u ms line
+by_all_of q table u ms line all full None e kids h = cc
+by_all_of q table u ms line all full (Some r) e kids h =
+    let k = known_by q.first table (items ms) in
+    let a = when_some (list_all (holds q.theory k) r.premises) (when (list_all (is_new k) r.children) (Some (map (with_added k) r.children))) kids h in
+    record { rule = r; is_rule = e; premises = premises_stay q.theory k (trail_within q.first table u ms) (whole_part q.first table u ms all full) r.premises a.0 }
 
-pub holds_by_all : (theory : Theory) (sub sup : Concept) (table : List Shape) (u : NumberSet) (ms : List MarkedFact) (line : Line) → AllWithin u ms
-    → ((x : ℕ) → x < node_count (items ms) → list_any (λ y. eqb y x) (items (nodes_of ms)) ≡ true) → is_start line ≡ false
-    → (kids : List Known) → children_of (on_any theory sub sup) (concept_in table) (known_by table (items ms)) line ≡ Some kids → HoldsByAll theory table u ms line
-holds_by_all theory sub sup table u ms line all full no_start kids h =
-    by_all_of theory table u ms line all full (rule_of theory (concept_in table) line) refl kids (sym (rules_say theory sub sup (concept_in table) (known_by table (items ms)) line no_start) ∙ h)
+pub holds_by_all : (q : Question) (table : List Shape) (u : NumberSet) (ms : List MarkedFact) (line : Line) → AllWithin u ms
+    → ((x : ℕ) → x < node_count_from q.first (items ms) → list_any (λ y. eqb y x) (items (nodes_of q.first ms)) ≡ true) → is_start line ≡ false
+    → (kids : List Known) → children_of q (concept_in table) (known_by q.first table (items ms)) line ≡ Some kids → HoldsByAll q table u ms line
+holds_by_all q table u ms line all full no_start kids h =
+    by_all_of q table u ms line all full (rule_of q (concept_in table) line) refl kids (sym (rules_say q (concept_in table) (known_by q.first table (items ms)) line no_start) ∙ h)

@@ -9,10 +9,11 @@ use Rattle.calculus_specs.specs.Concept.{name, intersection, union, parts_of}
 use Rattle.calculus_specs.specs.Shape.{Shape}
 use Rattle.calculus_specs.specs.Shape.Shape.{top as top_shape, name as name_shape, not_name, intersection as and_shape, union as or_shape}
 use Rattle.calculus_specs.specs.Rows.{Theory}
+use Rattle.calculus_specs.specs.Rules.{Question, on_any}
 use Rattle.calculus_specs.specs.Line.{Line}
 use Rattle.calculus_specs.specs.Line.Line.{and_line, or_line, clash_line}
 use Rattle.search_trace.specs.Leaves.{leaves}
-use Rattle.search_trace.specs.Noted.{Noted, NotedLine, noted_start, strip, closing_rests_on}
+use Rattle.search_trace.specs.Noted.{Noted, NotedLine, start_of, strip, closing_rests_on}
 use Rattle.search_trace.specs.Back.{step_of}
 
 abbrev nothing : Theory
@@ -23,8 +24,11 @@ abbrev table : List Shape
 table = top_shape ∷ name_shape 0 ∷ name_shape 1 ∷ name_shape 2 ∷ or_shape (2 ∷ 3 ∷ []) ∷ and_shape (1 ∷ 4 ∷ []) ∷ not_name 0 ∷ []
 
 -- what is in a and in b or c is in a
+abbrev asked : Question
+asked = on_any nothing (intersection (parts_of (name 0 ∷ union (parts_of (name 1 ∷ name 2 ∷ [])) ∷ []))) (name 0)
+
 abbrev begin : Noted
-begin = noted_start (intersection (parts_of (name 0 ∷ union (parts_of (name 1 ∷ name 2 ∷ [])) ∷ []))) (name 0)
+begin = start_of asked
 
 abbrev noted : ℕ → Line → NotedLine
 noted n line = record { number = n; line = line; marks = sets.empty }
@@ -52,9 +56,9 @@ pub child_rests_on_nothing : closing_rests_on 2 child ≡ false
 child_rests_on_nothing = rw (sets.contains-empty nat_cmp 2) refl
 
 -- without the union all is closed
-pub all_is_closed : leaves (step_of nothing table) (begin ∷ []) (noted 1 (and_line 0 5) ∷ strip 2 child) ≡ Some []
+pub all_is_closed : leaves (step_of asked table) (begin ∷ []) (noted 1 (and_line 0 5) ∷ strip 2 child) ≡ Some []
 all_is_closed = simp (none_in_none, sets.contains-empty nat_cmp 2) refl
 
 -- a clash that says that it rests on no mark, where it rests on that of the union, has no premises that hold
-pub marks_are_tested : leaves (step_of nothing table) (begin ∷ []) (noted 1 (and_line 0 5) ∷ noted 2 (or_line 0 4) ∷ noted 3 (clash_line 0 2) ∷ []) ≡ None
+pub marks_are_tested : leaves (step_of asked table) (begin ∷ []) (noted 1 (and_line 0 5) ∷ noted 2 (or_line 0 4) ∷ noted 3 (clash_line 0 2) ∷ []) ≡ None
 marks_are_tested = simp (none_in_none, two_not_in_none) refl

@@ -8,10 +8,9 @@ use Rattle.std.proofs.lemmas.List.Folds.{list_any-append}
 use Rattle.lane_sieve.specs.Sets.{NumberSet}
 use Rattle.lane_sieve.proofs.Bits.{contains_insert}
 use Rattle.calculus_specs.specs.Shape.{Shape}
-use Rattle.calculus_specs.specs.Rows.{Theory}
 use Rattle.tableau_specs.specs.Lines.{concept_in}
 use Rattle.calculus_specs.specs.Concept.{Concept}
-use Rattle.calculus_specs.specs.Rules.{when}
+use Rattle.calculus_specs.specs.Rules.{Question, when}
 use Rattle.search_trace.specs.Premises.{Added, Rule, rule_of, holds, is_new, is_branching, is_single}
 use Rattle.search_trace.specs.Leaves.{leaves}
 use Rattle.search_trace.specs.Frames.{Frame, began, whole, IsOpen}
@@ -57,26 +56,26 @@ stays_or_single true b h = refl
 stays_or_single false true h = cc
 stays_or_single false false h = refl
 
-all_ends_stay : (theory : Theory) (concept : ℕ → Option Concept) (m : ℕ) (ls : List NotedLine) → closing_rests_on m ls ≡ false → list_all (ends_stay theory concept (off m) (off_is_downward m)) ls ≡ true
-all_ends_stay theory concept m [] h = refl
-all_ends_stay theory concept m (l ∷ ls) h =
+all_ends_stay : (q : Question) (concept : ℕ → Option Concept) (m : ℕ) (ls : List NotedLine) → closing_rests_on m ls ≡ false → list_all (ends_stay q concept (off m) (off_is_downward m)) ls ≡ true
+all_ends_stay q concept m [] h = refl
+all_ends_stay q concept m (l ∷ ls) h =
     let b = or_parts (not (is_single l.line) && rests_on m l) (closing_rests_on m ls) h in
-    and_from (is_single l.line || off m l.marks) (list_all (ends_stay theory concept (off m) (off_is_downward m)) ls) (stays_or_single (is_single l.line) (rests_on m l) b.0) (all_ends_stay theory concept m ls b.1)
+    and_from (is_single l.line || off m l.marks) (list_all (ends_stay q concept (off m) (off_is_downward m)) ls) (stays_or_single (is_single l.line) (rests_on m l) b.0) (all_ends_stay q concept m ls b.1)
 
-module _ (theory : Theory) (table : List Shape) where
+module _ (q : Question) (table : List Shape) where
   abbrev concept : ℕ → Option Concept
   concept = concept_in table
 
   abbrev step : Noted → NotedLine → Option (List Noted)
-  step = noted_children theory concept
+  step = noted_children q concept
 
   kid_keeps : (at kid : Noted) (done left : List Noted) (l : NotedLine) (r : Option Rule) → is_branching l.line ≡ true
-      → noted_by theory concept at l r ≡ Some (done ++ kid ∷ left) → Keeps (off l.number) kid at
+      → noted_by q concept at l r ≡ Some (done ++ kid ∷ left) → Keeps (off l.number) kid at
   kid_keeps at kid done left l None is h = cc
   kid_keeps at kid done left l (Some r) is h =
       let g = marks_given l in
       let e : g ≡ sets.insert l.marks l.number = ap (λ (b : Bool). cond b (sets.insert l.marks l.number) l.marks) is in
-      let premises = list_all (holds theory (known_within l.marks at)) r.premises in
+      let premises = list_all (holds q.theory (known_within l.marks at)) r.premises in
       let fresh = list_all (is_new (known at)) r.children in
       let kids = map (noted_added g at) r.children in
       let a = when_some premises (when fresh (Some kids)) (done ++ kid ∷ left) h in
@@ -92,8 +91,8 @@ module _ (theory : Theory) (table : List Shape) where
       → leaves step (from ∷ []) (f.before ++ strip f.branching.number lines) ≡ Some []
   strip_closes from f o is lines free run =
       let m = f.branching.number in
-      let keeps = kid_keeps f.at f.kid f.done f.left f.branching (rule_of theory concept f.branching.line) is o.branches in
-      let r = runs_keep theory concept (off m) (off_is_downward m) lines [] (all_ends_stay theory concept m lines free) (f.kid ∷ []) (f.at ∷ []) (keeps, tt) run in
+      let keeps = kid_keeps f.at f.kid f.done f.left f.branching (rule_of q concept f.branching.line) is o.branches in
+      let r = runs_keep q concept (off m) (off_is_downward m) lines [] (all_ends_stay q concept m lines free) (f.kid ∷ []) (f.at ∷ []) (keeps, tt) run in
       leaves_append step f.before (strip m lines) (from ∷ []) (f.at ∷ []) o.leads ∙ r.are ∙ ap (λ (ks : List Noted). Some ks) (no_news (off m) r.news r.keep)
 
   -- ---- on which marks closing rests
@@ -120,7 +119,7 @@ module _ (theory : Theory) (table : List Shape) where
   in_union_too : (s t : NumberSet) (j : ℕ) → sets.contains t j ≡ true → sets.contains (sets.union s t) j ≡ true
   in_union_too s t j h = sets.contains-union nat_cmp_total s t j ∙ or_right (sets.contains s j) (sets.contains t j) h
 
-  module _ (start : Noted) (b : Branching) (bs : List Branching) (o : IsBranching theory table (began start (frames_of bs)) bs b) where
+  module _ (start : Noted) (b : Branching) (bs : List Branching) (o : IsBranching q table (began start (frames_of bs)) bs b) where
     older : (j : ℕ) → is_mark bs j ≡ true → is_mark (b ∷ bs) j ≡ true
     older j h = or_right (eqb (mark_of b) j) (is_mark bs j) h
 
@@ -140,10 +139,10 @@ module _ (theory : Theory) (table : List Shape) where
           | inr a ↦ in_union both l.marks j (gathered_rest lines u rests j is a)
         ]
 
-    pub turned_is_honest : (lines : List NotedLine) (u : NumberSet) (a : Added) (rest : List Added) → b.rest ≡ a ∷ rest → Closes theory table start (b ∷ bs) lines u
-        → IsBranching theory table (began start (frames_of bs)) bs (turned_branching b lines u a rest)
+    pub turned_is_honest : (lines : List NotedLine) (u : NumberSet) (a : Added) (rest : List Added) → b.rest ≡ a ∷ rest → Closes q table start (b ∷ bs) lines u
+        → IsBranching q table (began start (frames_of bs)) bs (turned_branching b lines u a rest)
     turned_is_honest lines u a rest e c =
-        let next = and_parts (is_next b.facts a) (list_all (is_next b.facts) rest) (ap (list_all (is_next b.facts)) (sym e) ∙ o.rest_is_next) in
+        let next = and_parts (is_next q.first b.facts a) (list_all (is_next q.first b.facts) rest) (ap (list_all (is_next q.first b.facts)) (sym e) ∙ o.rest_is_next) in
         record {
           is_open = turned_is_open step (began start (frames_of bs)) b.frame o.is_open lines (child_by b a) (map (child_by b) rest) (o.left_is ∙ ap (map (child_by b)) e) c.run;
           branches = o.branches;
@@ -156,7 +155,7 @@ module _ (theory : Theory) (table : List Shape) where
           rest_is_next = next.1;
         }
 
-    pub whole_is_closed : (lines : List NotedLine) (u : NumberSet) → b.rest ≡ [] → Closes theory table start (b ∷ bs) lines u → Closes theory table start bs (whole b.frame lines) (whole_marks b u)
+    pub whole_is_closed : (lines : List NotedLine) (u : NumberSet) → b.rest ≡ [] → Closes q table start (b ∷ bs) lines u → Closes q table start bs (whole b.frame lines) (whole_marks b u)
     whole_is_closed lines u e c = record { run = whole_closes step (began start (frames_of bs)) b.frame o.is_open lines (o.left_is ∙ ap (map (child_by b)) e) c.run; rests = whole_rest lines u c.rests }
 
     unrested : (lines : List NotedLine) (u : NumberSet) → sets.contains u (mark_of b) ≡ false → RestsWithin (b ∷ bs) u lines → closing_rests_on (mark_of b) lines ≡ false
@@ -165,7 +164,7 @@ module _ (theory : Theory) (table : List Shape) where
       | inr isnt ↦ isnt
     ]
 
-    pub stripped_is_closed : (lines : List NotedLine) (u : NumberSet) → sets.contains u (mark_of b) ≡ false → Closes theory table start (b ∷ bs) lines u → Closes theory table start bs (b.frame.before ++ strip (mark_of b) lines) u
+    pub stripped_is_closed : (lines : List NotedLine) (u : NumberSet) → sets.contains u (mark_of b) ≡ false → Closes q table start (b ∷ bs) lines u → Closes q table start bs (b.frame.before ++ strip (mark_of b) lines) u
     stripped_is_closed lines u out c = record {
       run = strip_closes (began start (frames_of bs)) b.frame o.is_open o.branches lines (unrested lines u out c.rests) c.run;
       rests = λ j is h. c.rests j (older j is) (strip_rests (mark_of b) j lines (sym (after_singles j b.frame.before (strip (mark_of b) lines) o.singles) ∙ h));

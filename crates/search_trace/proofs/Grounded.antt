@@ -11,19 +11,19 @@ use Rattle.calculus_specs.specs.Joins.{rep, joins, IsJoined}
 use Rattle.calculus_specs.specs.Joins.IsJoined.{itself, by_fact}
 use Rattle.calculus_specs.specs.State.{gives_concept, is_given, gives_edge, has_edge}
 use Rattle.calculus_specs.proofs.Joined.{joined-rep, joined_on, joined_back}
-use Rattle.search_trace.specs.Noted.{Marked, marked, is_within, within}
+use Rattle.search_trace.specs.Noted.{Marked, is_within, within}
 use Rattle.search_trace.specs.Trail.{MarkedFact, nodes_of, ends_of}
 use Rattle.search_trace.specs.Grounded.{named, is_known_within, is_grounded, AreGrounded}
 use Rattle.search_trace.proofs.Among.{any_within}
-use Rattle.search_trace.proofs.Trail.{wider_part, ends-append}
+use Rattle.search_trace.proofs.Trail.{wider_part, nodes-append}
 
 all_implies : {A : Type 0} → (p q : A → Bool) → ((a : A) → p a ≡ true → q a ≡ true) → (xs : List A) → list_all p xs ≡ true → list_all q xs ≡ true
 all_implies p q imp [] h = refl
 all_implies p q imp (x ∷ xs) h = let b = and_parts (p x) (list_all p xs) h in and_from (q x) (list_all q xs) (imp x b.0) (all_implies p q imp xs b.1)
 
-module _ (u : NumberSet) (ms : List MarkedFact) (grounded : AreGrounded ms) where
+module _ (first : ℕ) (u : NumberSet) (ms : List MarkedFact) (grounded : AreGrounded first ms) where
   abbrev known : ℕ → Bool
-  known = is_known_within u ms
+  known = is_known_within first u ms
 
   -- a fact that passes, and whose nodes are known
   record Found (p : Fact ℕ → Bool) : Type 0 where
@@ -31,17 +31,17 @@ module _ (u : NumberSet) (ms : List MarkedFact) (grounded : AreGrounded ms) wher
     passes : p fact ≡ true
     are_known : list_all known (named fact) ≡ true
 
-  wider : (v : NumberSet) → sets.is_subset v u ≡ true → (x : ℕ) → is_known_within v ms x ≡ true → known x ≡ true
-  wider v part x h = (wider_part [] v u part ms).nodes (λ y. eqb y x) h
+  wider : (v : NumberSet) → sets.is_subset v u ≡ true → (x : ℕ) → is_known_within first v ms x ≡ true → known x ≡ true
+  wider v part x h = (wider_part first [] v u part ms).nodes (λ y. eqb y x) h
 
-  find_in : (p : Fact ℕ → Bool) (xs : List MarkedFact) → list_all (is_grounded ms) xs ≡ true → list_any (λ m. is_within u m && p m.item) xs ≡ true → Found p
+  find_in : (p : Fact ℕ → Bool) (xs : List MarkedFact) → list_all (is_grounded first ms) xs ≡ true → list_any (λ m. is_within u m && p m.item) xs ≡ true → Found p
   find_in p [] h any = cc
   find_in p (m ∷ xs) h any =
-      let b = and_parts (is_grounded ms m) (list_all (is_grounded ms) xs) h in
+      let b = and_parts (is_grounded first ms m) (list_all (is_grounded first ms) xs) h in
       elim (or_cases (is_within u m && p m.item) (list_any (λ n. is_within u n && p n.item) xs) any) [
         | inl here ↦
             let c = and_parts (is_within u m) (p m.item) here in
-            record { fact = m.item; passes = c.1; are_known = all_implies (is_known_within m.marks ms) known (wider m.marks c.0) (named m.item) b.0 }
+            record { fact = m.item; passes = c.1; are_known = all_implies (is_known_within first m.marks ms) known (wider m.marks c.0) (named m.item) b.0 }
         | inr later ↦ find_in p xs b.1 later
       ]
 
@@ -110,14 +110,14 @@ within-append u p ms ns h =
     let q : Marked _ → Bool = λ m. is_within u m && p m.item in
     any_within u p (ms ++ ns) ∙ list_any-append q ms ns ∙ or_left (list_any q ms) (list_any q ns) (sym (any_within u p ms) ∙ h)
 
-stays_known : (u : NumberSet) (ms ns : List MarkedFact) (x : ℕ) → is_known_within u ms x ≡ true → is_known_within u (ms ++ ns) x ≡ true
-stays_known u ms ns x h =
-    ap (λ (es : List (Marked ℕ)). list_any (λ y. eqb y x) (within u (marked sets.empty 0 ∷ es))) (ends-append ms ns)
-    ∙ within-append u (λ y. eqb y x) (nodes_of ms) (ends_of ns) h
+stays_known : (first : ℕ) (u : NumberSet) (ms ns : List MarkedFact) (x : ℕ) → is_known_within first u ms x ≡ true → is_known_within first u (ms ++ ns) x ≡ true
+stays_known first u ms ns x h =
+    ap (λ (es : List (Marked ℕ)). list_any (λ y. eqb y x) (within u es)) (nodes-append first ms ns)
+    ∙ within-append u (λ y. eqb y x) (nodes_of first ms) (ends_of first ns) h
 
 -- facts that are put last, each with nodes that are known by then
-pub grounded_more : (ms ns : List MarkedFact) → AreGrounded ms → list_all (is_grounded (ms ++ ns)) ns ≡ true → AreGrounded (ms ++ ns)
-grounded_more ms ns h g =
-    list_all-append (is_grounded (ms ++ ns)) ms ns
-    ∙ and_from (list_all (is_grounded (ms ++ ns)) ms) (list_all (is_grounded (ms ++ ns)) ns)
-    (all_implies (is_grounded ms) (is_grounded (ms ++ ns)) (λ m. all_implies (is_known_within m.marks ms) (is_known_within m.marks (ms ++ ns)) (stays_known m.marks ms ns) (named m.item)) ms h) g
+pub grounded_more : (first : ℕ) (ms ns : List MarkedFact) → AreGrounded first ms → list_all (is_grounded first (ms ++ ns)) ns ≡ true → AreGrounded first (ms ++ ns)
+grounded_more first ms ns h g =
+    list_all-append (is_grounded first (ms ++ ns)) ms ns
+    ∙ and_from (list_all (is_grounded first (ms ++ ns)) ms) (list_all (is_grounded first (ms ++ ns)) ns)
+    (all_implies (is_grounded first ms) (is_grounded first (ms ++ ns)) (λ m. all_implies (is_known_within first m.marks ms) (is_known_within first m.marks (ms ++ ns)) (stays_known first m.marks ms ns) (named m.item)) ms h) g

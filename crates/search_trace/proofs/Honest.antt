@@ -1,49 +1,51 @@
 -- The steps of a search keep its trace honest.
-use Rattle.std.proofs.Common.{◌≡◌, ℕ, ◌&&◌, true, false, not, eqb, List, [], ◌∷◌, ◌++◌, map, Option, Some, refl, ap, ◌∙◌, sym, subst, append_assoc, inl, inr, arith}
-use Rattle.std.specs.List.{list_all}
+use Rattle.std.proofs.Common.{◌≡◌, ℕ, ◌&&◌, true, false, not, eqb, List, [], ◌∷◌, ◌++◌, map, Option, Some, refl, ap, ◌∙◌, sym, subst, ℕ, append_assoc, append-nil, inl, inr, arith}
+use Rattle.std.specs.List.{list_any, list_all, range_with_len}
 use Rattle.std.specs.Option.{option_and_then, option_map}
 use Rattle.std.specs.FinSet as sets
-use Rattle.std.proofs.lemmas.Bool.{and_parts, and_from, or_cases, or_left, eqb-true, eq-eqb}
+use Rattle.std.proofs.lemmas.Bool.{and_parts, and_from, or_cases}
 use Rattle.std.proofs.lemmas.List.Folds.{list_all-append}
 use Rattle.calculus_specs.specs.Concept.{Concept}
 use Rattle.lane_sieve.specs.Sets.{NumberSet}
 use Rattle.calculus_specs.specs.Normal.{normal_form, negated_form}
 use Rattle.calculus_specs.specs.Shape.{Shape}
 use Rattle.calculus_specs.specs.Tree.{tree_of}
-use Rattle.calculus_specs.specs.Rows.{Theory}
+use Rattle.calculus_specs.specs.Rules.{Question}
 use Rattle.calculus_specs.specs.declared.facts.Fact.{Fact}
 use Rattle.calculus_specs.specs.declared.facts.Fact.TheVariants.{Has}
 use Rattle.search_trace.specs.Premises.{Added, Rule, is_branching, is_single}
 use Rattle.search_trace.specs.Leaves.{leaves}
 use Rattle.search_trace.specs.Frames.{Frame, began, lines_of, lefts, turned, whole, AreOpen}
-use Rattle.search_trace.specs.Noted.{marked, Noted, NotedLine, noted_added, marks_given, noted_start, rests_on, strip}
+use Rattle.search_trace.specs.Noted.{Marked, marked, items, Noted, NotedLine, noted_added, marks_given, start_of, rests_on, strip}
 use Rattle.search_trace.specs.Among.{IsAmong}
 use Rattle.search_trace.specs.Trail.{is_next, RuleHolds, Puts}
 use Rattle.search_trace.specs.Back.{Branching, frames_of, RestsWithin, step_of, AreBranchings, Closes}
 use Rattle.search_trace.specs.Honest.{Tracing, trace_of, IsHonest, after_line, opened, at_alternative}
 use Rattle.search_trace.proofs.Leaves.{leaves_append, trace_leaves, leaves_more}
-use Rattle.search_trace.proofs.Trail.{covered_step, covered_child}
+use Rattle.search_trace.proofs.Trail.{covered_step, covered_child, known_in}
+use Rattle.search_trace.proofs.Plain.{items_marked}
+use Rattle.tableau_specs.proofs.AddLines.{in_range_below}
 use Rattle.search_trace.proofs.GoingBack.{after_singles}
 
-module _ (theory : Theory) (table : List Shape) (start : Noted) where
+module _ (q : Question) (table : List Shape) (start : Noted) where
   abbrev step : Noted → NotedLine → Option (List Noted)
-  step = step_of theory table
+  step = step_of q table
 
   -- ---- a line with one child
 
-  pub honest_line : (t : Tracing) → IsHonest theory table start t → (l : NotedLine) (r : Rule) (a : Added) (new : List (Fact ℕ)) → RuleHolds theory table t.facts l r → r.children ≡ a ∷ []
-      → is_single l.line ≡ true → Puts table a new → IsHonest theory table start (after_line t l a new)
+  pub honest_line : (t : Tracing) → IsHonest q table start t → (l : NotedLine) (r : Rule) (a : Added) (new : List (Fact ℕ)) → RuleHolds q table t.facts l r → r.children ≡ a ∷ []
+      → is_single l.line ≡ true → Puts q.first table a new → IsHonest q table start (after_line t l a new)
   honest_line t h l r a new holds one single puts =
       let g = marks_given l in
-      let next = and_parts (is_next t.facts a) true (ap (list_all (is_next t.facts)) (sym one) ∙ holds.are_next) in
-      let kids = covered_step theory table t.facts t.now l r h.covers holds ∙ ap (λ (added : List Added). Some (map (noted_added g t.now) added)) one in
+      let next = and_parts (is_next q.first t.facts a) true (ap (list_all (is_next q.first t.facts)) (sym one) ∙ holds.are_next) in
+      let kids = covered_step q table t.facts t.now l r h.covers holds ∙ ap (λ (added : List Added). Some (map (noted_added g t.now) added)) one in
       record {
         are_open = h.are_open;
         singles = list_all-append (λ k. is_single k.line) t.lines (l ∷ []) ∙ and_from (list_all (λ k. is_single k.line) t.lines) (is_single l.line && true) h.singles (and_from (is_single l.line) true single refl);
         leads =
             leaves_append step t.lines (l ∷ []) (began start (frames_of t.branchings) ∷ []) (t.now ∷ []) h.leads
             ∙ ap (λ (o : Option (List Noted)). option_and_then (λ (left : List Noted). Some left) (option_map (λ (kids : List Noted). kids ++ []) o)) kids;
-        covers = covered_child table g t.facts t.now h.covers a new puts next.0;
+        covers = covered_child q.first table g t.facts t.now h.covers a new puts next.0;
       }
 
   -- ---- a line that branches
@@ -51,12 +53,12 @@ module _ (theory : Theory) (table : List Shape) (start : Noted) where
   no_marks : (bs : List Branching) → RestsWithin bs sets.empty []
   no_marks bs m is h = cc
 
-  pub honest_branching : (t : Tracing) → IsHonest theory table start t → (l : NotedLine) (r : Rule) (a : Added) (rest : List Added) (new : List (Fact ℕ)) → RuleHolds theory table t.facts l r → r.children ≡ a ∷ rest
-      → is_branching l.line ≡ true → Puts table a new → IsHonest theory table start (at_alternative (opened t l a rest) t.branchings new)
+  pub honest_branching : (t : Tracing) → IsHonest q table start t → (l : NotedLine) (r : Rule) (a : Added) (rest : List Added) (new : List (Fact ℕ)) → RuleHolds q table t.facts l r → r.children ≡ a ∷ rest
+      → is_branching l.line ≡ true → Puts q.first table a new → IsHonest q table start (at_alternative (opened t l a rest) t.branchings new)
   honest_branching t h l r a rest new holds several branches puts =
       let g = marks_given l in
-      let next = and_parts (is_next t.facts a) (list_all (is_next t.facts) rest) (ap (list_all (is_next t.facts)) (sym several) ∙ holds.are_next) in
-      let kids = covered_step theory table t.facts t.now l r h.covers holds ∙ ap (λ (added : List Added). Some (map (noted_added g t.now) added)) several in
+      let next = and_parts (is_next q.first t.facts a) (list_all (is_next q.first t.facts) rest) (ap (list_all (is_next q.first t.facts)) (sym several) ∙ holds.are_next) in
+      let kids = covered_step q table t.facts t.now l r h.covers holds ∙ ap (λ (added : List Added). Some (map (noted_added g t.now) added)) several in
       record {
         are_open = (
           record {
@@ -74,21 +76,21 @@ module _ (theory : Theory) (table : List Shape) (start : Noted) where
         );
         singles = refl;
         leads = refl;
-        covers = covered_child table g t.facts t.now h.covers a new puts next.0;
+        covers = covered_child q.first table g t.facts t.now h.covers a new puts next.0;
       }
 
   -- ---- a clash
 
-  pub honest_clash : (t : Tracing) → IsHonest theory table start t → (l : NotedLine) (r : Rule) → RuleHolds theory table t.facts l r → r.children ≡ [] → Closes theory table start t.branchings (t.lines ++ l ∷ []) l.marks
+  pub honest_clash : (t : Tracing) → IsHonest q table start t → (l : NotedLine) (r : Rule) → RuleHolds q table t.facts l r → r.children ≡ [] → Closes q table start t.branchings (t.lines ++ l ∷ []) l.marks
   honest_clash t h l r holds none =
       let g = marks_given l in
-      let kids = covered_step theory table t.facts t.now l r h.covers holds ∙ ap (λ (added : List Added). Some (map (noted_added g t.now) added)) none in
+      let kids = covered_step q table t.facts t.now l r h.covers holds ∙ ap (λ (added : List Added). Some (map (noted_added g t.now) added)) none in
       record {
         run =
             leaves_append step t.lines (l ∷ []) (began start (frames_of t.branchings) ∷ []) (t.now ∷ []) h.leads
             ∙ ap (λ (o : Option (List Noted)). option_and_then (λ (left : List Noted). Some left) (option_map (λ (kids : List Noted). kids ++ []) o)) kids;
         rests = λ m is rests.
-            (let here = sym (after_singles theory table m t.lines (l ∷ []) h.singles) ∙ rests in
+            (let here = sym (after_singles q table m t.lines (l ∷ []) h.singles) ∙ rests in
             (elim (or_cases (not (is_single l.line) && rests_on m l) false here) [
               | inl on ↦ (and_parts (not (is_single l.line)) (rests_on m l) on).1
               | inr nowhere ↦ cc
@@ -97,12 +99,12 @@ module _ (theory : Theory) (table : List Shape) (start : Noted) where
 
   -- ---- the whole trace
 
-  open_frames : (bs : List Branching) → AreBranchings theory table start bs → AreOpen step start (frames_of bs)
+  open_frames : (bs : List Branching) → AreBranchings q table start bs → AreOpen step start (frames_of bs)
   open_frames [] o = tt
   open_frames (b ∷ bs) o = (o.0.is_open, open_frames bs o.1)
 
   -- the lines of the trace leave the branch that is worked on, and the alternatives that are left
-  pub trace_is_open : (t : Tracing) → IsHonest theory table start t → leaves step (start ∷ []) (trace_of t) ≡ Some (t.now ∷ lefts (frames_of t.branchings))
+  pub trace_is_open : (t : Tracing) → IsHonest q table start t → leaves step (start ∷ []) (trace_of t) ≡ Some (t.now ∷ lefts (frames_of t.branchings))
   trace_is_open t h =
       let fs = frames_of t.branchings in
       leaves_append step (lines_of fs) t.lines (start ∷ []) (began start fs ∷ lefts fs) (trace_leaves step start fs (open_frames t.branchings h.are_open))
@@ -130,18 +132,23 @@ module _ (f : Frame Noted NotedLine) (fs : List (Frame Noted NotedLine)) (lines 
 among_marked : (u : NumberSet) (xs : List (Fact Concept)) (ys : List (Fact Concept)) → xs ≡ ys → IsAmong (map (marked u) xs) (map (marked u) ys)
 among_marked u xs ys e = subst (λ (zs : List (Fact Concept)). IsAmong (map (marked u) xs) (map (marked u) zs)) e (λ p h. h)
 
-pub honest_start : (theory : Theory) (table : List Shape) (sub sup : Concept) (sub_number not_sup_number : ℕ) → tree_of table sub_number ≡ normal_form sub → tree_of table not_sup_number ≡ negated_form sup
-    → IsHonest theory table (noted_start sub sup)
-    (record { branchings = []; lines = []; now = noted_start sub sup; facts = marked sets.empty (Has 0 sub_number) ∷ marked sets.empty (Has 0 not_sup_number) ∷ [] })
-honest_start theory table sub sup sub_number not_sup_number e f = record {
+known_start : (x : ℕ) (xs : List ℕ) → list_any (λ y. eqb y x) (items (map (marked sets.empty) xs)) ≡ list_any (λ y. eqb y x) xs
+known_start x xs = ap (list_any (λ y. eqb y x)) (items_marked sets.empty xs)
+
+pub honest_start : (q : Question) (table : List Shape) (sub_number not_sup_number : ℕ) → tree_of table sub_number ≡ normal_form q.sub → tree_of table not_sup_number ≡ negated_form q.sup
+    → IsHonest q table (start_of q)
+    (record { branchings = []; lines = []; now = start_of q; facts = marked sets.empty (Has q.at sub_number) ∷ marked sets.empty (Has q.at not_sup_number) ∷ [] })
+honest_start q table sub_number not_sup_number e f = record {
   are_open = tt;
   singles = refl;
   leads = refl;
   covers = record {
-    nodes = λ p h. h;
-    facts = among_marked sets.empty (Has 0 (tree_of table sub_number) ∷ Has 0 (tree_of table not_sup_number) ∷ []) (Has 0 (normal_form sub) ∷ Has 0 (negated_form sup) ∷ [])
-        (ap (λ (c : Concept). Has 0 c ∷ Has 0 (tree_of table not_sup_number) ∷ []) e ∙ ap (λ (c : Concept). Has 0 (normal_form sub) ∷ Has 0 c ∷ []) f);
-    no_more = λ x h. (elim (or_cases (eqb 0 x) false h) [ inl is ↦ (let same = eqb-true 0 x is in omega arith) | inr none ↦ cc ]);
-    no_less = λ x lt. (let same : 0 ≡ x = omega arith in or_left (eqb 0 x) false (eq-eqb 0 x same));
+    nodes = λ p h. ap (list_any p) (sym (append-nil (map (marked sets.empty) (range_with_len 0 q.first)))) ∙ h;
+    facts = among_marked sets.empty (Has q.at (tree_of table sub_number) ∷ Has q.at (tree_of table not_sup_number) ∷ []) (Has q.at (normal_form q.sub) ∷ Has q.at (negated_form q.sup) ∷ [])
+        (ap (λ (c : Concept). Has q.at c ∷ Has q.at (tree_of table not_sup_number) ∷ []) e ∙ ap (λ (c : Concept). Has q.at (normal_form q.sub) ∷ Has q.at c ∷ []) f);
+    no_more = λ x h. (let lt = in_range_below x 0 q.first (sym (known_start x (range_with_len 0 q.first)) ∙ h) in omega arith);
+    no_less = λ x lt.
+        ap (λ (xs : List (Marked ℕ)). list_any (λ y. eqb y x) (items xs)) (append-nil (map (marked sets.empty) (range_with_len 0 q.first))) ∙ known_start x (range_with_len 0 q.first)
+        ∙ known_in x 0 q.first (omega arith) (omega (arith, lt));
   };
 }

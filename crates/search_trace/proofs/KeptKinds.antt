@@ -1,5 +1,5 @@
 -- Kinds of lines that going back keeps.
-use Rattle.std.proofs.Common.{◌≡◌, ℕ, zero, suc, not, eqb, Bool, true, false, cond, List, [], ◌∷◌, ◌++◌, take, drop, filter, map, refl, ap, sym, ◌∙◌, subst, inl, inr}
+use Rattle.std.proofs.Common.{◌≡◌, ℕ, zero, suc, not, eqb, Bool, true, false, cond, List, [], ◌∷◌, ◌++◌, take, drop, map, refl, sym, subst, inl, inr}
 use Rattle.std.specs.List.{list_all}
 use Rattle.std.specs.FinSet as sets
 use Rattle.std.proofs.lemmas.Bool.{cases_Bool, and_parts, and_from, eqb-true, eqb-false}

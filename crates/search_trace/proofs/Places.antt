@@ -7,8 +7,7 @@ use Rattle.std.proofs.lemmas.List.{append-nil, length-append}
 use Rattle.std.proofs.Math.Seq.{take-append_seam, drop-append_seam}
 use Rattle.lane_sieve.specs.Sets.{NumberSet}
 use Rattle.calculus_specs.specs.Shape.{Shape}
-use Rattle.calculus_specs.specs.Rows.{Theory}
-use Rattle.calculus_specs.specs.Concept.{Concept}
+use Rattle.calculus_specs.specs.Rules.{Question}
 use Rattle.calculus_specs.specs.Normal.{normal_form, negated_form}
 use Rattle.calculus_specs.specs.Tree.{tree_of}
 use Rattle.calculus_specs.specs.declared.facts.Fact.{Fact}
@@ -16,7 +15,7 @@ use Rattle.calculus_specs.specs.declared.facts.Fact.TheVariants.{Has}
 use Rattle.search_trace.specs.Premises.{Added, Rule, is_single, is_branching}
 use Rattle.search_trace.specs.Leaves.{leaves}
 use Rattle.search_trace.specs.Frames.{lines_of, lefts, whole}
-use Rattle.search_trace.specs.Noted.{marked, marks_given, noted_start, Noted, NotedLine, rests_on, strip}
+use Rattle.search_trace.specs.Noted.{marked, marks_given, start_of, Noted, NotedLine, rests_on, strip}
 use Rattle.search_trace.specs.Trail.{MarkedFact, RuleHolds, Puts}
 use Rattle.search_trace.specs.Back.{Branching, frames_of, mark_of, marks_in, turned_branching, step_of, AreBranchings, Closes}
 use Rattle.search_trace.specs.Honest.{after_line, opened, at_alternative}
@@ -45,31 +44,31 @@ stripped_flat bs b p lines is =
 
 -- ---- the steps of a search
 
-module _ (theory : Theory) (table : List Shape) (start : Noted) where
-  pub traced_line : (lines : List NotedLine) (ps : List Place) (ms : List MarkedFact) → IsTraced theory table start lines ps ms → (l : NotedLine) (r : Rule) (a : Added) (new : List (Fact ℕ))
-      → RuleHolds theory table ms l r → r.children ≡ a ∷ [] → is_single l.line ≡ true → Puts table a new → IsTraced theory table start (lines ++ l ∷ []) ps (ms ++ map (marked (marks_given l)) new)
+module _ (q : Question) (table : List Shape) (start : Noted) where
+  pub traced_line : (lines : List NotedLine) (ps : List Place) (ms : List MarkedFact) → IsTraced q table start lines ps ms → (l : NotedLine) (r : Rule) (a : Added) (new : List (Fact ℕ))
+      → RuleHolds q table ms l r → r.children ≡ a ∷ [] → is_single l.line ≡ true → Puts q.first table a new → IsTraced q table start (lines ++ l ∷ []) ps (ms ++ map (marked (marks_given l)) new)
   traced_line lines ps ms h l r a new holds one single puts =
       let t = h.tracing in
-      let here = subst (λ (fs : List MarkedFact). RuleHolds theory table fs l r) (sym h.facts_are) holds in
+      let here = subst (λ (fs : List MarkedFact). RuleHolds q table fs l r) (sym h.facts_are) holds in
       record {
         tracing = after_line t l a new;
-        is_honest = honest_line theory table start t h.is_honest l r a new here one single puts;
+        is_honest = honest_line q table start t h.is_honest l r a new here one single puts;
         lines_are = sym (append_assoc (lines_of (frames_of t.branchings)) t.lines (l ∷ [])) ∙ ap (λ (ls : List NotedLine). ls ++ l ∷ []) h.lines_are;
         are_places = h.are_places;
         facts_are = ap (λ (fs : List MarkedFact). fs ++ map (marked (marks_given l)) new) h.facts_are;
       }
 
-  pub traced_branching : (lines : List NotedLine) (ps : List Place) (ms : List MarkedFact) → IsTraced theory table start lines ps ms → (l : NotedLine) (r : Rule) (a : Added) (rest : List Added) (new : List (Fact ℕ))
-      → RuleHolds theory table ms l r → r.children ≡ a ∷ rest → is_branching l.line ≡ true → Puts table a new
-      → IsTraced theory table start (lines ++ l ∷ []) (opened_place lines ms l rest ∷ ps) (ms ++ map (marked (marks_given l)) new)
+  pub traced_branching : (lines : List NotedLine) (ps : List Place) (ms : List MarkedFact) → IsTraced q table start lines ps ms → (l : NotedLine) (r : Rule) (a : Added) (rest : List Added) (new : List (Fact ℕ))
+      → RuleHolds q table ms l r → r.children ≡ a ∷ rest → is_branching l.line ≡ true → Puts q.first table a new
+      → IsTraced q table start (lines ++ l ∷ []) (opened_place lines ms l rest ∷ ps) (ms ++ map (marked (marks_given l)) new)
   traced_branching lines ps ms h l r a rest new holds several branches puts =
       let t = h.tracing in
-      let here = subst (λ (fs : List MarkedFact). RuleHolds theory table fs l r) (sym h.facts_are) holds in
+      let here = subst (λ (fs : List MarkedFact). RuleHolds q table fs l r) (sym h.facts_are) holds in
       let old = lines_of (frames_of t.branchings) in
       let flat : old ++ (t.lines ++ l ∷ []) ≡ lines ++ l ∷ [] = sym (append_assoc old t.lines (l ∷ [])) ∙ ap (λ (ls : List NotedLine). ls ++ l ∷ []) h.lines_are in
       record {
         tracing = at_alternative (opened t l a rest) t.branchings new;
-        is_honest = honest_branching theory table start t h.is_honest l r a rest new here several branches puts;
+        is_honest = honest_branching q table start t h.is_honest l r a rest new here several branches puts;
         lines_are = append-nil (old ++ (t.lines ++ l ∷ [])) ∙ flat;
         are_places = (
           record {
@@ -86,16 +85,16 @@ module _ (theory : Theory) (table : List Shape) (start : Noted) where
         facts_are = ap (λ (fs : List MarkedFact). fs ++ map (marked (marks_given l)) new) h.facts_are;
       }
 
-  pub traced_clash : (lines : List NotedLine) (ps : List Place) (ms : List MarkedFact) → IsTraced theory table start lines ps ms → (l : NotedLine) (r : Rule) → RuleHolds theory table ms l r → r.children ≡ []
-      → IsClosing theory table start (lines ++ l ∷ []) ps l.marks
+  pub traced_clash : (lines : List NotedLine) (ps : List Place) (ms : List MarkedFact) → IsTraced q table start lines ps ms → (l : NotedLine) (r : Rule) → RuleHolds q table ms l r → r.children ≡ []
+      → IsClosing q table start (lines ++ l ∷ []) ps l.marks
   traced_clash lines ps ms h l r holds none =
       let t = h.tracing in
-      let here = subst (λ (fs : List MarkedFact). RuleHolds theory table fs l r) (sym h.facts_are) holds in
+      let here = subst (λ (fs : List MarkedFact). RuleHolds q table fs l r) (sym h.facts_are) holds in
       record {
         branchings = t.branchings;
         are_branchings = h.is_honest.are_open;
         last = t.lines ++ l ∷ [];
-        closes = honest_clash theory table start t h.is_honest l r here none;
+        closes = honest_clash q table start t h.is_honest l r here none;
         lines_are = sym (append_assoc (lines_of (frames_of t.branchings)) t.lines (l ∷ [])) ∙ ap (λ (ls : List NotedLine). ls ++ l ∷ []) h.lines_are;
         are_places = h.are_places;
       }
@@ -103,53 +102,53 @@ module _ (theory : Theory) (table : List Shape) (start : Noted) where
   -- ---- the latest branching, where its open child is closed
 
   -- it is taken out
-  stripped_by : (lines : List NotedLine) (p : Place) (ps : List Place) (u : NumberSet) → (bs : List Branching) → AreBranchings theory table start bs → (last : List NotedLine) → Closes theory table start bs last u
-      → lines_of (frames_of bs) ++ last ≡ lines → ArePlaces bs (p ∷ ps) → sets.contains u p.mark ≡ false → IsClosing theory table start (without_place p lines) ps u
+  stripped_by : (lines : List NotedLine) (p : Place) (ps : List Place) (u : NumberSet) → (bs : List Branching) → AreBranchings q table start bs → (last : List NotedLine) → Closes q table start bs last u
+      → lines_of (frames_of bs) ++ last ≡ lines → ArePlaces bs (p ∷ ps) → sets.contains u p.mark ≡ false → IsClosing q table start (without_place p lines) ps u
   stripped_by lines p ps u [] o last c flat places out = absurd places
   stripped_by lines p ps u (b ∷ bs) o last c flat places out = record {
     branchings = bs;
     are_branchings = o.1;
     last = b.frame.before ++ strip (mark_of b) last;
-    closes = stripped_is_closed theory table start b bs o.0 last u (ap (sets.contains u) (sym places.0.mark) ∙ out) c;
+    closes = stripped_is_closed q table start b bs o.0 last u (ap (sets.contains u) (sym places.0.mark) ∙ out) c;
     lines_are = sym (stripped_flat bs b p last places.0) ∙ ap (without_place p) flat;
     are_places = places.1;
   }
 
-  pub closing_stripped : (lines : List NotedLine) (p : Place) (ps : List Place) (u : NumberSet) → IsClosing theory table start lines (p ∷ ps) u → sets.contains u p.mark ≡ false
-      → IsClosing theory table start (without_place p lines) ps u
+  pub closing_stripped : (lines : List NotedLine) (p : Place) (ps : List Place) (u : NumberSet) → IsClosing q table start lines (p ∷ ps) u → sets.contains u p.mark ≡ false
+      → IsClosing q table start (without_place p lines) ps u
   closing_stripped lines p ps u h out = stripped_by lines p ps u h.branchings h.are_branchings h.last h.closes h.lines_are h.are_places out
 
   -- it has no alternative left: it is closed
-  whole_by : (lines : List NotedLine) (p : Place) (ps : List Place) (u : NumberSet) → (bs : List Branching) → AreBranchings theory table start bs → (last : List NotedLine) → Closes theory table start bs last u
-      → lines_of (frames_of bs) ++ last ≡ lines → ArePlaces bs (p ∷ ps) → p.rest ≡ [] → IsClosing theory table start lines ps (place_marks p u)
+  whole_by : (lines : List NotedLine) (p : Place) (ps : List Place) (u : NumberSet) → (bs : List Branching) → AreBranchings q table start bs → (last : List NotedLine) → Closes q table start bs last u
+      → lines_of (frames_of bs) ++ last ≡ lines → ArePlaces bs (p ∷ ps) → p.rest ≡ [] → IsClosing q table start lines ps (place_marks p u)
   whole_by lines p ps u [] o last c flat places none = absurd places
   whole_by lines p ps u (b ∷ bs) o last c flat places none = record {
     branchings = bs;
     are_branchings = o.1;
     last = whole b.frame last;
-    closes = subst (Closes theory table start bs (whole b.frame last)) (λ i. sets.union (sets.union (sym places.0.gathered i) u) (sym places.0.marks i))
-        (whole_is_closed theory table start b bs o.0 last u (sym places.0.rest ∙ none) c);
+    closes = subst (Closes q table start bs (whole b.frame last)) (λ i. sets.union (sets.union (sym places.0.gathered i) u) (sym places.0.marks i))
+        (whole_is_closed q table start b bs o.0 last u (sym places.0.rest ∙ none) c);
     lines_are = flat_whole b.frame (frames_of bs) last ∙ flat;
     are_places = places.1;
   }
 
-  pub closing_whole : (lines : List NotedLine) (p : Place) (ps : List Place) (u : NumberSet) → IsClosing theory table start lines (p ∷ ps) u → p.rest ≡ [] → IsClosing theory table start lines ps (place_marks p u)
+  pub closing_whole : (lines : List NotedLine) (p : Place) (ps : List Place) (u : NumberSet) → IsClosing q table start lines (p ∷ ps) u → p.rest ≡ [] → IsClosing q table start lines ps (place_marks p u)
   closing_whole lines p ps u h none = whole_by lines p ps u h.branchings h.are_branchings h.last h.closes h.lines_are h.are_places none
 
   -- it turns to its next alternative
-  turned_by : (lines : List NotedLine) (p : Place) (ps : List Place) (u : NumberSet) (a : Added) (rest : List Added) (new : List (Fact ℕ)) → (bs : List Branching) → AreBranchings theory table start bs → (last : List NotedLine)
-      → Closes theory table start bs last u → lines_of (frames_of bs) ++ last ≡ lines → ArePlaces bs (p ∷ ps) → p.rest ≡ a ∷ rest → Puts table a new
-      → IsTraced theory table start lines (turned_place p lines u rest ∷ ps) (p.facts ++ map (marked (sets.insert p.marks p.mark)) new)
+  turned_by : (lines : List NotedLine) (p : Place) (ps : List Place) (u : NumberSet) (a : Added) (rest : List Added) (new : List (Fact ℕ)) → (bs : List Branching) → AreBranchings q table start bs → (last : List NotedLine)
+      → Closes q table start bs last u → lines_of (frames_of bs) ++ last ≡ lines → ArePlaces bs (p ∷ ps) → p.rest ≡ a ∷ rest → Puts q.first table a new
+      → IsTraced q table start lines (turned_place p lines u rest ∷ ps) (p.facts ++ map (marked (sets.insert p.marks p.mark)) new)
   turned_by lines p ps u a rest new [] o last c flat places e puts = absurd places
   turned_by lines p ps u a rest new (b ∷ bs) o last c flat places e puts =
-      let is = turned_is_honest theory table start b bs o.0 last u a rest (sym places.0.rest ∙ e) c in
+      let is = turned_is_honest q table start b bs o.0 last u a rest (sym places.0.rest ∙ e) c in
       let turned_b = turned_branching b last u a rest in
       let same : lines_of (frames_of (turned_b ∷ bs)) ≡ lines = flat_whole b.frame (frames_of bs) last ∙ flat in
       let given : marks_in b ≡ sets.insert p.marks p.mark =
       ap (λ (t : Bool). cond t (sets.insert b.frame.branching.marks (mark_of b)) b.frame.branching.marks) o.0.branches ∙ (λ i. sets.insert (sym places.0.marks i) (sym places.0.mark i)) in
       record {
         tracing = at_alternative turned_b bs new;
-        is_honest = record { are_open = (is, o.1); singles = refl; leads = refl; covers = covered_child table (marks_in b) b.facts b.frame.at is.covers a new puts is.taken_is_next };
+        is_honest = record { are_open = (is, o.1); singles = refl; leads = refl; covers = covered_child q.first table (marks_in b) b.facts b.frame.at is.covers a new puts is.taken_is_next };
         lines_are = append-nil (lines_of (frames_of (turned_b ∷ bs))) ∙ same;
         are_places = (
           record {
@@ -166,17 +165,17 @@ module _ (theory : Theory) (table : List Shape) (start : Noted) where
         facts_are = λ i. sym places.0.facts i ++ map (marked (given i)) new;
       }
 
-  pub closing_turned : (lines : List NotedLine) (p : Place) (ps : List Place) (u : NumberSet) (a : Added) (rest : List Added) (new : List (Fact ℕ)) → IsClosing theory table start lines (p ∷ ps) u
-      → p.rest ≡ a ∷ rest → Puts table a new → IsTraced theory table start lines (turned_place p lines u rest ∷ ps) (p.facts ++ map (marked (sets.insert p.marks p.mark)) new)
+  pub closing_turned : (lines : List NotedLine) (p : Place) (ps : List Place) (u : NumberSet) (a : Added) (rest : List Added) (new : List (Fact ℕ)) → IsClosing q table start lines (p ∷ ps) u
+      → p.rest ≡ a ∷ rest → Puts q.first table a new → IsTraced q table start lines (turned_place p lines u rest ∷ ps) (p.facts ++ map (marked (sets.insert p.marks p.mark)) new)
   closing_turned lines p ps u a rest new h e puts = turned_by lines p ps u a rest new h.branchings h.are_branchings h.last h.closes h.lines_are h.are_places e puts
 
   -- no branching is open
-  ended_by : (lines : List NotedLine) (u : NumberSet) → (bs : List Branching) → (last : List NotedLine) → Closes theory table start bs last u
-      → lines_of (frames_of bs) ++ last ≡ lines → ArePlaces bs [] → leaves (step_of theory table) (start ∷ []) lines ≡ Some []
-  ended_by lines u [] last c flat places = ap (leaves (step_of theory table) (start ∷ [])) (sym flat) ∙ c.run
+  ended_by : (lines : List NotedLine) (u : NumberSet) → (bs : List Branching) → (last : List NotedLine) → Closes q table start bs last u
+      → lines_of (frames_of bs) ++ last ≡ lines → ArePlaces bs [] → leaves (step_of q table) (start ∷ []) lines ≡ Some []
+  ended_by lines u [] last c flat places = ap (leaves (step_of q table) (start ∷ [])) (sym flat) ∙ c.run
   ended_by lines u (b ∷ bs) last c flat places = absurd places
 
-  pub closing_ended : (lines : List NotedLine) (u : NumberSet) → IsClosing theory table start lines [] u → leaves (step_of theory table) (start ∷ []) lines ≡ Some []
+  pub closing_ended : (lines : List NotedLine) (u : NumberSet) → IsClosing q table start lines [] u → leaves (step_of q table) (start ∷ []) lines ≡ Some []
   closing_ended lines u h = ended_by lines u h.branchings h.last h.closes h.lines_are h.are_places
 
 -- ---- lines by their numbers
@@ -225,17 +224,22 @@ others_strip m n (l ∷ ls) up =
 
 -- ---- a trace at any time
 
-pub open_places : (theory : Theory) (table : List Shape) (start : Noted) (lines : List NotedLine) (ps : List Place) (ms : List MarkedFact) → IsTraced theory table start lines ps ms
-    → (left : List Noted) × (now : Noted) × (leaves (step_of theory table) (start ∷ []) lines ≡ Some (now ∷ left))
-open_places theory table start lines ps ms h =
+pub open_places : (q : Question) (table : List Shape) (start : Noted) (lines : List NotedLine) (ps : List Place) (ms : List MarkedFact) → IsTraced q table start lines ps ms
+    → (left : List Noted) × (now : Noted) × (leaves (step_of q table) (start ∷ []) lines ≡ Some (now ∷ left))
+open_places q table start lines ps ms h =
     let t = h.tracing in
-    (lefts (frames_of t.branchings), t.now, ap (leaves (step_of theory table) (start ∷ [])) (sym h.lines_are) ∙ trace_is_open theory table start t h.is_honest)
+    (lefts (frames_of t.branchings), t.now, ap (leaves (step_of q table) (start ∷ [])) (sym h.lines_are) ∙ trace_is_open q table start t h.is_honest)
 
-pub start_is_traced : (theory : Theory) (table : List Shape) (sub sup : Concept) (sub_number not_sup_number : ℕ) → tree_of table sub_number ≡ normal_form sub → tree_of table not_sup_number ≡ negated_form sup
-    → IsTraced theory table (noted_start sub sup) [] [] (marked sets.empty (Has 0 sub_number) ∷ marked sets.empty (Has 0 not_sup_number) ∷ [])
-start_is_traced theory table sub sup sub_number not_sup_number e f = record {
-  tracing = record { branchings = []; lines = []; now = noted_start sub sup; facts = marked sets.empty (Has 0 sub_number) ∷ marked sets.empty (Has 0 not_sup_number) ∷ [] };
-  is_honest = honest_start theory table sub sup sub_number not_sup_number e f;
+pub start_is_traced : (q : Question) (table : List Shape) (sub_number not_sup_number : ℕ) → tree_of table sub_number ≡ normal_form q.sub → tree_of table not_sup_number ≡ negated_form q.sup
+    → IsTraced q table (start_of q) [] [] (marked sets.empty (Has q.at sub_number) ∷ marked sets.empty (Has q.at not_sup_number) ∷ [])
+start_is_traced q table sub_number not_sup_number e f = record {
+  tracing = record {
+    branchings = [];
+    lines = [];
+    now = start_of q;
+    facts = marked sets.empty (Has q.at sub_number) ∷ marked sets.empty (Has q.at not_sup_number) ∷ [];
+  };
+  is_honest = honest_start q table sub_number not_sup_number e f;
   lines_are = refl;
   are_places = tt;
   facts_are = refl;

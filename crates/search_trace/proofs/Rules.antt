@@ -6,15 +6,16 @@ use Rattle.std.proofs.lemmas.Bool.Decides.{nat_tests}
 use Rattle.std.proofs.Math.Bool.{and-true, and_assoc}
 use Rattle.calculus_specs.specs.Concept.{Concept, bottom, name, complement, intersection, union, some_of, all_of, at_least, at_most, part_list}
 use Rattle.calculus_specs.specs.Normal.{negated_form}
-use Rattle.calculus_specs.specs.Rows.{Part, Theory, part_at, conjunct_at, are_name_positions, row_concept}
+use Rattle.calculus_specs.specs.Rows.{Part, part_at, conjunct_at, are_name_positions, row_concept}
 use Rattle.calculus_specs.specs.Rows.Part.{inclusion, range}
+use Rattle.calculus_specs.specs.declared.facts.Fact.{Fact}
 use Rattle.calculus_specs.specs.declared.facts.Fact.TheVariants.{Has, Apart, Same}
 use Rattle.calculus_specs.specs.Joins.{rep}
 use Rattle.calculus_specs.specs.State.{has_tree, has_edge, are_apart, all_apart}
 use Rattle.calculus_specs.specs.Line.{Line}
 use Rattle.calculus_specs.specs.Line.Line.{start_line, and_line, or_line, all_line, carry_line, row_line, range_line, some_line, least_line, choose_line, pair_line, bottom_line, clash_line, most_line, fact_line, differ_line}
-use Rattle.calculus_specs.specs.Rules.{on_any, Known, knows, knows_some_from, with_facts, with_nodes, when, at_concept, and_children, or_children, all_children, carry_children, row_children, range_children, some_children, least_children, choose_children, clash_children, are_fillers, most_children, children_of}
-use Rattle.search_trace.specs.Premises.{Premise, is_node, has_concept, has_edge_below, is_apart, holds, more_facts, more_nodes, with_added, is_new, Rule, and_rule, or_rule, all_rule, carry_rule, row_rule, range_rule, some_rule, least_rule, choose_rule, clash_rule, filler_premises, apart_premises, most_rule, rule_of, children_by, is_start}
+use Rattle.calculus_specs.specs.Rules.{Question, Known, knows, knows_some_from, with_facts, with_nodes, when, at_concept, and_children, or_children, all_children, carry_children, row_children, range_children, some_children, least_children, choose_children, clash_children, are_fillers, most_children, fact_children, children_of}
+use Rattle.search_trace.specs.Premises.{Premise, is_node, has_concept, has_edge_below, is_apart, holds, more_facts, more_nodes, with_added, is_new, Rule, and_rule, or_rule, all_rule, carry_rule, row_rule, range_rule, some_rule, least_rule, choose_rule, clash_rule, filler_premises, apart_premises, most_rule, fact_rule, rule_of, children_by, is_start}
 
 -- ---- tests
 
@@ -67,16 +68,16 @@ or_kids : (k : Known) (x : ℕ) (ds : List Concept) → map (λ d. with_facts k 
 or_kids k x [] = refl
 or_kids k x (d ∷ ds) = ap (λ (ks : List Known). with_facts k (Has x d ∷ []) ∷ ks) (or_kids k x ds)
 
-module _ (theory : Theory) (k : Known) where
+module _ (q : Question) (k : Known) where
   abbrev by : Option Rule → Option (List Known)
-  by r = children_by theory k r
+  by r = children_by q k r
 
   -- a known node with a concept
   at_node : (x : ℕ) (c : Concept) (more : List Premise) (o : Option (List Known))
-      → when (knows k x && has_tree k.facts x c) (when (list_all (holds theory k) more) o) ≡ when (list_all (holds theory k) (is_node x ∷ has_concept x c ∷ more)) o
+      → when (knows k x && has_tree k.facts x c) (when (list_all (holds q.theory k) more) o) ≡ when (list_all (holds q.theory k) (is_node x ∷ has_concept x c ∷ more)) o
   at_node x c more o =
-      sym (when_both (knows k x && has_tree k.facts x c) (list_all (holds theory k) more) o)
-      ∙ ap (λ (b : Bool). when b o) (and_assoc (knows k x) (has_tree k.facts x c) (list_all (holds theory k) more))
+      sym (when_both (knows k x && has_tree k.facts x c) (list_all (holds q.theory k) more) o)
+      ∙ ap (λ (b : Bool). when b o) (and_assoc (knows k x) (has_tree k.facts x c) (list_all (holds q.theory k) more))
 
   by_when : (b : Bool) (r : Option Rule) → by (when b r) ≡ when b (by r)
   by_when true r = refl
@@ -93,13 +94,13 @@ module _ (theory : Theory) (k : Known) where
       let kids = map (with_added k) (map (λ d. more_facts (Has x d ∷ [])) (part_list cs)) in
       ap (λ (ks : List Known). when (knows k x && has_tree k.facts x (union cs)) (Some ks)) (or_kids k x (part_list cs))
       ∙ at_node x (union cs) [] (Some kids)
-      ∙ ap (λ (b : Bool). when (list_all (holds theory k) (is_node x ∷ has_concept x (union cs) ∷ [])) (when b (Some kids))) (sym (all_new k x (part_list cs)))
+      ∙ ap (λ (b : Bool). when (list_all (holds q.theory k) (is_node x ∷ has_concept x (union cs) ∷ [])) (when b (Some kids))) (sym (all_new k x (part_list cs)))
   or_says x (Some c) = when_none (knows k x && has_tree k.facts x c)
 
-  all_says : (x y : ℕ) (o : Option Concept) → at_concept k x o (all_children theory k x y) ≡ by (all_rule x y o)
+  all_says : (x y : ℕ) (o : Option Concept) → at_concept k x o (all_children q.theory k x y) ≡ by (all_rule x y o)
   all_says x y None = refl
   all_says x y (Some (all_of s e)) =
-      let edge = has_edge k.facts (λ r. theory.below r s) x y in
+      let edge = has_edge k.facts (λ r. q.theory.below r s) x y in
       let kids : Option (List Known) = Some (with_facts k (Has y e ∷ []) ∷ []) in
       ap (λ (b : Bool). when (knows k x && has_tree k.facts x (all_of s e)) (when (knows k y && b) kids)) (sym (and-true edge))
       ∙ at_node x (all_of s e) (is_node y ∷ has_edge_below s x y ∷ []) kids
@@ -109,13 +110,13 @@ module _ (theory : Theory) (k : Known) where
   swap true b o = refl
   swap false b o = sym (when_none b)
 
-  carry_says : (x y t : ℕ) (o : Option Concept) → at_concept k x o (carry_children theory k x y t) ≡ by (carry_rule theory x y t o)
+  carry_says : (x y t : ℕ) (o : Option Concept) → at_concept k x o (carry_children q.theory k x y t) ≡ by (carry_rule q.theory x y t o)
   carry_says x y t None = refl
   carry_says x y t (Some (all_of s e)) =
       let known = knows k x && has_tree k.facts x (all_of s e) in
-      let is = theory.is_transitive t in
-      let below = theory.below t s in
-      let edge = has_edge k.facts (λ r. theory.below r t) x y in
+      let is = q.theory.is_transitive t in
+      let below = q.theory.below t s in
+      let edge = has_edge k.facts (λ r. q.theory.below r t) x y in
       let kids : Option (List Known) = Some (with_facts k (Has y (all_of t e) ∷ []) ∷ []) in
       ap (when known) (split_four is below (knows k y) edge kids)
       ∙ swap known (is && below) (when (knows k y && (edge && true)) kids)
@@ -130,13 +131,13 @@ module _ (theory : Theory) (k : Known) where
       let are = are_name_positions cs positions in
       let kids : Option (List Known) = Some (with_facts k (Has x (row_concept cs d positions) ∷ []) ∷ []) in
       split_three are (knows k x) (list_all (λ i. has_tree k.facts x (conjunct_at cs i)) positions) kids
-      ∙ ap (λ (b : Bool). when are (when (knows k x && b) kids)) (sym (list_all-map (holds theory k) (λ i. has_concept x (conjunct_at cs i)) positions))
+      ∙ ap (λ (b : Bool). when are (when (knows k x && b) kids)) (sym (list_all-map (holds q.theory k) (λ i. has_concept x (conjunct_at cs i)) positions))
       ∙ sym (by_when are (Some (record { premises = is_node x ∷ map (λ i. has_concept x (conjunct_at cs i)) positions; children = more_facts (Has x (row_concept cs d positions) ∷ []) ∷ [] })))
 
-  range_says : (x y : ℕ) (o : Option Part) → range_children theory k x y o ≡ by (range_rule x y o)
+  range_says : (x y : ℕ) (o : Option Part) → range_children q.theory k x y o ≡ by (range_rule x y o)
   range_says x y None = refl
   range_says x y (Some (inclusion cs d)) = refl
-  range_says x y (Some (range s d)) = ap (λ (b : Bool). when b (Some (with_facts k (Has y d ∷ []) ∷ []))) (chain_three (knows k x) (knows k y) (has_edge k.facts (λ r. theory.below r s) x y))
+  range_says x y (Some (range s d)) = ap (λ (b : Bool). when b (Some (with_facts k (Has y d ∷ []) ∷ []))) (chain_three (knows k x) (knows k y) (has_edge k.facts (λ r. q.theory.below r s) x y))
 
   some_says : (x y : ℕ) (o : Option Concept) → at_concept k x o (some_children k x y) ≡ by (some_rule x y o)
   some_says x y None = refl
@@ -174,34 +175,34 @@ module _ (theory : Theory) (k : Known) where
       ∙ at_node x (name a) (has_concept x (complement (name a)) ∷ []) (Some [])
   clash_says x (Some c) = when_none (knows k x && has_tree k.facts x c)
 
-  fillers_say : (x s : ℕ) (e : Concept) (ys : List ℕ) → list_all (holds theory k) (filler_premises x s e ys) ≡ are_fillers theory k x s e ys
+  fillers_say : (x s : ℕ) (e : Concept) (ys : List ℕ) → list_all (holds q.theory k) (filler_premises x s e ys) ≡ are_fillers q.theory k x s e ys
   fillers_say x s e [] = refl
   fillers_say x s e (y ∷ ys) =
-      let edge = has_edge k.facts (λ r. theory.below r s) x y in
+      let edge = has_edge k.facts (λ r. q.theory.below r s) x y in
       let has = has_tree k.facts y e in
       ap (λ (b : Bool). knows k y && (edge && (has && b))) (fillers_say x s e ys)
-      ∙ ap (λ (b : Bool). knows k y && b) (sym (and_assoc edge has (are_fillers theory k x s e ys)))
-      ∙ sym (and_assoc (knows k y) (edge && has) (are_fillers theory k x s e ys))
-      ∙ ap (λ (b : Bool). b && are_fillers theory k x s e ys) (sym (and_assoc (knows k y) edge has))
+      ∙ ap (λ (b : Bool). knows k y && b) (sym (and_assoc edge has (are_fillers q.theory k x s e ys)))
+      ∙ sym (and_assoc (knows k y) (edge && has) (are_fillers q.theory k x s e ys))
+      ∙ ap (λ (b : Bool). b && are_fillers q.theory k x s e ys) (sym (and_assoc (knows k y) edge has))
 
-  aparts_say : (ys : List ℕ) → list_all (holds theory k) (apart_premises ys) ≡ all_apart k.facts ys
+  aparts_say : (ys : List ℕ) → list_all (holds q.theory k) (apart_premises ys) ≡ all_apart k.facts ys
   aparts_say [] = refl
   aparts_say (y ∷ ys) =
-      list_all-append (holds theory k) (map (is_apart y) ys) (apart_premises ys)
-      ∙ ap (λ (b : Bool). b && list_all (holds theory k) (apart_premises ys)) (list_all-map (holds theory k) (is_apart y) ys)
+      list_all-append (holds q.theory k) (map (is_apart y) ys) (apart_premises ys)
+      ∙ ap (λ (b : Bool). b && list_all (holds q.theory k) (apart_premises ys)) (list_all-map (holds q.theory k) (is_apart y) ys)
       ∙ ap (λ (b : Bool). list_all (are_apart k.facts y) ys && b) (aparts_say ys)
 
-  most_says : (x : ℕ) (ys : List ℕ) (o : Option Concept) → at_concept k x o (most_children theory k x ys) ≡ by (most_rule x ys o)
+  most_says : (x : ℕ) (ys : List ℕ) (o : Option Concept) → at_concept k x o (most_children q.theory k x ys) ≡ by (most_rule x ys o)
   most_says x ys None = refl
   most_says x ys (Some (at_most n s e)) =
       let known = knows k x && has_tree k.facts x (at_most n s e) in
       let many = eqb (length ys) (n + 1) in
-      let fill = are_fillers theory k x s e ys in
+      let fill = are_fillers q.theory k x s e ys in
       let apart = all_apart k.facts ys in
       let more = filler_premises x s e ys ++ apart_premises ys in
-      let say : list_all (holds theory k) more ≡ (fill && apart) =
-      list_all-append (holds theory k) (filler_premises x s e ys) (apart_premises ys)
-      ∙ ap (λ (b : Bool). b && list_all (holds theory k) (apart_premises ys)) (fillers_say x s e ys)
+      let say : list_all (holds q.theory k) more ≡ (fill && apart) =
+      list_all-append (holds q.theory k) (filler_premises x s e ys) (apart_premises ys)
+      ∙ ap (λ (b : Bool). b && list_all (holds q.theory k) (apart_premises ys)) (fillers_say x s e ys)
       ∙ ap (λ (b : Bool). fill && b) (aparts_say ys) in
       ap (when known) (split_three many fill apart (Some []))
       ∙ swap known many (when (fill && apart) (Some []))
@@ -210,23 +211,27 @@ module _ (theory : Theory) (k : Known) where
       ∙ sym (by_when many (Some (record { premises = is_node x ∷ has_concept x (at_most n s e) ∷ more; children = [] })))
   most_says x ys (Some c) = when_none (knows k x && has_tree k.facts x c)
 
+fact_says : (q : Question) (k : Known) (o : Option (Fact Concept)) → fact_children k o ≡ children_by q k (fact_rule o)
+fact_says q k None = refl
+fact_says q k (Some f) = ap (λ (b : Bool). when b (Some (with_facts k (f ∷ []) ∷ []))) (sym (and-true (knows k 0)))
+
 -- but for `start`, the children of a line are those that its rule gives
-pub rules_say : (theory : Theory) (sub sup : Concept) (concept : ℕ → Option Concept) (k : Known) (line : Line) → is_start line ≡ false
-    → children_of (on_any theory sub sup) concept k line ≡ children_by theory k (rule_of theory concept line)
-rules_say theory sub sup concept k start_line h = cc
-rules_say theory sub sup concept k (and_line x c) h = and_says theory k x (concept c)
-rules_say theory sub sup concept k (or_line x c) h = or_says theory k x (concept c)
-rules_say theory sub sup concept k (all_line x y c) h = all_says theory k x y (concept c)
-rules_say theory sub sup concept k (carry_line x y t c) h = carry_says theory k x y t (concept c)
-rules_say theory sub sup concept k (row_line x a p positions) h = row_says theory k x positions (part_at theory a p)
-rules_say theory sub sup concept k (range_line x y a) h = range_says theory k x y (part_at theory a 1)
-rules_say theory sub sup concept k (some_line x y c) h = some_says theory k x y (concept c)
-rules_say theory sub sup concept k (least_line x y c) h = least_says theory k x y (concept c)
-rules_say theory sub sup concept k (choose_line y c) h = choose_says theory k y (concept c)
-rules_say theory sub sup concept k (pair_line y z) h = two_say theory k (knows k y) (knows k z) (Some (with_facts k (Same y z ∷ []) ∷ with_facts k (Apart y z ∷ []) ∷ []))
-rules_say theory sub sup concept k (bottom_line x) h = two_say theory k (knows k x) (has_tree k.facts x bottom) (Some [])
-rules_say theory sub sup concept k (clash_line x c) h = clash_says theory k x (concept c)
-rules_say theory sub sup concept k (most_line x c ys) h = most_says theory k x ys (concept c)
-rules_say theory sub sup concept k (fact_line a p) h = refl
-rules_say theory sub sup concept k (differ_line y z) h =
+pub rules_say : (q : Question) (concept : ℕ → Option Concept) (k : Known) (line : Line) → is_start line ≡ false
+    → children_of q concept k line ≡ children_by q k (rule_of q concept line)
+rules_say q concept k start_line h = cc
+rules_say q concept k (and_line x c) h = and_says q k x (concept c)
+rules_say q concept k (or_line x c) h = or_says q k x (concept c)
+rules_say q concept k (all_line x y c) h = all_says q k x y (concept c)
+rules_say q concept k (carry_line x y t c) h = carry_says q k x y t (concept c)
+rules_say q concept k (row_line x a p positions) h = row_says q k x positions (part_at q.theory a p)
+rules_say q concept k (range_line x y a) h = range_says q k x y (part_at q.theory a 1)
+rules_say q concept k (some_line x y c) h = some_says q k x y (concept c)
+rules_say q concept k (least_line x y c) h = least_says q k x y (concept c)
+rules_say q concept k (choose_line y c) h = choose_says q k y (concept c)
+rules_say q concept k (pair_line y z) h = two_say q k (knows k y) (knows k z) (Some (with_facts k (Same y z ∷ []) ∷ with_facts k (Apart y z ∷ []) ∷ []))
+rules_say q concept k (bottom_line x) h = two_say q k (knows k x) (has_tree k.facts x bottom) (Some [])
+rules_say q concept k (clash_line x c) h = clash_says q k x (concept c)
+rules_say q concept k (most_line x c ys) h = most_says q k x ys (concept c)
+rules_say q concept k (fact_line a p) h = fact_says q k (q.fact_of a p)
+rules_say q concept k (differ_line y z) h =
     ap (λ (b : Bool). when b (Some [])) (chain_four (knows k y) (knows k z) (are_apart k.facts y z) (eqb (rep k.facts y) (rep k.facts z)))

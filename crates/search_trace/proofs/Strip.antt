@@ -8,9 +8,8 @@ use Rattle.std.proofs.lemmas.Bool.{cases_Bool, and_parts, and_from, or_cases, or
 use Rattle.std.proofs.lemmas.List.Folds.{list_any-append}
 use Rattle.calculus_specs.specs.Concept.{Concept}
 use Rattle.lane_sieve.specs.Sets.{NumberSet}
-use Rattle.calculus_specs.specs.Rows.{Theory}
 use Rattle.calculus_specs.specs.State.{fresh_facts}
-use Rattle.calculus_specs.specs.Rules.{knows_some_from, when}
+use Rattle.calculus_specs.specs.Rules.{Question, knows_some_from, when}
 use Rattle.search_trace.specs.Premises.{Added, more_facts, more_nodes, Rule, rule_of, holds, is_new, is_single, is_branching, is_clash}
 use Rattle.search_trace.specs.Leaves.{leaves}
 use Rattle.search_trace.specs.Noted.{Marked, marked, is_within, within, items, Noted, known, known_within, noted_added, NotedLine, marks_given, noted_by, noted_children}
@@ -122,9 +121,9 @@ when_true b o h = ap (λ (c : Bool). when c o) h
 some_eq : {A : Type 0} → (a b : A) → Some a ≡ Some b → a ≡ b
 some_eq a b h = cc
 
-module _ (theory : Theory) (concept : ℕ → Option Concept) (may_stay : NumberSet → Bool) (down : IsDownward may_stay) where
+module _ (q : Question) (concept : ℕ → Option Concept) (may_stay : NumberSet → Bool) (down : IsDownward may_stay) where
   abbrev step : Noted → NotedLine → Option (List Noted)
-  step = noted_children theory concept
+  step = noted_children q concept
 
   pub record Kept (olds : List Noted) (o : Option (List Noted)) : Type 0 where
     pub news : List Noted
@@ -132,38 +131,38 @@ module _ (theory : Theory) (concept : ℕ → Option Concept) (may_stay : Number
     pub keep : AllKeep may_stay olds news
 
   by_keeps : (old new : Noted) (l : NotedLine) (r : Option Rule) → may_stay l.marks ≡ true → Keeps may_stay old new
-      → (kids : List Noted) → noted_by theory concept old l r ≡ Some kids → Kept kids (noted_by theory concept new l r)
+      → (kids : List Noted) → noted_by q concept old l r ≡ Some kids → Kept kids (noted_by q concept new l r)
   by_keeps old new l None ok k kids h = cc
   by_keeps old new l (Some r) ok k kids h =
       let u = l.marks in
       let g = marks_given l in
-      let premises = list_all (holds theory (known_within u old)) r.premises in
+      let premises = list_all (holds q.theory (known_within u old)) r.premises in
       let fresh = list_all (is_new (known old)) r.children in
       let a = when_some premises (when fresh (Some (map (noted_added g old) r.children))) kids h in
       let b = when_some fresh (Some (map (noted_added g old) r.children)) kids a.1 in
       let part : IsPart (known_within u old) (known_within u new) = record { nodes = within_stays may_stay down u ok old.nodes new.nodes k.nodes; facts = within_stays may_stay down u ok old.facts new.facts k.facts } in
-      let they_hold = premises_stay theory (known_within u old) (known_within u new) part r.premises a.0 in
+      let they_hold = premises_stay q.theory (known_within u old) (known_within u new) part r.premises a.0 in
       let are_new = all_new_stay may_stay old new k.no_more r.children b.0 in
       record {
         news = map (noted_added g new) r.children;
         are =
-            when_true (list_all (holds theory (known_within u new)) r.premises) (when (list_all (is_new (known new)) r.children) (Some (map (noted_added g new) r.children))) they_hold
+            when_true (list_all (holds q.theory (known_within u new)) r.premises) (when (list_all (is_new (known new)) r.children) (Some (map (noted_added g new) r.children))) they_hold
             ∙ when_true (list_all (is_new (known new)) r.children) (Some (map (noted_added g new) r.children)) are_new;
         keep = subst (λ (ks : List Noted). AllKeep may_stay ks (map (noted_added g new) r.children)) (some_eq (map (noted_added g old) r.children) kids b.1) (all_added_keep may_stay g old new r.children k);
       }
 
   pub step_keeps : (old new : Noted) (l : NotedLine) → may_stay l.marks ≡ true → Keeps may_stay old new
       → (kids : List Noted) → step old l ≡ Some kids → Kept kids (step new l)
-  step_keeps old new l ok k kids h = by_keeps old new l (rule_of theory concept l.line) ok k kids h
+  step_keeps old new l ok k kids h = by_keeps old new l (rule_of q concept l.line) ok k kids h
 
   -- a line with one child that may not stay
   by_dropped : (old new : Noted) (l : NotedLine) (r : Option Rule) → may_stay l.marks ≡ false → marks_given l ≡ l.marks → HasOneChild r → Keeps may_stay old new
-      → (kids : List Noted) → noted_by theory concept old l r ≡ Some kids → AllKeep may_stay kids (new ∷ [])
+      → (kids : List Noted) → noted_by q concept old l r ≡ Some kids → AllKeep may_stay kids (new ∷ [])
   by_dropped old new l None out given one k kids h = cc
   by_dropped old new l (Some r) out given one k kids h =
       let u = l.marks in
       let g = marks_given l in
-      let premises = list_all (holds theory (known_within u old)) r.premises in
+      let premises = list_all (holds q.theory (known_within u old)) r.premises in
       let fresh = list_all (is_new (known old)) r.children in
       let a = when_some premises (when fresh (Some (map (noted_added g old) r.children))) kids h in
       let b = when_some fresh (Some (map (noted_added g old) r.children)) kids a.1 in
@@ -202,7 +201,7 @@ module _ (theory : Theory) (concept : ℕ → Option Concept) (may_stay : Number
       → (r : Option (List Noted)) → step o l ≡ r → Rest ls outs → after_kids ls olds r ≡ Some outs → Kept outs (leaves step (n ∷ news) (stay ls))
   on_dropped o n olds news outs l ls out single k ks None e rest h = cc
   on_dropped o n olds news outs l ls out single k ks (Some kids) e rest h =
-      let one = by_dropped o n l (rule_of theory concept l.line) out (single_given l single) (has_one theory concept l.line single) k kids e in
+      let one = by_dropped o n l (rule_of q concept l.line) out (single_given l single) (has_one q concept l.line single) k kids e in
       rest (kids ++ olds) (n ∷ news) (keep_append may_stay kids olds (n ∷ []) news one ks) h
 
   or_out : (a b : Bool) → (a || b) ≡ true → b ≡ false → a ≡ true

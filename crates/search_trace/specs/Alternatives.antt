@@ -1,7 +1,7 @@
 -- The choices of a search as lines that branch.
 use Rattle.std.specs.Prelude.{◌≡◌, ℕ, ◌+◌, ◌<◌, List, [], ◌∷◌, length, Some, slice_get}
 use Rattle.calculus_specs.specs.Shape.{Shape, IsTable}
-use Rattle.calculus_specs.specs.Rows.{Theory}
+use Rattle.calculus_specs.specs.Rules.{Question}
 use Rattle.calculus_specs.specs.declared.facts.Fact.{Fact}
 use Rattle.calculus_specs.specs.Line.{Line}
 use Rattle.calculus_specs.specs.Line.Line.{or_line, choose_line, pair_line}
@@ -24,12 +24,12 @@ HasShape table (Choose y c) = c < length table
 HasShape table (Pair y z) = Unit {0}
 
 -- the rule of the choice's line, whose child in the place of the alternative adds its fact
-pub record IsPut (theory : Theory) (table : List Shape) (b : Branch) (k : ℕ) (f : Fact ℕ) : Type 0 where
+pub record IsPut (q : Question) (table : List Shape) (b : Branch) (k : ℕ) (f : Fact ℕ) : Type 0 where
   pub rule : Rule
-  pub is_rule : rule_of theory (concept_in table) (branch_line b) ≡ Some rule
+  pub is_rule : rule_of q (concept_in table) (branch_line b) ≡ Some rule
   pub added : Added
   pub is_child : slice_get rule.children k ≡ Some added
-  pub puts : Puts table added (f ∷ [])
+  pub puts : Puts q.first table added (f ∷ [])
 
 abbrev pub AlternativesArePut : Type 0
-AlternativesArePut = (theory : Theory) (table : List Shape) → IsTable table → (b : Branch) → HasShape table b → (k : ℕ) (f : Fact ℕ) → IsAlternative table b (k + 1) f → IsPut theory table b k f
+AlternativesArePut = (q : Question) (table : List Shape) → IsTable table → (b : Branch) → HasShape table b → (k : ℕ) (f : Fact ℕ) → IsAlternative table b (k + 1) f → IsPut q table b k f

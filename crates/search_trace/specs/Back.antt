@@ -4,7 +4,7 @@ use Rattle.std.specs.List.{list_any, list_all}
 use Rattle.std.specs.FinSet as sets
 use Rattle.lane_sieve.specs.Sets.{NumberSet}
 use Rattle.calculus_specs.specs.Shape.{Shape}
-use Rattle.calculus_specs.specs.Rows.{Theory}
+use Rattle.calculus_specs.specs.Rules.{Question}
 use Rattle.tableau_specs.specs.Lines.{concept_in}
 use Rattle.search_trace.specs.Premises.{Added, is_branching, is_single}
 use Rattle.search_trace.specs.Leaves.{leaves}
@@ -57,20 +57,20 @@ turned_branching b lines u a rest = record {
   rest = rest;
 }
 
-module _ (theory : Theory) (table : List Shape) where
+module _ (q : Question) (table : List Shape) where
   abbrev pub step_of : Noted → NotedLine → Option (List Noted)
-  step_of = noted_children theory (concept_in table)
+  step_of = noted_children q (concept_in table)
 
   pub record IsBranching (from : Noted) (older : List Branching) (b : Branching) : Type 0 where
     pub is_open : IsOpen step_of from b.frame
     pub branches : is_branching b.frame.branching.line ≡ true
     pub singles : list_all (λ l. is_single l.line) b.frame.before ≡ true
     pub gathers : RestsWithin older b.gathered b.frame.closed
-    pub covers : Covers table b.facts b.frame.at
+    pub covers : Covers q.first table b.facts b.frame.at
     pub kid_is : b.frame.kid ≡ child_by b b.taken
     pub left_is : b.frame.left ≡ map (child_by b) b.rest
-    pub taken_is_next : is_next b.facts b.taken ≡ true
-    pub rest_is_next : list_all (is_next b.facts) b.rest ≡ true
+    pub taken_is_next : is_next q.first b.facts b.taken ≡ true
+    pub rest_is_next : list_all (is_next q.first b.facts) b.rest ≡ true
 
   abbrev pub AreBranchings : Noted → List Branching → Type 0
   AreBranchings start [] = Unit {0}

@@ -4,7 +4,7 @@ use Rattle.std.specs.List.{list_all}
 use Rattle.std.specs.FinSet as sets
 use Rattle.lane_sieve.specs.Sets.{NumberSet}
 use Rattle.calculus_specs.specs.Shape.{Shape}
-use Rattle.calculus_specs.specs.Rows.{Theory}
+use Rattle.calculus_specs.specs.Rules.{Question}
 use Rattle.tableau_specs.specs.declared.Item.{Item}
 use Rattle.tableau_specs.specs.declared.Item.TheVariants.{Fact as Says, Mark}
 use Rattle.calculus_specs.specs.Line.{Line}
@@ -32,7 +32,7 @@ abbrev pub marked_facts : List Item → List MarkedFact
 marked_facts is = facts_after sets.empty is
 
 -- a rule whose premises hold by all facts of the trail
-pub record HoldsByAll (theory : Theory) (table : List Shape) (u : NumberSet) (ms : List MarkedFact) (line : Line) : Type 0 where
+pub record HoldsByAll (q : Question) (table : List Shape) (u : NumberSet) (ms : List MarkedFact) (line : Line) : Type 0 where
   pub rule : Rule
-  pub is_rule : rule_of theory (concept_in table) line ≡ Some rule
-  pub premises : list_all (holds theory (trail_within table u ms)) rule.premises ≡ true
+  pub is_rule : rule_of q (concept_in table) line ≡ Some rule
+  pub premises : list_all (holds q.theory (trail_within q.first table u ms)) rule.premises ≡ true

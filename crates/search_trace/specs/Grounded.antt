@@ -15,12 +15,12 @@ named (Apart x y) = x ∷ y ∷ []
 named (Same x y) = x ∷ y ∷ []
 
 -- whether the node is known by facts that rest on marks in u
-abbrev pub is_known_within : NumberSet → List MarkedFact → ℕ → Bool
-is_known_within u ms x = list_any (λ y. y == x) (within u (nodes_of ms))
+abbrev pub is_known_within : ℕ → NumberSet → List MarkedFact → ℕ → Bool
+is_known_within first u ms x = list_any (λ y. y == x) (within u (nodes_of first ms))
 
 -- whether the nodes of a fact with these marks are
-abbrev pub is_grounded : List MarkedFact → MarkedFact → Bool
-is_grounded ms m = list_all (is_known_within m.marks ms) (named m.item)
+abbrev pub is_grounded : ℕ → List MarkedFact → MarkedFact → Bool
+is_grounded first ms m = list_all (is_known_within first m.marks ms) (named m.item)
 
-abbrev pub AreGrounded : List MarkedFact → Type 0
-AreGrounded ms = list_all (is_grounded ms) ms ≡ true
+abbrev pub AreGrounded : ℕ → List MarkedFact → Type 0
+AreGrounded first ms = list_all (is_grounded first ms) ms ≡ true

@@ -4,7 +4,7 @@ use Rattle.std.specs.Prelude.{◌≡◌, ℕ, ◌++◌, true, List, [], ◌∷�
 use Rattle.std.specs.List.{list_all}
 use Rattle.std.specs.FinSet as sets
 use Rattle.calculus_specs.specs.Shape.{Shape}
-use Rattle.calculus_specs.specs.Rows.{Theory}
+use Rattle.calculus_specs.specs.Rules.{Question}
 use Rattle.calculus_specs.specs.declared.facts.Fact.{Fact}
 use Rattle.search_trace.specs.Premises.{Added, is_single}
 use Rattle.search_trace.specs.Leaves.{leaves}
@@ -25,11 +25,11 @@ pub record Tracing : Type 0 where
 abbrev pub trace_of : Tracing → List NotedLine
 trace_of t = lines_of (frames_of t.branchings) ++ t.lines
 
-pub record IsHonest (theory : Theory) (table : List Shape) (start : Noted) (t : Tracing) : Type 0 where
-  pub are_open : AreBranchings theory table start t.branchings
+pub record IsHonest (q : Question) (table : List Shape) (start : Noted) (t : Tracing) : Type 0 where
+  pub are_open : AreBranchings q table start t.branchings
   pub singles : list_all (λ l. is_single l.line) t.lines ≡ true
-  pub leads : leaves (step_of theory table) (began start (frames_of t.branchings) ∷ []) t.lines ≡ Some (t.now ∷ [])
-  pub covers : Covers table t.facts t.now
+  pub leads : leaves (step_of q table) (began start (frames_of t.branchings) ∷ []) t.lines ≡ Some (t.now ∷ [])
+  pub covers : Covers q.first table t.facts t.now
 
 -- after a line with one child, of which the search puts these facts on its trail
 abbrev pub after_line : Tracing → NotedLine → Added → List (Fact ℕ) → Tracing

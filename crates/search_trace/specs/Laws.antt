@@ -2,18 +2,17 @@
 use Rattle.std.specs.Prelude.{◌≡◌, ℕ, Bool, true, List, [], ◌∷◌, ◌++◌, map, length, Some}
 use Rattle.std.specs.List.{list_all}
 use Rattle.std.specs.FinSet as sets
-use Rattle.calculus_specs.specs.Concept.{Concept}
 use Rattle.lane_sieve.specs.Sets.{NumberSet}
 use Rattle.calculus_specs.specs.Normal.{normal_form, negated_form}
 use Rattle.calculus_specs.specs.Shape.{Shape}
 use Rattle.calculus_specs.specs.Tree.{tree_of}
-use Rattle.calculus_specs.specs.Rows.{Theory}
+use Rattle.calculus_specs.specs.Rules.{Question}
 use Rattle.calculus_specs.specs.declared.facts.Fact.{Fact}
 use Rattle.calculus_specs.specs.declared.facts.Fact.TheVariants.{Has}
 use Rattle.calculus_specs.specs.Line.{Line}
 use Rattle.search_trace.specs.Premises.{Added, Rule, is_branching, is_single}
 use Rattle.search_trace.specs.Leaves.{leaves}
-use Rattle.search_trace.specs.Noted.{marked, Noted, noted_start}
+use Rattle.search_trace.specs.Noted.{marked, Noted, start_of}
 use Rattle.search_trace.specs.Trail.{MarkedFact, RuleHolds, Puts}
 use Rattle.search_trace.specs.Back.{step_of}
 use Rattle.search_trace.specs.Places.{Place, IsTraced, IsClosing, opened_place, turned_place}
@@ -38,39 +37,39 @@ AreAt [] (p ∷ ps) = ⊥
 AreAt (o ∷ os) [] = ⊥
 AreAt (o ∷ os) (p ∷ ps) = IsAt o p × AreAt os ps
 
-module _ (theory : Theory) (table : List Shape) (start : Noted) where
+module _ (q : Question) (table : List Shape) (start : Noted) where
   -- it is the trace of a search whose open branchings are at these places, and whose trail has these facts
   pub record IsTracedAt (t : TraceLists) (ps : List Place) (ms : List MarkedFact) : Type 0 where
     pub are_at : AreAt t.opens ps
-    pub traced : IsTraced theory table start t.lines ps ms
+    pub traced : IsTraced q table start t.lines ps ms
 
   -- it is such a trace in which the open child of the latest branching is closed, and that rests on marks in u
   pub record IsClosingAt (t : TraceLists) (ps : List Place) (u : NumberSet) : Type 0 where
     pub are_at : AreAt t.opens ps
-    pub closing : IsClosing theory table start t.lines ps u
+    pub closing : IsClosing q table start t.lines ps u
 
   -- what a line more makes of it
   pub record LinesAreTraced (t : TraceLists) (ps : List Place) (ms : List MarkedFact) : Type 0 where
     -- one with one child, of which the search puts some facts on its trail
-    pub single : (line : Line) (marks : NumberSet) (r : Rule) (a : Added) (new : List (Fact ℕ)) → RuleHolds theory table ms (next_line t line marks) r → r.children ≡ a ∷ [] → is_single line ≡ true → Puts table a new
+    pub single : (line : Line) (marks : NumberSet) (r : Rule) (a : Added) (new : List (Fact ℕ)) → RuleHolds q table ms (next_line t line marks) r → r.children ≡ a ∷ [] → is_single line ≡ true → Puts q.first table a new
         → IsTracedAt (with_line t line marks) ps (ms ++ map (marked marks) new)
     -- one that branches, at its first alternative
-    pub branching : (line : Line) (marks : NumberSet) (r : Rule) (a : Added) (rest : List Added) (new : List (Fact ℕ)) → RuleHolds theory table ms (next_line t line marks) r → r.children ≡ a ∷ rest → is_branching line ≡ true → Puts table a new
+    pub branching : (line : Line) (marks : NumberSet) (r : Rule) (a : Added) (rest : List Added) (new : List (Fact ℕ)) → RuleHolds q table ms (next_line t line marks) r → r.children ≡ a ∷ rest → is_branching line ≡ true → Puts q.first table a new
         → IsTracedAt (with_branching t line marks (length rest)) (opened_place t.lines ms (next_line t line marks) rest ∷ ps) (ms ++ map (marked (sets.insert marks t.next)) new)
     -- a clash
-    pub clash : (line : Line) (marks : NumberSet) (r : Rule) → RuleHolds theory table ms (next_line t line marks) r → r.children ≡ [] → IsClosingAt (with_line t line marks) ps marks
+    pub clash : (line : Line) (marks : NumberSet) (r : Rule) → RuleHolds q table ms (next_line t line marks) r → r.children ≡ [] → IsClosingAt (with_line t line marks) ps marks
 
   -- the branching of this place, which is the latest that is left, is at its next alternative
   pub record IsTurnedAt (after : TraceLists) (used : NumberSet) (p : Place) (older : List Place) (mark : ℕ) (marks : NumberSet) : Type 0 where
     pub mark_is : mark ≡ p.mark
     pub marks_are : marks ≡ sets.insert p.marks p.mark
     pub has_next : (a : Added) × (rest : List Added) × (p.rest ≡ a ∷ rest)
-    pub traced : (a : Added) (rest : List Added) (new : List (Fact ℕ)) → p.rest ≡ a ∷ rest → Puts table a new
+    pub traced : (a : Added) (rest : List Added) (new : List (Fact ℕ)) → p.rest ≡ a ∷ rest → Puts q.first table a new
         → IsTracedAt after (turned_place p after.lines used rest ∷ older) (p.facts ++ map (marked marks) new)
 
   -- where a trace that has gone back is: the latest branching that is left has turned, or the lines close everything
   abbrev pub IsLeft : TraceLists → NumberSet → List Place → Back → Type 0
-  IsLeft after used [] Closed = leaves (step_of theory table) (start ∷ []) after.lines ≡ Some []
+  IsLeft after used [] Closed = leaves (step_of q table) (start ∷ []) after.lines ≡ Some []
   IsLeft after used [] (Turned mark marks) = ⊥
   IsLeft after used (p ∷ older) Closed = ⊥
   IsLeft after used (p ∷ older) (Turned mark marks) = IsTurnedAt after used p older mark marks
@@ -85,14 +84,14 @@ module _ (theory : Theory) (table : List Shape) (start : Noted) where
 
 -- a search that begins has a trace
 abbrev pub TracesBegin : Type 0
-TracesBegin = (theory : Theory) (table : List Shape) (sub sup : Concept) (sub_number not_sup_number : ℕ) → tree_of table sub_number ≡ normal_form sub → tree_of table not_sup_number ≡ negated_form sup
-    → IsTracedAt theory table (noted_start sub sup) begun [] (marked sets.empty (Has 0 sub_number) ∷ marked sets.empty (Has 0 not_sup_number) ∷ [])
+TracesBegin = (q : Question) (table : List Shape) (sub_number not_sup_number : ℕ) → tree_of table sub_number ≡ normal_form q.sub → tree_of table not_sup_number ≡ negated_form q.sup
+    → IsTracedAt q table (start_of q) begun [] (marked sets.empty (Has q.at sub_number) ∷ marked sets.empty (Has q.at not_sup_number) ∷ [])
 
 abbrev pub TracesGoOn : Type 0
-TracesGoOn = (theory : Theory) (table : List Shape) (start : Noted) (t : TraceLists) (ps : List Place) (ms : List MarkedFact) → IsTracedAt theory table start t ps ms → LinesAreTraced theory table start t ps ms
+TracesGoOn = (q : Question) (table : List Shape) (start : Noted) (t : TraceLists) (ps : List Place) (ms : List MarkedFact) → IsTracedAt q table start t ps ms → LinesAreTraced q table start t ps ms
 
 abbrev pub TracesGoBack : Type 0
-TracesGoBack = (theory : Theory) (table : List Shape) (start : Noted) (t : TraceLists) (ps : List Place) (u : NumberSet) → IsClosingAt theory table start t ps u → GoesBack theory table start t ps u
+TracesGoBack = (q : Question) (table : List Shape) (start : Noted) (t : TraceLists) (ps : List Place) (u : NumberSet) → IsClosingAt q table start t ps u → GoesBack q table start t ps u
 
 -- going back leaves no line but lines that were there
 abbrev pub GoingBackKeepsKinds : Type 0

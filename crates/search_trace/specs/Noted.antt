@@ -1,14 +1,13 @@
 -- Branches whose nodes and facts each rest on a set of marks, and rule lines that each rest on one.
-use Rattle.std.specs.Prelude.{ℕ, ◌&&◌, not, Bool, List, [], ◌∷◌, ◌++◌, map, filter, Option, Some, None, if◌then◌else◌}
+use Rattle.std.specs.Prelude.{ℕ, ◌&&◌, not, Bool, List, ◌++◌, map, filter, Option, Some, None, if◌then◌else◌}
 use Rattle.std.specs.List.{list_any, list_all, range_with_len}
 use Rattle.std.specs.FinSet as sets
 use Rattle.calculus_specs.specs.Concept.{Concept}
 use Rattle.lane_sieve.specs.Sets.{NumberSet}
-use Rattle.calculus_specs.specs.Rows.{Theory}
 use Rattle.calculus_specs.specs.declared.facts.Fact.{Fact}
 use Rattle.calculus_specs.specs.State.{fresh_facts}
 use Rattle.calculus_specs.specs.Line.{Line}
-use Rattle.calculus_specs.specs.Rules.{Known, asked_facts, when}
+use Rattle.calculus_specs.specs.Rules.{Question, Known, asked_facts, when}
 use Rattle.search_trace.specs.Premises.{Added, more_facts, more_nodes, Rule, rule_of, holds, is_new, is_branching, is_single}
 
 -- a thing that rests on marks
@@ -57,22 +56,25 @@ pub record NotedLine : Type 0 where
 abbrev pub marks_given : NotedLine → NumberSet
 marks_given l = if is_branching l.line then sets.insert l.marks l.number else l.marks
 
-module _ (theory : Theory) (concept : ℕ → Option Concept) where
+module _ (q : Question) (concept : ℕ → Option Concept) where
   abbrev pub noted_by : Noted → NotedLine → Option Rule → Option (List Noted)
   noted_by k l None = None
   noted_by k l (Some r) =
-      when (list_all (holds theory (known_within l.marks k)) r.premises) (when (list_all (is_new (known k)) r.children) (Some (map (noted_added (marks_given l) k) r.children)))
+      when (list_all (holds q.theory (known_within l.marks k)) r.premises) (when (list_all (is_new (known k)) r.children) (Some (map (noted_added (marks_given l) k) r.children)))
 
   -- the children of a line: its premises hold by what rests on its marks alone, and its new nodes are not known at all
   abbrev pub noted_children : Noted → NotedLine → Option (List Noted)
-  noted_children k l = noted_by k l (rule_of theory concept l.line)
+  noted_children k l = noted_by k l (rule_of q concept l.line)
 
--- the branch of `start` where there are no individuals: node 0, which is in `sub` and not in `sup`; it rests on no mark
-abbrev pub noted_start : Concept → Concept → Noted
-noted_start sub sup = record {
-  nodes = marked sets.empty 0 ∷ [];
-  facts = map (marked sets.empty) (asked_facts 0 sub sup);
+-- the branch of `start`: the first nodes, of which the one in question is in `sub` and not in `sup`; it rests on no mark
+abbrev pub noted_start : ℕ → ℕ → Concept → Concept → Noted
+noted_start first at sub sup = record {
+  nodes = map (marked sets.empty) (range_with_len 0 first);
+  facts = map (marked sets.empty) (asked_facts at sub sup);
 }
+
+abbrev pub start_of : Question → Noted
+start_of q = noted_start q.first q.at q.sub q.sup
 
 -- ---- taking out what rests on a mark
 

@@ -4,7 +4,7 @@ use Rattle.std.specs.List.{list_any}
 use Rattle.std.specs.FinSet as sets
 use Rattle.lane_sieve.specs.Sets.{NumberSet}
 use Rattle.calculus_specs.specs.Shape.{Shape}
-use Rattle.calculus_specs.specs.Rows.{Theory}
+use Rattle.calculus_specs.specs.Rules.{Question}
 use Rattle.search_trace.specs.Premises.{Added}
 use Rattle.search_trace.specs.Frames.{lines_of}
 use Rattle.search_trace.specs.Noted.{Noted, NotedLine, rests_on, strip}
@@ -56,11 +56,11 @@ place_marks p u = sets.union (sets.union p.gathered u) p.marks
 abbrev pub without_place : Place → List NotedLine → List NotedLine
 without_place p lines = take p.at lines ++ strip p.mark (drop p.child lines)
 
-module _ (theory : Theory) (table : List Shape) (start : Noted) where
+module _ (q : Question) (table : List Shape) (start : Noted) where
   -- the lines are the trace of a search whose open branchings, latest first, and whose trail are these
   pub record IsTraced (lines : List NotedLine) (ps : List Place) (ms : List MarkedFact) : Type 0 where
     pub tracing : Tracing
-    pub is_honest : IsHonest theory table start tracing
+    pub is_honest : IsHonest q table start tracing
     pub lines_are : trace_of tracing ≡ lines
     pub are_places : ArePlaces tracing.branchings ps
     pub facts_are : tracing.facts ≡ ms
@@ -68,9 +68,9 @@ module _ (theory : Theory) (table : List Shape) (start : Noted) where
   -- the lines are such a trace in which the open child of the latest branching is closed, and that rests on marks in u
   pub record IsClosing (lines : List NotedLine) (ps : List Place) (u : NumberSet) : Type 0 where
     pub branchings : List Branching
-    pub are_branchings : AreBranchings theory table start branchings
+    pub are_branchings : AreBranchings q table start branchings
     pub last : List NotedLine
-    pub closes : Closes theory table start branchings last u
+    pub closes : Closes q table start branchings last u
     pub lines_are : lines_of (frames_of branchings) ++ last ≡ lines
     pub are_places : ArePlaces branchings ps
 

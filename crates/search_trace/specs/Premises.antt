@@ -11,7 +11,7 @@ use Rattle.calculus_specs.specs.Joins.{rep}
 use Rattle.calculus_specs.specs.State.{has_tree, has_edge, are_apart}
 use Rattle.calculus_specs.specs.Line.{Line}
 use Rattle.calculus_specs.specs.Line.Line.{start_line, and_line, or_line, all_line, carry_line, row_line, range_line, some_line, least_line, choose_line, pair_line, bottom_line, clash_line, most_line, fact_line, differ_line}
-use Rattle.calculus_specs.specs.Rules.{Known, knows, knows_some_from, with_facts, with_nodes, when}
+use Rattle.calculus_specs.specs.Rules.{Question, Known, knows, knows_some_from, with_facts, with_nodes, when}
 
 -- ---- premises
 
@@ -117,29 +117,34 @@ most_rule x ys (Some (at_most n s e)) = when (length ys == n + 1) (Some (record 
 }))
 most_rule x ys _ = None
 
--- The rule that a line uses, but for `start`, which has its own branch. A line `fact` has none: no axiom gives facts.
-abbrev pub rule_of : Theory → (ℕ → Option Concept) → Line → Option Rule
-rule_of theory concept start_line = None
-rule_of theory concept (and_line x c) = and_rule x (concept c)
-rule_of theory concept (or_line x c) = or_rule x (concept c)
-rule_of theory concept (all_line x y c) = all_rule x y (concept c)
-rule_of theory concept (carry_line x y t c) = carry_rule theory x y t (concept c)
-rule_of theory concept (row_line x a p positions) = row_rule x positions (part_at theory a p)
-rule_of theory concept (range_line x y a) = range_rule x y (part_at theory a 1)
-rule_of theory concept (some_line x y c) = some_rule x y (concept c)
-rule_of theory concept (least_line x y c) = least_rule x y (concept c)
-rule_of theory concept (choose_line y c) = choose_rule y (concept c)
-rule_of theory concept (pair_line y z) = Some (record { premises = is_node y ∷ is_node z ∷ []; children = more_facts (Same y z ∷ []) ∷ more_facts (Apart y z ∷ []) ∷ [] })
-rule_of theory concept (bottom_line x) = Some (record { premises = is_node x ∷ has_concept x bottom ∷ []; children = [] })
-rule_of theory concept (clash_line x c) = clash_rule x (concept c)
-rule_of theory concept (most_line x c ys) = most_rule x ys (concept c)
-rule_of theory concept (fact_line a p) = None
-rule_of theory concept (differ_line y z) = Some (record { premises = is_node y ∷ is_node z ∷ is_apart y z ∷ is_one y z ∷ []; children = [] })
+-- the fact that an axiom gives, once the first nodes are known
+abbrev pub fact_rule : Option (Fact Concept) → Option Rule
+fact_rule None = None
+fact_rule (Some f) = Some (record { premises = is_node 0 ∷ []; children = more_facts (f ∷ []) ∷ [] })
+
+-- the rule that a line uses in a refutation of the question, but for `start`, which has its own branch
+abbrev pub rule_of : Question → (ℕ → Option Concept) → Line → Option Rule
+rule_of q concept start_line = None
+rule_of q concept (and_line x c) = and_rule x (concept c)
+rule_of q concept (or_line x c) = or_rule x (concept c)
+rule_of q concept (all_line x y c) = all_rule x y (concept c)
+rule_of q concept (carry_line x y t c) = carry_rule q.theory x y t (concept c)
+rule_of q concept (row_line x a p positions) = row_rule x positions (part_at q.theory a p)
+rule_of q concept (range_line x y a) = range_rule x y (part_at q.theory a 1)
+rule_of q concept (some_line x y c) = some_rule x y (concept c)
+rule_of q concept (least_line x y c) = least_rule x y (concept c)
+rule_of q concept (choose_line y c) = choose_rule y (concept c)
+rule_of q concept (pair_line y z) = Some (record { premises = is_node y ∷ is_node z ∷ []; children = more_facts (Same y z ∷ []) ∷ more_facts (Apart y z ∷ []) ∷ [] })
+rule_of q concept (bottom_line x) = Some (record { premises = is_node x ∷ has_concept x bottom ∷ []; children = [] })
+rule_of q concept (clash_line x c) = clash_rule x (concept c)
+rule_of q concept (most_line x c ys) = most_rule x ys (concept c)
+rule_of q concept (fact_line a p) = fact_rule (q.fact_of a p)
+rule_of q concept (differ_line y z) = Some (record { premises = is_node y ∷ is_node z ∷ is_apart y z ∷ is_one y z ∷ []; children = [] })
 
 -- the children that a rule gives to a branch
-abbrev pub children_by : Theory → Known → Option Rule → Option (List Known)
-children_by theory k None = None
-children_by theory k (Some r) = when (list_all (holds theory k) r.premises) (when (list_all (is_new k) r.children) (Some (map (with_added k) r.children)))
+abbrev pub children_by : Question → Known → Option Rule → Option (List Known)
+children_by q k None = None
+children_by q k (Some r) = when (list_all (holds q.theory k) r.premises) (when (list_all (is_new k) r.children) (Some (map (with_added k) r.children)))
 
 -- ---- kinds of lines
 

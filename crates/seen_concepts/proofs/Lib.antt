@@ -6,4 +6,5 @@ pub use Rattle.search_laws.proofs.Allowed
 pub use Rattle.search_laws.proofs.AllowedParts
 pub use Rattle.search_laws.proofs.CounterModelLaws
 pub use Rattle.search_laws.proofs.Answering
+pub use Rattle.search_laws.proofs.Unnamed
 pub use Rattle.search_laws.proofs.Counting

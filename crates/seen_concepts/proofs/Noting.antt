@@ -1,5 +1,5 @@
 -- What is noted.
-use Rattle.std.proofs.Common.{◌≡◌, ℕ, zero, suc, ◌+◌, ◌<◌, ◌≤◌, ◌&&◌, ◌||◌, eqb, Bool, true, false, List, [], ◌∷◌, length, drop, Some, refl, ap, ◌∙◌, sym, subst, arith, inl, inr, eq-eqb}
+use Rattle.std.proofs.Common.{◌≡◌, ℕ, zero, suc, ◌+◌, ◌<◌, ◌≤◌, ◌&&◌, ◌||◌, eqb, Bool, true, false, List, [], ◌∷◌, drop, Some, refl, ap, ◌∙◌, sym, subst, arith, inl, inr, eq-eqb}
 use Rattle.std.specs.List.{list_any, slice_get}
 use Rattle.std.specs.Prelude.{◌==◌}
 use Rattle.std.proofs.lemmas.Bool.{cases_Bool, eqb-true, false_from_ne_true}
@@ -33,24 +33,24 @@ module _ (old new : Limited) where
 
 -- ---- one concept
 
-module _ (table : List Shape) (node concept : ℕ) (old mid new : SeenSets)
-    (complement : HasGained (λ a. is_complement table a concept) old.complements mid.complements) (same : mid.at_root ≡ old.at_root) where
+module _ (at : ℕ) (table : List Shape) (node concept : ℕ) (old mid new : SeenSets)
+    (complement : HasGained (λ a. is_complement table a concept) old.complements mid.complements) (same : mid.at_node ≡ old.at_node) where
   or_false : (b : Bool) → (b || false) ≡ b
   or_false true = refl
   or_false false = refl
 
-  -- at node 0
-  pub noted_at_root : node ≡ 0 → HasGained (λ a. is_one a (class_of (shape_of table concept))) mid.at_root new.at_root
-      → HasGained (λ a. has_complement table a (union_parts (shape_of table concept))) mid.complements new.complements → HasNoted table (Has node concept ∷ []) old new
-  noted_at_root root class parts =
-      let zero_is : (node == 0) ≡ true = eq-eqb node 0 root in
+  -- at the node in question
+  pub noted_there : node ≡ at → HasGained (λ a. is_one a (class_of (shape_of table concept))) mid.at_node new.at_node
+      → HasGained (λ a. has_complement table a (union_parts (shape_of table concept))) mid.complements new.complements → HasNoted at table (Has node concept ∷ []) old new
+  noted_there there class parts =
+      let is_there : (node == at) ≡ true = eq-eqb node at there in
       record {
-        at_root = record {
+        at_node = record {
           limit = class.limit ∙ ap (λ (s : Limited). s.limit) same;
           held = λ a lt.
               class.held a (omega (arith, lt, ap (λ (s : Limited). s.limit) same))
               ∙ ap (λ (s : Limited). is_one a (class_of (shape_of table concept)) || holds s a) same
-              ∙ ap (λ (b : Bool). b || holds old.at_root a) (sym (or_false (gives_class table a (Has node concept)) ∙ ap (λ (b : Bool). b && is_one a (class_of (shape_of table concept))) zero_is));
+              ∙ ap (λ (b : Bool). b || holds old.at_node a) (sym (or_false (gives_class at table a (Has node concept)) ∙ ap (λ (b : Bool). b && is_one a (class_of (shape_of table concept))) is_there));
         };
         complements = record {
           limit = parts.limit ∙ complement.limit;
@@ -60,7 +60,7 @@ module _ (table : List Shape) (node concept : ℕ) (old mid new : SeenSets)
               parts.held a (omega (arith, lt, complement.limit))
               ∙ ap (λ (b : Bool). p || b) (complement.held a lt)
               ∙ turned p q (holds old.complements a)
-              ∙ ap (λ (b : Bool). b || holds old.complements a) (sym (or_false (gives_complement table a (Has node concept)) ∙ ap (λ (b : Bool). q || (b && p)) zero_is));
+              ∙ ap (λ (b : Bool). b || holds old.complements a) (sym (or_false (gives_complement at table a (Has node concept)) ∙ ap (λ (b : Bool). q || (b && p)) is_there));
         };
       }
     where
@@ -71,23 +71,23 @@ module _ (table : List Shape) (node concept : ℕ) (old mid new : SeenSets)
       turned false false b = refl
 
   -- at another node
-  pub noted_elsewhere : ¬ (node ≡ 0) → new ≡ mid → HasNoted table (Has node concept ∷ []) old new
+  pub noted_elsewhere : ¬ (node ≡ at) → new ≡ mid → HasNoted at table (Has node concept ∷ []) old new
   noted_elsewhere other is =
-      let not_zero : (node == 0) ≡ false = false_from_ne_true (node == 0) (λ h. other (eqb-true node 0 h)) in
-      subst (λ (s : SeenSets). HasNoted table (Has node concept ∷ []) old s) (sym is) (record {
-        at_root = gains_none old.at_root mid.at_root _ (λ a. or_false (gives_class table a (Has node concept)) ∙ ap (λ (b : Bool). b && is_one a (class_of (shape_of table concept))) not_zero) same;
+      let not_there : (node == at) ≡ false = false_from_ne_true (node == at) (λ h. other (eqb-true node at h)) in
+      subst (λ (s : SeenSets). HasNoted at table (Has node concept ∷ []) old s) (sym is) (record {
+        at_node = gains_none old.at_node mid.at_node _ (λ a. or_false (gives_class at table a (Has node concept)) ∙ ap (λ (b : Bool). b && is_one a (class_of (shape_of table concept))) not_there) same;
         complements = gains_same old.complements mid.complements _ _
             (λ a.
             let p = has_complement table a (union_parts (shape_of table concept)) in
             let q = is_complement table a concept in
-            sym (or_false (gives_complement table a (Has node concept)) ∙ ap (λ (b : Bool). q || (b && p)) not_zero ∙ or_false q))
+            sym (or_false (gives_complement at table a (Has node concept)) ∙ ap (λ (b : Bool). q || (b && p)) not_there ∙ or_false q))
             complement;
       })
 
 -- facts that have to do with no class
-pub nothing_noted : (table : List Shape) (fs : List (Fact ℕ)) (s : SeenSets) → ((a : ℕ) → list_any (gives_class table a) fs ≡ false) → ((a : ℕ) → list_any (gives_complement table a) fs ≡ false) → HasNoted table fs s s
-nothing_noted table fs s class complement = record {
-  at_root = gains_none s.at_root s.at_root _ class refl;
+pub nothing_noted : (at : ℕ) (table : List Shape) (fs : List (Fact ℕ)) (s : SeenSets) → ((a : ℕ) → list_any (gives_class at table a) fs ≡ false) → ((a : ℕ) → list_any (gives_complement at table a) fs ≡ false) → HasNoted at table fs s s
+nothing_noted at table fs s class complement = record {
+  at_node = gains_none s.at_node s.at_node _ class refl;
   complements = gains_none s.complements s.complements _ complement refl;
 }
 

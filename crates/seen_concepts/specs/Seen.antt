@@ -10,11 +10,11 @@ use Rattle.calculus_specs.specs.declared.facts.Fact.TheVariants.{Has, Edge, Apar
 use Rattle.tableau_specs.specs.declared.Item.{Item}
 use Rattle.search_laws.specs.Runs.{was_ever}
 
--- sets of classes: those that node 0 was given, and those whose complement bears on node 0: it was given to some node,
--- or is a part of a union that node 0 was given. Class numbers begin at 0 and members at 1, so class a stands in a set
--- as a + 1
+-- sets of classes: those that the node in question was given, and those whose complement bears on it: the complement was
+-- given to some node, or is a part of a union that the node in question was given. Class numbers begin at 0 and members
+-- at 1, so class a stands in a set as a + 1
 pub record SeenSets : Type 0 where
-  pub at_root : Limited
+  pub at_node : Limited
   pub complements : Limited
 
 abbrev pub holds : Limited → ℕ → Bool
@@ -24,11 +24,11 @@ abbrev pub no_classes : ℕ → Limited
 no_classes count = record { limit = count; members = set.empty }
 
 abbrev pub nothing_seen : ℕ → SeenSets
-nothing_seen count = record { at_root = no_classes count; complements = no_classes count }
+nothing_seen count = record { at_node = no_classes count; complements = no_classes count }
 
 -- the sets are of classes below a count
 pub record AreOver (count : ℕ) (s : SeenSets) : Type 0 where
-  pub root_limit : s.at_root.limit ≡ count
+  pub node_limit : s.at_node.limit ≡ count
   pub complements_limit : s.complements.limit ≡ count
 
 -- ---- facts that have to do with a class
@@ -85,19 +85,19 @@ is_complement table a d = is_one a (complement_of (shape_of table d))
 abbrev pub has_complement : List Shape → ℕ → List ℕ → Bool
 has_complement table a numbers = list_any (is_complement table a) numbers
 
--- whether the fact gives node 0 class a
-abbrev pub gives_class : List Shape → ℕ → Fact ℕ → Bool
-gives_class table a (Has x c) = x == 0 && is_one a (class_of (shape_of table c))
-gives_class table a (Edge r x y) = false
-gives_class table a (Apart y z) = false
-gives_class table a (Same y z) = false
+-- whether the fact gives the node `at` class a
+abbrev pub gives_class : ℕ → List Shape → ℕ → Fact ℕ → Bool
+gives_class at table a (Has x c) = x == at && is_one a (class_of (shape_of table c))
+gives_class at table a (Edge r x y) = false
+gives_class at table a (Apart y z) = false
+gives_class at table a (Same y z) = false
 
--- whether the fact gives a node the complement of class a, or node 0 a union of which that is a part
-abbrev pub gives_complement : List Shape → ℕ → Fact ℕ → Bool
-gives_complement table a (Has x c) = is_complement table a c || (x == 0 && has_complement table a (union_parts (shape_of table c)))
-gives_complement table a (Edge r x y) = false
-gives_complement table a (Apart y z) = false
-gives_complement table a (Same y z) = false
+-- whether the fact gives a node the complement of class a, or the node `at` a union of which that is a part
+abbrev pub gives_complement : ℕ → List Shape → ℕ → Fact ℕ → Bool
+gives_complement at table a (Has x c) = is_complement table a c || (x == at && has_complement table a (union_parts (shape_of table c)))
+gives_complement at table a (Edge r x y) = false
+gives_complement at table a (Apart y z) = false
+gives_complement at table a (Same y z) = false
 
 -- ---- what is noted
 
@@ -106,16 +106,16 @@ pub record HasGained (test : ℕ → Bool) (old new : Limited) : Type 0 where
   pub limit : new.limit ≡ old.limit
   pub held : (a : ℕ) → a < old.limit → holds new a ≡ (test a || holds old a)
 
--- the facts are noted
-pub record HasNoted (table : List Shape) (fs : List (Fact ℕ)) (old new : SeenSets) : Type 0 where
-  pub at_root : HasGained (λ a. list_any (gives_class table a) fs) old.at_root new.at_root
-  pub complements : HasGained (λ a. list_any (gives_complement table a) fs) old.complements new.complements
+-- the facts are noted, where the node `at` is the one in question
+pub record HasNoted (at : ℕ) (table : List Shape) (fs : List (Fact ℕ)) (old new : SeenSets) : Type 0 where
+  pub at_node : HasGained (λ a. list_any (gives_class at table a) fs) old.at_node new.at_node
+  pub complements : HasGained (λ a. list_any (gives_complement at table a) fs) old.complements new.complements
 
--- the sets are those of the run, no more and no less, as far as they reach
-pub record AreSeenIn (table : List Shape) (run : List (List Item)) (s : SeenSets) : Type 0 where
-  pub at_root : (a : ℕ) → a < s.at_root.limit → holds s.at_root a ≡ was_ever (gives_class table a) run
-  pub complements : (a : ℕ) → a < s.complements.limit → holds s.complements a ≡ was_ever (gives_complement table a) run
+-- the sets are those of the run, where the node `at` is the one in question, no more and no less, as far as they reach
+pub record AreSeenIn (at : ℕ) (table : List Shape) (run : List (List Item)) (s : SeenSets) : Type 0 where
+  pub at_node : (a : ℕ) → a < s.at_node.limit → holds s.at_node a ≡ was_ever (gives_class at table a) run
+  pub complements : (a : ℕ) → a < s.complements.limit → holds s.complements a ≡ was_ever (gives_complement at table a) run
 
 -- whether the run has had to do with class a
 abbrev pub has_seen : SeenSets → ℕ → Bool
-has_seen s a = holds s.at_root a || holds s.complements a
+has_seen s a = holds s.at_node a || holds s.complements a

@@ -21,7 +21,7 @@ use step_finders::Rules;
 /// Class a stands in the sets as a + 1, since their members begin at 1.
 #[derive(Drop)]
 pub struct SeenClasses {
-    at_root: AxiomSet,
+    at_node: AxiomSet,
     complements: AxiomSet,
 }
 
@@ -35,9 +35,9 @@ impl Model for SeenClasses {
 
     ghost coded = { Prim.hlevel (codes, limited_code) };
 
-    ghost view = { λ s. record { at_root = s.at_root; complements = s.complements } };
+    ghost view = { λ s. record { at_node = s.at_node; complements = s.complements } };
 
-    ghost invariant = { λ s. s.complements.limit ≡ s.at_root.limit };
+    ghost invariant = { λ s. s.complements.limit ≡ s.at_node.limit };
 }
 
 impl SeenClasses {
@@ -50,57 +50,63 @@ impl SeenClasses {
         ensures { IfOk result (λ s. s ≡ nothing_seen count) }
     {
         Ok(SeenClasses {
-            at_root: AxiomSet::empty(alloc, count)?,
+            at_node: AxiomSet::empty(alloc, count)?,
             complements: AxiomSet::empty(alloc, count)?,
         })
     }
 
-    /// Notes the facts of the tree's trail from a place on.
-    pub fn note<A: Allocator + Copy, R: Rules>(&mut self, rules: &R, tree: &Tree<A>, from: u32)
-        requires { from ≤ length tree.now }
-        ensures { HasNoted (R.context rules.now).table (facts_of (drop from (items_of tree.now))) self.old self.new }
+    /// Notes the facts of the tree's trail from a place on, where the node `at` is the one in question.
+    pub fn note<A: Allocator + Copy, R: Rules>(
+        &mut self,
+        rules: &R,
+        tree: &Tree<A>,
+        at: u32,
+        from: u32,
+    )
+        requires { from ≤ length tree.now.entries }
+        ensures { HasNoted at (R.context rules.now).table (facts_of (drop from (items_of tree.now.entries))) self.old self.new }
     {
         for place in from..tree.len() {
-            self.note_item(rules, tree.item(place));
+            self.note_item(rules, tree.item(place), at);
         }
     }
 
     // Notes what the item gives, if it is a fact that gives a concept.
     #[tactic(auto, using(crate::proofs::Noting::nothing_noted))]
-    fn note_item<R: Rules>(&mut self, rules: &R, item: Item)
-        ensures { HasNoted (R.context rules.now).table (facts_of (item ∷ [])) self.old self.new }
+    fn note_item<R: Rules>(&mut self, rules: &R, item: Item, at: u32)
+        ensures { HasNoted at (R.context rules.now).table (facts_of (item ∷ [])) self.old self.new }
     {
         match item {
-            Item::Fact(Fact::Has(node, concept)) => self.note_concept(rules, node, concept),
+            Item::Fact(Fact::Has(node, concept)) => self.note_concept(rules, at, node, concept),
             Item::Fact(Fact::Edge(..) | Fact::Apart(..) | Fact::Same(..)) | Item::Mark(_) => {}
         }
     }
 
     // Notes what a concept of a node has to do with classes.
-    #[tactic(auto, using(crate::proofs::Noting::noted_at_root, crate::proofs::Noting::noted_elsewhere))]
-    fn note_concept<R: Rules>(&mut self, rules: &R, node: u32, concept: u32)
-        ensures { HasNoted (R.context rules.now).table (Has node concept ∷ []) self.old self.new }
+    #[tactic(auto, using(crate::proofs::Noting::noted_there, crate::proofs::Noting::noted_elsewhere))]
+    fn note_concept<R: Rules>(&mut self, rules: &R, at: u32, node: u32, concept: u32)
+        ensures { HasNoted at (R.context rules.now).table (Has node concept ∷ []) self.old self.new }
     {
         self.note_complement(rules, concept);
-        if node == 0 {
-            self.note_at_root(rules, concept);
+        if node == at {
+            self.note_at_node(rules, concept);
         }
     }
 
     // Notes a concept that is the complement of a class.
     fn note_complement<R: Rules>(&mut self, rules: &R, concept: u32)
         ensures complements { HasGained (λ a. is_complement (R.context rules.now).table a concept) self.old.complements self.new.complements }
-        ensures at_root { self.new.at_root ≡ self.old.at_root }
+        ensures at_node { self.new.at_node ≡ self.old.at_node }
     {
         put_complement(&mut self.complements, rules, concept);
     }
 
-    // Notes what a concept of node 0 is besides: a class, or a union.
-    fn note_at_root<R: Rules>(&mut self, rules: &R, concept: u32)
-        ensures at_root { HasGained (λ a. is_one a (class_of (shape_of (R.context rules.now).table concept))) self.old.at_root self.new.at_root }
+    // Notes what a concept of the node in question is besides: a class, or a union.
+    fn note_at_node<R: Rules>(&mut self, rules: &R, concept: u32)
+        ensures at_node { HasGained (λ a. is_one a (class_of (shape_of (R.context rules.now).table concept))) self.old.at_node self.new.at_node }
         ensures complements { HasGained (λ a. has_complement (R.context rules.now).table a (union_parts (shape_of (R.context rules.now).table concept))) self.old.complements self.new.complements }
     {
-        put_if(&mut self.at_root, class_of(rules, concept));
+        put_if(&mut self.at_node, class_of(rules, concept));
         put_complements(&mut self.complements, rules, parts_of(rules, concept));
     }
 
@@ -110,11 +116,11 @@ impl SeenClasses {
     ///
     /// Out of memory.
     pub fn others(&self, alloc: Global) -> Result<AxiomSet, NoMemory>
-        ensures limit { IfOk result (λ s. s.limit ≡ self.now.at_root.limit) }
-        ensures exact { IfOk result (λ s. (a : ℕ) → a < self.now.at_root.limit → holds s a ≡ not (has_seen self.now a)) }
+        ensures limit { IfOk result (λ s. s.limit ≡ self.now.at_node.limit) }
+        ensures exact { IfOk result (λ s. (a : ℕ) → a < self.now.at_node.limit → holds s a ≡ not (has_seen self.now a)) }
     {
-        let mut classes = AxiomSet::full(alloc, self.at_root.limit())?;
-        classes.take_all(&self.at_root);
+        let mut classes = AxiomSet::full(alloc, self.at_node.limit())?;
+        classes.take_all(&self.at_node);
         classes.take_all(&self.complements);
         Ok(classes)
     }

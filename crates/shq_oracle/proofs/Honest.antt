@@ -6,14 +6,12 @@ use Rattle.shq_terms.specs.Concept.{name}
 use Rattle.shq_terms.specs.NoMemory.{NoMemory}
 use Rattle.axiom_sets.specs.Sets.{Limited, member_list}
 use Rattle.shq_terms.specs.declared.axioms.Query.{Query}
-use Rattle.model_builder.specs.Limits.{IsInLimit, IsWithoutIndividuals}
-use Rattle.tableau.proofs.Entailed.{entailed_on_any}
+use Rattle.model_builder.specs.Limits.{IsInLimit}
+use Rattle.tableau.proofs.Entailed.{entailed}
 use Rattle.calculus_specs.specs.Line.{Line}
-use Rattle.calculus_specs.specs.Rules.{on_any}
 use Rattle.calculus_specs.specs.Shape.{Shape}
 use Rattle.calculus_specs.specs.Valid.{IsRefutation}
 use Rattle.run_log.specs.Theory.{theory_of, question_of}
-use Rattle.run_log.proofs.Old.{old_stand}
 use Rattle.shq_terms.specs.Listed.{Listed}
 use Rattle.tableau.specs.RefutationLists.{RefutationLists}
 use Rattle.tableau.proofs.CounterModelLaws.{saturated_does_not_entail}
@@ -40,18 +38,11 @@ taken_one [] n x e = cc
 taken_one (y ∷ ys) zero x e = let k : y ≡ x = cc in ap (λ z. z ∷ []) k
 taken_one (y ∷ ys) (suc n) x e = let k : suc n + 1 ≡ suc (n + 1) = omega arith in ap (λ m. take m (y ∷ ys)) k ∙ ap (λ zs. y ∷ zs) (taken_one ys n x e)
 
--- what is refuted without individuals is refuted where there are none
-refutes_query : (o : Listed) (ks : List ℕ) (q : Query) (shapes : List Shape) (lines : List Line) → IsWithoutIndividuals o q → IsRefutation (on_any (theory_of o.axioms ks) q.sub q.sup) shapes lines
-    → IsRefutation (question_of (length o.individuals) o.axioms ks q) shapes lines
-refutes_query o ks q shapes lines without h =
-    subst (λ (k : ℕ). IsRefutation (question_of k o.axioms ks q) shapes lines) (sym (ap length without.ontology.none_listed))
-    ((old_stand o.axioms ks q shapes lines without.ontology.no_assertions without.on_any).refutes.1 h)
-
 module _ (s : SearchState) (reached : IsReachedBy s) where
   -- a saturated search found that the query does not follow
-  pub honest_no : IsInLimit s.rules.ontology s.query → IsWithoutIndividuals s.rules.ontology s.query → IsAtModel s → IsHonestNo s.rules.ontology s.rules.set s.query s.steps
-  honest_no limit without m = record {
-    follows_not = saturated_does_not_entail s.rules.ontology (member_list s.rules.set) s.query s.rules.table (context_of s).rows s.steps (trail_of s) limit without reached m.is_saturated;
+  pub honest_no : IsInLimit s.rules.ontology s.query → IsAtModel s → IsHonestNo s.rules.ontology s.rules.set s.query s.steps
+  honest_no limit m = record {
+    follows_not = saturated_does_not_entail s.rules.ontology (member_list s.rules.set) s.query s.rules.table (context_of s).rows s.steps (trail_of s) limit reached m.is_saturated;
     cost = record { table = s.rules.table; rows = (context_of s).rows; trail = trail_of s; reached = reached; ends = inl m.is_saturated };
   }
 
@@ -59,7 +50,7 @@ module _ (s : SearchState) (reached : IsReachedBy s) where
   pub honest_yes : (r : RefutationLists) → IsAxiomSet s.rules.ontology s.rules.set → IsAtRefutation r s → IsHonestYes s.rules.ontology s.rules.set s.query s.steps r.axioms
   honest_yes r is_set c =
       let named : IsAxiomSet s.rules.ontology r.axioms = record { limit_is = c.refutes.limit; within = c.refutes.writable.within } in
-      let follows : FollowsIn s.rules.ontology r.axioms s.query = entailed_on_any s.rules.ontology.axioms (member_list r.axioms) s.query.sub s.query.sup s.query.on r.shapes r.lines c.refutes.refutes in
+      let follows : FollowsIn s.rules.ontology r.axioms s.query = entailed (length s.rules.ontology.individuals) s.rules.ontology.axioms (member_list r.axioms) s.query r.shapes r.lines c.refutes.refutes in
       record {
         of_axioms = named;
         part = c.refutes.named;
@@ -73,11 +64,11 @@ module _ (s : SearchState) (reached : IsReachedBy s) where
         };
       }
 
-  pub is_proof : (r : RefutationLists) → IsWithoutIndividuals s.rules.ontology s.query → IsAtRefutation r s → IsProof s.rules.ontology s.rules.set s.query r
-  is_proof r without c = record {
+  pub is_proof : (r : RefutationLists) → IsAtRefutation r s → IsProof s.rules.ontology s.rules.set s.query r
+  is_proof r c = record {
     named = c.refutes.named;
     standing = c.refutes.standing;
-    refutes = refutes_query s.rules.ontology (member_list r.axioms) s.query r.shapes r.lines without c.refutes.refutes;
+    refutes = c.refutes.refutes;
     writable = c.refutes.writable;
   }
 
@@ -99,10 +90,10 @@ module _ (s : SearchState) (reached : IsReachedBy s) where
         fueled = omega (arith, f, le);
       }
 
-  pub ends_no : IsInLimit s.rules.ontology s.query → IsWithoutIndividuals s.rules.ontology s.query → IsAtModel s → (k : ℕ) → k ≡ s.steps → (fuel : ℕ) → s.steps ≤ fuel → EndsSo fuel No k E.No
-  ends_no limit without m k f fuel le = record {
+  pub ends_no : IsInLimit s.rules.ontology s.query → IsAtModel s → (k : ℕ) → k ≡ s.steps → (fuel : ℕ) → s.steps ≤ fuel → EndsSo fuel No k E.No
+  ends_no limit m k f fuel le = record {
     matches = tt;
-    honest = subst (λ (n : ℕ). IsHonestNo s.rules.ontology s.rules.set s.query n) (sym f) (honest_no limit without m);
+    honest = subst (λ (n : ℕ). IsHonestNo s.rules.ontology s.rules.set s.query n) (sym f) (honest_no limit m);
     fueled = omega (arith, f, le);
   }
 

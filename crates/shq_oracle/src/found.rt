@@ -1,6 +1,6 @@
 // What one search finds.
 ghost use Rattle.std.specs.Prelude.{◌≡◌, ◌≤◌, ℕ, false, IfOk};
-ghost use Rattle.model_builder.specs.Limits.{IsInLimit, IsWithoutIndividuals};
+ghost use Rattle.model_builder.specs.Limits.{IsInLimit};
 ghost use Rattle.model_builder.specs.Trail.{items_of};
 ghost use Rattle.tableau.specs.RuleLists.{AreNumbersOf};
 ghost use Rattle.tableau.specs.SearchState.{trail_of};
@@ -36,7 +36,6 @@ pub(crate) fn search(
     requires numbers { AreNumbersOf rules.now query.now numbers.0 numbers.1 }
     requires set { IsAxiomSet rules.now.ontology rules.now.set }
     requires in_limit { IsInLimit rules.now.ontology query.now }
-    requires without_individuals { IsWithoutIndividuals rules.now.ontology query.now }
     ensures { IfOk result (IsFound rules.now.ontology rules.now.set query.now fuel) }
 {
     let arena = Bump::new(alloc);
@@ -55,7 +54,6 @@ fn search_in<A: Allocator + Copy>(
     requires numbers { AreNumbersOf rules.now query.now numbers.0 numbers.1 }
     requires set { IsAxiomSet rules.now.ontology rules.now.set }
     requires in_limit { IsInLimit rules.now.ontology query.now }
-    requires without_individuals { IsWithoutIndividuals rules.now.ontology query.now }
     ensures { IfOk result (IsFound rules.now.ontology rules.now.set query.now fuel) }
 {
     let mut search = Search::new_in(arena, alloc, rules, query, numbers.0, numbers.1)?;
@@ -75,7 +73,6 @@ fn found_by<A: Allocator + Copy>(
     requires asked { search.now.query ≡ query.now }
     requires set { IsAxiomSet search.now.rules.ontology search.now.rules.set }
     requires in_limit { IsInLimit search.now.rules.ontology search.now.query }
-    requires without_individuals { IsWithoutIndividuals search.now.rules.ontology search.now.query }
     requires within { search.now.steps ≤ fuel }
     requires ended { HasEnded fuel search.now end }
     ensures { IfOk result (IsFoundBy search.now fuel) }
@@ -98,7 +95,6 @@ fn with_model<A: Allocator + Copy>(
     requires whole { search.now.failed ≡ false }
     requires asked { search.now.query ≡ query.now }
     requires in_limit { IsInLimit search.now.rules.ontology search.now.query }
-    requires without_individuals { IsWithoutIndividuals search.now.rules.ontology search.now.query }
     requires ended { IsAtModel search.now }
     ensures { IfOk result (λ f. (fuel : ℕ) → search.now.steps ≤ fuel → IsFoundBy search.now fuel f) }
 {
@@ -118,7 +114,6 @@ fn with_refutation<A: Allocator + Copy>(
 ) -> Result<Found, NoMemory>
     requires whole { search.now.failed ≡ false }
     requires set { IsAxiomSet search.now.rules.ontology search.now.rules.set }
-    requires without_individuals { IsWithoutIndividuals search.now.rules.ontology search.now.query }
     requires ended { IsAtRefutation refutation search.now }
     ensures { IfOk result (λ f. (fuel : ℕ) → search.now.steps ≤ fuel → IsFoundBy search.now fuel f) }
 {
@@ -160,7 +155,7 @@ pub(crate) fn kept_trail<A: Allocator + Copy>(
 // The facts and marks of a tree's trail.
 #[tactic(auto, using(crate::proofs::Honest::taken_one))]
 fn items<A: Allocator + Copy>(alloc: Global, tree: &Tree<A>) -> Result<Vec<Item>, NoMemory>
-    ensures { IfOk result (λ items. items.items ≡ items_of tree.now) }
+    ensures { IfOk result (λ items. items.items ≡ items_of tree.now.entries) }
 {
     let mut items = Vec::new(alloc);
     for place in 0..tree.len() {

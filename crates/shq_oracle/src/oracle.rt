@@ -3,7 +3,7 @@ ghost use Rattle.std.specs.Prelude.{◌≡◌, ◌↔◌, ◌+◌, ◌<◌, ◌�
 ghost use Rattle.run_log.specs.declared.entry.Entry.TheVariants.{Test};
 ghost use Rattle.std.specs.List.{list_any};
 ghost use Rattle.axiom_sets.specs.Sets.{IsWithin};
-ghost use Rattle.model_builder.specs.Limits.{IsOntologyInLimit, IsInLimit, IsWithoutIndividuals};
+ghost use Rattle.model_builder.specs.Limits.{IsOntologyInLimit, IsInLimit};
 ghost use Rattle.run_log.specs.Entries.{spent_of, is_spent, IsAnswered};
 ghost use Rattle.run_log.specs.HonestLog.{IsAxiomSet, IsHonestEntry};
 ghost use Rattle.shq_oracle.specs.Decided.{IsAnswer, AppendsTest, LeavesNothing, IsFound};
@@ -104,7 +104,6 @@ impl<'a> Oracle<'a> {
     pub fn decide(&mut self, set: &AxiomSet, query: &Query) -> Result<Answer, NoMemory>
         requires limit { set.now.limit ≡ length self.old.ontology.axioms }
         requires in_limit { IsInLimit self.old.ontology query.now }
-        requires without_individuals { IsWithoutIndividuals self.old.ontology query.now }
         requires goes_on { list_any is_spent self.old.log ≡ false }
         requires is_new { ¬ IsAnswered self.old.log set.now query.now }
 
@@ -130,7 +129,6 @@ impl<'a> Oracle<'a> {
     pub fn test(&mut self, set: &AxiomSet, query: &Query) -> Result<Outcome, NoMemory>
         requires limit { set.now.limit ≡ length self.old.ontology.axioms }
         requires in_limit { IsInLimit self.old.ontology query.now }
-        requires without_individuals { IsWithoutIndividuals self.old.ontology query.now }
         requires goes_on { list_any is_spent self.old.log ≡ false }
         requires is_new { ¬ IsAnswered self.old.log set.now query.now }
 
@@ -149,14 +147,14 @@ impl<'a> Oracle<'a> {
     }
 
     /// The same as [`test`](Oracle::test), and hands out what the search shows of further classes where the query does
-    /// not follow. It shows some mostly where the query is whether anything is in a class expression.
+    /// not follow. It shows some mostly where the query is whether anything is in a class expression, and none where it is
+    /// on an individual.
     ///
     /// # Errors
     /// Memory may be refused; the log is as before then.
     pub fn test_apart(&mut self, set: &AxiomSet, query: &Query) -> Result<Shown<'a>, NoMemory>
         requires limit { set.now.limit ≡ length self.old.ontology.axioms }
         requires in_limit { IsInLimit self.old.ontology query.now }
-        requires without_individuals { IsWithoutIndividuals self.old.ontology query.now }
         requires goes_on { list_any is_spent self.old.log ≡ false }
         requires is_new { ¬ IsAnswered self.old.log set.now query.now }
 
@@ -222,7 +220,6 @@ impl<'a> Oracle<'a> {
     fn find(&mut self, set: &AxiomSet, query: &Query, fuel: u64) -> Result<Found, NoMemory>
         requires limit { set.now.limit ≡ length self.old.ontology.axioms }
         requires in_limit { IsInLimit self.old.ontology query.now }
-        requires without_individuals { IsWithoutIndividuals self.old.ontology query.now }
         ensures found { IfOk result (IsFound self.old.ontology set.now query.now fuel) }
         ensures set { IsAxiomSet self.old.ontology set.now }
         ensures same { self.new ≡ self.old }
@@ -241,7 +238,6 @@ impl<'a> Oracle<'a> {
     ) -> Result<Tested, NoMemory>
         requires limit { set.now.limit ≡ length self.old.ontology.axioms }
         requires in_limit { IsInLimit self.old.ontology query.now }
-        requires without_individuals { IsWithoutIndividuals self.old.ontology query.now }
         ensures tested { IfOk result (IsTested self.old.ontology set.now query.now fuel) }
         ensures set { IsAxiomSet self.old.ontology set.now }
         ensures same { self.new ≡ self.old }
@@ -430,7 +426,6 @@ fn find_by<'a>(
     requires kept { IfSome kept.old (λ r. r.ontology ≡ ontology.now) }
     requires set { IsAxiomSet ontology.now set.now }
     requires in_limit { IsInLimit ontology.now query.now }
-    requires without_individuals { IsWithoutIndividuals ontology.now query.now }
     ensures found { IfOk result (IsFound ontology.entry.now set.now query.now fuel) }
     ensures kept { IfSome kept.new (λ r. r.ontology ≡ ontology.entry.now) }
 {
@@ -453,7 +448,6 @@ fn test_by<'a>(
     requires kept { IfSome kept.old (λ r. r.ontology ≡ ontology.now) }
     requires set { IsAxiomSet ontology.now set.now }
     requires in_limit { IsInLimit ontology.now query.now }
-    requires without_individuals { IsWithoutIndividuals ontology.now query.now }
     ensures tested { IfOk result (IsTested ontology.entry.now set.now query.now fuel) }
     ensures kept { IfSome kept.new (λ r. r.ontology ≡ ontology.entry.now) }
 {
@@ -509,7 +503,6 @@ fn ask(
 ) -> Result<Found, NoMemory>
     requires set { IsAxiomSet rules.old.ontology rules.old.set }
     requires in_limit { IsInLimit rules.old.ontology query.now }
-    requires without_individuals { IsWithoutIndividuals rules.old.ontology query.now }
     ensures found { IfOk result (IsFound rules.old.ontology rules.old.set query.now fuel) }
     ensures same { rules.new.ontology ≡ rules.old.ontology }
 {
@@ -527,7 +520,6 @@ fn ask_outcome(
 ) -> Result<Tested, NoMemory>
     requires set { IsAxiomSet rules.old.ontology rules.old.set }
     requires in_limit { IsInLimit rules.old.ontology query.now }
-    requires without_individuals { IsWithoutIndividuals rules.old.ontology query.now }
     ensures tested { IfOk result (IsTested rules.old.ontology rules.old.set query.now fuel) }
     ensures same { rules.new.ontology ≡ rules.old.ontology }
 {

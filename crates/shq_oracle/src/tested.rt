@@ -1,6 +1,6 @@
 // What the outcome of one search is.
 ghost use Rattle.std.specs.Prelude.{◌≡◌, ◌≤◌, ℕ, false, IfOk, IfSome};
-ghost use Rattle.model_builder.specs.Limits.{IsInLimit, IsWithoutIndividuals};
+ghost use Rattle.model_builder.specs.Limits.{IsInLimit};
 ghost use Rattle.tableau.specs.RuleLists.{AreNumbersOf};
 ghost use Rattle.tableau.specs.Steps.{IsAtModel, IsAtRefutation, AreLeftOut};
 ghost use Rattle.run_log.specs.HonestLog.{IsAxiomSet};
@@ -38,7 +38,6 @@ pub(crate) fn test(
     requires numbers { AreNumbersOf rules.now query.now numbers.0 numbers.1 }
     requires set { IsAxiomSet rules.now.ontology rules.now.set }
     requires in_limit { IsInLimit rules.now.ontology query.now }
-    requires without_individuals { IsWithoutIndividuals rules.now.ontology query.now }
     ensures { IfOk result (IsTested rules.now.ontology rules.now.set query.now fuel) }
 {
     let arena = Bump::new(alloc);
@@ -58,7 +57,6 @@ fn test_in<A: Allocator + Copy>(
     requires numbers { AreNumbersOf rules.now query.now numbers.0 numbers.1 }
     requires set { IsAxiomSet rules.now.ontology rules.now.set }
     requires in_limit { IsInLimit rules.now.ontology query.now }
-    requires without_individuals { IsWithoutIndividuals rules.now.ontology query.now }
     ensures { IfOk result (IsTested rules.now.ontology rules.now.set query.now fuel) }
 {
     let mut search = Search::new_in(arena, alloc, rules, query, numbers.0, numbers.1)?;
@@ -77,7 +75,6 @@ fn tested_by<A: Allocator + Copy>(
     requires whole { search.now.failed ≡ false }
     requires set { IsAxiomSet search.now.rules.ontology search.now.rules.set }
     requires in_limit { IsInLimit search.now.rules.ontology search.now.query }
-    requires without_individuals { IsWithoutIndividuals search.now.rules.ontology search.now.query }
     requires within { search.now.steps ≤ fuel }
     requires ended { HasEnded fuel search.now end }
     ensures { IfOk result (IsTestedBy search.now fuel) }
@@ -96,7 +93,6 @@ fn with_no<A: Allocator + Copy>(
 ) -> Result<Tested, NoMemory>
     requires whole { search.now.failed ≡ false }
     requires in_limit { IsInLimit search.now.rules.ontology search.now.query }
-    requires without_individuals { IsWithoutIndividuals search.now.rules.ontology search.now.query }
     requires ended { IsAtModel search.now }
     ensures { IfOk result (λ t. (fuel : ℕ) → search.now.steps ≤ fuel → IsTestedBy search.now fuel t) }
 {
@@ -134,7 +130,6 @@ fn with_yes<A: Allocator + Copy>(
 ) -> Result<Tested, NoMemory>
     requires whole { search.now.failed ≡ false }
     requires set { IsAxiomSet search.now.rules.ontology search.now.rules.set }
-    requires without_individuals { IsWithoutIndividuals search.now.rules.ontology search.now.query }
     requires ended { IsAtRefutation refutation search.now }
     ensures { IfOk result (λ t. (fuel : ℕ) → search.now.steps ≤ fuel → IsTestedBy search.now fuel t) }
 {

@@ -7,7 +7,8 @@ use completion_tree::{Item, Tree};
 use shq_nnf::Shape;
 use std::alloc::Allocator;
 use step_finders::{
-    Addition, Rules, State, find_by_concept, find_by_edge, find_by_name, find_from, find_general,
+    Addition, Rules, State, count_of, find_by_concept, find_by_edge, find_by_name, find_from,
+    find_general,
 };
 
 /// The first entry from this one on that adds a concept, and what it adds; or the length of the trail.
@@ -17,10 +18,11 @@ pub(crate) fn first_addition<A: Allocator + Copy, S: State, R: Rules>(
     rules: &R,
     from: u32,
 ) -> (u32, Option<Addition>)
+    requires one_first { S.first state.now ≡ (R.context rules.now).first }
     ensures { IfSome result.1 (IsAddition (R.context rules.now) (S.facts state.now) (R.files rules.now)) }
 {
     for place in from..tree.len() {
-        match addition_at(tree.item(place), place, state, rules) {
+        match addition_at(tree.item(place), state, rules) {
             Some(addition) => return (place, Some(addition)),
             None => {}
         }
@@ -28,24 +30,39 @@ pub(crate) fn first_addition<A: Allocator + Copy, S: State, R: Rules>(
     (tree.len(), None)
 }
 
-// What the entry at this place adds. With the first one, node 0 is there.
-fn addition_at<S: State, R: Rules>(item: Item, place: u32, state: &S, rules: &R) -> Option<Addition>
+/// The first of the first nodes from this one on to which a row that is used at each node adds a concept, and what; or
+/// the number of first nodes.
+pub(crate) fn first_general<S: State, R: Rules>(
+    state: &S,
+    rules: &R,
+    from: u32,
+) -> (u32, Option<Addition>)
+    requires one_first { S.first state.now ≡ (R.context rules.now).first }
+    ensures { IfSome result.1 (IsAddition (R.context rules.now) (S.facts state.now) (R.files rules.now)) }
+{
+    for node in from..rules.first() {
+        match in_general(state, rules, node) {
+            Some(addition) => return (node, Some(addition)),
+            None => {}
+        }
+    }
+    (rules.first(), None)
+}
+
+// What the entry adds.
+fn addition_at<S: State, R: Rules>(item: Item, state: &S, rules: &R) -> Option<Addition>
+    requires one_first { S.first state.now ≡ (R.context rules.now).first }
     ensures { IfSome result (IsAddition (R.context rules.now) (S.facts state.now) (R.files rules.now)) }
 {
-    let at_start = if place == 0 {
-        in_general(state, rules, 0)
-    } else {
-        None
-    };
-    match (at_start, item) {
-        (Some(addition), _) => Some(addition),
-        (None, Item::Fact(fact)) => by_fact(fact, state, rules),
-        (None, Item::Mark(_)) => None,
+    match item {
+        Item::Fact(fact) => by_fact(fact, state, rules),
+        Item::Mark(_) => None,
     }
 }
 
 // What a fact adds.
 fn by_fact<S: State, R: Rules>(fact: Fact<u32>, state: &S, rules: &R) -> Option<Addition>
+    requires one_first { S.first state.now ≡ (R.context rules.now).first }
     ensures { IfSome result (IsAddition (R.context rules.now) (S.facts state.now) (R.files rules.now)) }
 {
     match fact {
@@ -57,7 +74,7 @@ fn by_fact<S: State, R: Rules>(fact: Fact<u32>, state: &S, rules: &R) -> Option<
 }
 
 // What an edge adds: by what its beginning has, by rows at either end, and by rows that are used at each node, where
-// its end is a new one.
+// its end is no first node.
 fn by_edge<S: State, R: Rules>(
     state: &S,
     rules: &R,
@@ -65,6 +82,7 @@ fn by_edge<S: State, R: Rules>(
     from: u32,
     to: u32,
 ) -> Option<Addition>
+    requires one_first { S.first state.now ≡ (R.context rules.now).first }
     ensures { IfSome result (IsAddition (R.context rules.now) (S.facts state.now) (R.files rules.now)) }
 {
     match by_universals(state, rules, from, to) {
@@ -73,12 +91,14 @@ fn by_edge<S: State, R: Rules>(
     }
     match by_ends(state, rules, role, from, to) {
         Some(addition) => Some(addition),
+        None if to < rules.first() => None,
         None => in_general(state, rules, to),
     }
 }
 
 // What a universal restriction of the node adds, where one may say something of this successor.
 fn by_universals<S: State, R: Rules>(state: &S, rules: &R, node: u32, to: u32) -> Option<Addition>
+    requires one_first { S.first state.now ≡ (R.context rules.now).first }
     ensures { IfSome result (IsAddition (R.context rules.now) (S.facts state.now) (R.files rules.now)) }
 {
     for concept in state.label(node) {
@@ -108,9 +128,10 @@ fn by_ends<S: State, R: Rules>(
     from: u32,
     to: u32,
 ) -> Option<Addition>
+    requires one_first { S.first state.now ≡ (R.context rules.now).first }
     ensures { IfSome result (IsAddition (R.context rules.now) (S.facts state.now) (R.files rules.now)) }
 {
-    if from >= state.nodes() {
+    if from >= count_of(state, rules) {
         return None;
     }
     for edge in state.edges(from) {
@@ -123,10 +144,11 @@ fn by_ends<S: State, R: Rules>(
 
 // What a row that is used at each node adds to the node's representative.
 fn in_general<S: State, R: Rules>(state: &S, rules: &R, node: u32) -> Option<Addition>
+    requires one_first { S.first state.now ≡ (R.context rules.now).first }
     ensures { IfSome result (IsAddition (R.context rules.now) (S.facts state.now) (R.files rules.now)) }
 {
     let node = state.representative(node);
-    if node >= state.nodes() {
+    if node >= count_of(state, rules) {
         return None;
     }
     find_general(state, rules, node)
@@ -134,10 +156,11 @@ fn in_general<S: State, R: Rules>(state: &S, rules: &R, node: u32) -> Option<Add
 
 // What the node's representative adds.
 fn at_node<S: State, R: Rules>(state: &S, rules: &R, node: u32) -> Option<Addition>
+    requires one_first { S.first state.now ≡ (R.context rules.now).first }
     ensures { IfSome result (IsAddition (R.context rules.now) (S.facts state.now) (R.files rules.now)) }
 {
     let node = state.representative(node);
-    if node >= state.nodes() {
+    if node >= count_of(state, rules) {
         return None;
     }
     find_from(state, rules, node)
@@ -145,9 +168,10 @@ fn at_node<S: State, R: Rules>(state: &S, rules: &R, node: u32) -> Option<Additi
 
 // What a concept of the node adds, by its form or by a row.
 fn by_concept<S: State, R: Rules>(state: &S, rules: &R, node: u32, concept: u32) -> Option<Addition>
+    requires one_first { S.first state.now ≡ (R.context rules.now).first }
     ensures { IfSome result (IsAddition (R.context rules.now) (S.facts state.now) (R.files rules.now)) }
 {
-    if node >= state.nodes() || !state.has(node, concept) {
+    if node >= count_of(state, rules) || !state.has(node, concept) {
         return None;
     }
     match find_by_concept(state, rules, node, concept) {

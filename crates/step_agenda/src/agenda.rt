@@ -1,11 +1,12 @@
 // The agenda.
-ghost use Rattle.std.specs.Prelude.{IfOk, IfSome};
+ghost use Rattle.std.specs.Prelude.{◌≡◌, IfOk, IfSome};
 ghost use Rattle.step_finders.specs.Stepping.{IsStep};
 
 use crate::NoMemory;
-use crate::additions::first_addition;
+use crate::additions::{first_addition, first_general};
 use crate::branchings::{Wanted, first_branching};
 use crate::forced::first_forced;
+use crate::givings::first_giving;
 use crate::makings::{Held, first_held, first_making};
 use crate::watched::UnionIndex;
 use blocking::least_changed;
@@ -16,6 +17,10 @@ use step_finders::{Rules, State, StateWithBlocks, Step};
 // Up to which entry of the trail, from 0, a search has looked for each kind of step.
 #[derive(Clone, Copy, Debug, PartialEq, Eq)]
 struct Cursors {
+    // Up to which of the given facts it has looked for one that is not so.
+    given: usize,
+    // Up to which of the first nodes it has looked for what rows add that are used at each node.
+    general: u32,
     additions: u32,
     forced: u32,
     pairs: u32,
@@ -31,6 +36,8 @@ impl Cursors {
     // At the first entry.
     fn start() -> Cursors {
         Cursors {
+            given: 0,
+            general: 0,
             additions: 0,
             forced: 0,
             pairs: 0,
@@ -108,7 +115,7 @@ impl Agenda {
     }
 
     /// A step that can be made whatever is blocked, where one is seen at the facts that were not looked at before:
-    /// concepts first; then a part of a union of which at most one part does not clash at once; then whether two
+    /// given facts before all others; then concepts; then a part of a union of which at most one part does not clash at once; then whether two
     /// successors are one, where there may be too many. Of each kind, the oldest.
     ///
     /// # Errors
@@ -121,6 +128,45 @@ impl Agenda {
         state: &S,
         rules: &R,
     ) -> Result<Option<Step>, NoMemory>
+        requires one_first { S.first state.now ≡ (R.context rules.now).first }
+        ensures { IfOk result (λ found. IfSome found (IsStep (R.context rules.now) (S.facts state.now) (R.files rules.now))) }
+    {
+        let (place, giving) = first_giving(state, rules, self.cursors.given);
+        self.cursors.given = place;
+        match giving {
+            Some(given) => Ok(Some(Step::Give(given))),
+            None => self.next_general(heap, tree, state, rules),
+        }
+    }
+
+    // A concept that each node has, at a first node, or what comes after that.
+    fn next_general<A: Allocator + Copy, S: State, R: Rules>(
+        &mut self,
+        heap: Global,
+        tree: &Tree<A>,
+        state: &S,
+        rules: &R,
+    ) -> Result<Option<Step>, NoMemory>
+        requires one_first { S.first state.now ≡ (R.context rules.now).first }
+        ensures { IfOk result (λ found. IfSome found (IsStep (R.context rules.now) (S.facts state.now) (R.files rules.now))) }
+    {
+        let (node, addition) = first_general(state, rules, self.cursors.general);
+        self.cursors.general = node;
+        match addition {
+            Some(addition) => Ok(Some(Step::Add(addition))),
+            None => self.next_addition(heap, tree, state, rules),
+        }
+    }
+
+    // A concept that an entry adds, or what comes after that.
+    fn next_addition<A: Allocator + Copy, S: State, R: Rules>(
+        &mut self,
+        heap: Global,
+        tree: &Tree<A>,
+        state: &S,
+        rules: &R,
+    ) -> Result<Option<Step>, NoMemory>
+        requires one_first { S.first state.now ≡ (R.context rules.now).first }
         ensures { IfOk result (λ found. IfSome found (IsStep (R.context rules.now) (S.facts state.now) (R.files rules.now))) }
     {
         let (place, addition) = first_addition(tree, state, rules, self.cursors.additions);
@@ -140,6 +186,7 @@ impl Agenda {
         state: &S,
         rules: &R,
     ) -> Result<Option<Step>, NoMemory>
+        requires one_first { S.first state.now ≡ (R.context rules.now).first }
         ensures { IfOk result (λ found. IfSome found (IsStep (R.context rules.now) (S.facts state.now) (R.files rules.now))) }
     {
         let (place, forced) = first_forced(
@@ -165,6 +212,7 @@ impl Agenda {
         state: &S,
         rules: &R,
     ) -> Result<Option<Step>, NoMemory>
+        requires one_first { S.first state.now ≡ (R.context rules.now).first }
         ensures { IfOk result (λ found. IfSome found (IsStep (R.context rules.now) (S.facts state.now) (R.files rules.now))) }
     {
         let (place, pair) = first_branching(
@@ -197,6 +245,7 @@ impl Agenda {
         state: &S,
         rules: &R,
     ) -> Result<Option<Step>, NoMemory>
+        requires one_first { S.first state.now ≡ (R.context rules.now).first }
         ensures { IfOk result (λ found. IfSome found (IsStep (R.context rules.now) (S.facts state.now) (R.files rules.now))) }
     {
         let (place, making) = first_making(
@@ -223,6 +272,7 @@ impl Agenda {
         state: &S,
         rules: &R,
     ) -> Result<Option<Step>, NoMemory>
+        requires one_first { S.first state.now ≡ (R.context rules.now).first }
         ensures { IfOk result (λ found. IfSome found (IsStep (R.context rules.now) (S.facts state.now) (R.files rules.now))) }
     {
         let least = least_changed(tree, self.cursors.held.min(tree.len()));
@@ -245,6 +295,7 @@ impl Agenda {
         state: &S,
         rules: &R,
     ) -> Result<Option<Step>, NoMemory>
+        requires one_first { S.first state.now ≡ (R.context rules.now).first }
         ensures { IfOk result (λ found. IfSome found (IsStep (R.context rules.now) (S.facts state.now) (R.files rules.now))) }
     {
         let (place, union) = first_branching(
@@ -271,6 +322,7 @@ impl Agenda {
         state: &S,
         rules: &R,
     ) -> Result<Option<Step>, NoMemory>
+        requires one_first { S.first state.now ≡ (R.context rules.now).first }
         ensures { IfOk result (λ found. IfSome found (IsStep (R.context rules.now) (S.facts state.now) (R.files rules.now))) }
     {
         let (place, most) = first_branching(

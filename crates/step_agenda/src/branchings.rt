@@ -7,7 +7,7 @@ use crate::pairs::pair_by;
 use calculus_specs::Fact;
 use completion_tree::{Item, Tree};
 use std::alloc::{Allocator, Global};
-use step_finders::{Choosing, Rules, State, find_most_at, find_most_by, find_union_by};
+use step_finders::{Choosing, Rules, State, count_of, find_most_at, find_most_by, find_union_by};
 
 /// What is looked for.
 #[derive(Clone, Copy)]
@@ -33,6 +33,7 @@ pub(crate) fn first_branching<A: Allocator + Copy, S: State, R: Rules>(
     wanted: Wanted,
     from: u32,
 ) -> Result<(u32, Option<Choosing>), NoMemory>
+    requires one_first { S.first state.now ≡ (R.context rules.now).first }
     ensures { IfOk result (λ p. IfSome p.1 (IsChoosable (R.context rules.now) (S.facts state.now))) }
 {
     for place in from..tree.len() {
@@ -51,6 +52,7 @@ fn branching_by<S: State, R: Rules>(
     state: &S,
     rules: &R,
 ) -> Result<Option<Choosing>, NoMemory>
+    requires one_first { S.first state.now ≡ (R.context rules.now).first }
     ensures { IfOk result (λ found. IfSome found (IsChoosable (R.context rules.now) (S.facts state.now))) }
 {
     match wanted {
@@ -67,6 +69,7 @@ fn most_by<S: State, R: Rules>(
     state: &S,
     rules: &R,
 ) -> Result<Option<Choosing>, NoMemory>
+    requires one_first { S.first state.now ≡ (R.context rules.now).first }
     ensures { IfOk result (λ found. IfSome found (IsChoosable (R.context rules.now) (S.facts state.now))) }
 {
     match item {
@@ -91,9 +94,10 @@ fn most_of<S: State, R: Rules>(
     node: u32,
     concept: u32,
 ) -> Result<Option<Choosing>, NoMemory>
+    requires one_first { S.first state.now ≡ (R.context rules.now).first }
     ensures { IfOk result (λ found. IfSome found (IsChoosable (R.context rules.now) (S.facts state.now))) }
 {
-    if node >= state.nodes() || !state.has(node, concept) {
+    if node >= count_of(state, rules) || !state.has(node, concept) {
         return Ok(None);
     }
     find_most_by(heap, state, rules, node, concept)
@@ -105,9 +109,10 @@ fn most_at<S: State, R: Rules>(
     rules: &R,
     node: u32,
 ) -> Result<Option<Choosing>, NoMemory>
+    requires one_first { S.first state.now ≡ (R.context rules.now).first }
     ensures { IfOk result (λ found. IfSome found (IsChoosable (R.context rules.now) (S.facts state.now))) }
 {
-    if node >= state.nodes() {
+    if node >= count_of(state, rules) {
         return Ok(None);
     }
     find_most_at(heap, state, rules, node)
@@ -115,6 +120,7 @@ fn most_at<S: State, R: Rules>(
 
 // The union of the entry, where a part of it is to be chosen.
 fn union_by<S: State, R: Rules>(item: Item, state: &S, rules: &R) -> Option<Choosing>
+    requires one_first { S.first state.now ≡ (R.context rules.now).first }
     ensures { IfSome result (IsChoosable (R.context rules.now) (S.facts state.now)) }
 {
     match item {
@@ -129,9 +135,10 @@ fn union_by<S: State, R: Rules>(item: Item, state: &S, rules: &R) -> Option<Choo
 }
 
 fn union_of<S: State, R: Rules>(state: &S, rules: &R, node: u32, concept: u32) -> Option<Choosing>
+    requires one_first { S.first state.now ≡ (R.context rules.now).first }
     ensures { IfSome result (IsChoosable (R.context rules.now) (S.facts state.now)) }
 {
-    if node >= state.nodes() || !state.has(node, concept) {
+    if node >= count_of(state, rules) || !state.has(node, concept) {
         return None;
     }
     find_union_by(state, rules, node, concept)

@@ -3,12 +3,13 @@ ghost use Rattle.std.specs.Prelude.{◌≡◌, ◌<◌, IfOk, IfSome};
 ghost use Rattle.step_finders.specs.Choosing.{IsChoosable};
 
 use crate::NoMemory;
+use crate::above::{above, members_at};
 use crate::watched::{Closes, UnionIndex, Watch};
 use calculus_specs::Fact;
 use completion_tree::{Item, Tree};
 use shq_nnf::Shape;
 use std::alloc::Allocator;
-use step_finders::{Choosing, Rules, State, find_union_by};
+use step_finders::{Choosing, Rules, State, count_of, find_union_by};
 
 // Top, which is what closes that there is no successor.
 const TOP: u32 = 0;
@@ -26,6 +27,7 @@ pub(crate) fn first_forced<A: Allocator + Copy, S: State, R: Rules>(
     index: &mut UnionIndex,
     from: u32,
 ) -> Result<(u32, Option<Choosing>), NoMemory>
+    requires one_first { S.first state.now ≡ (R.context rules.now).first }
     ensures { IfOk result (λ p. IfSome p.1 (IsChoosable (R.context rules.now) (S.facts state.now))) }
 {
     for place in from..tree.len() {
@@ -44,24 +46,83 @@ fn forced_by<S: State, R: Rules>(
     rules: &R,
     index: &mut UnionIndex,
 ) -> Result<Option<Choosing>, NoMemory>
+    requires one_first { S.first state.now ≡ (R.context rules.now).first }
     ensures { IfOk result (λ found. IfSome found (IsChoosable (R.context rules.now) (S.facts state.now))) }
 {
     match item {
         Item::Fact(Fact::Has(node, concept)) => {
             forced_by_concept(state, rules, index, state.representative(node), concept)
         }
-        Item::Fact(Fact::Edge(_, from, _)) => Ok(forced_by_watches(
-            state,
-            rules,
-            index,
-            state.representative(from),
-            TOP,
-        )),
+        Item::Fact(Fact::Edge(_, from, to)) => {
+            Ok(forced_by_edge(state, rules, index, state.representative(from), to))
+        }
         Item::Fact(Fact::Same(node, _)) => {
             forced_by_label(state, rules, index, state.representative(node))
         }
         Item::Fact(Fact::Apart(_, _)) => Ok(None),
         Item::Mark(_) => Ok(None),
+    }
+}
+
+// A union of the beginning of an edge that is forced by what the end has: by top alone where the end is no first node,
+// since then what else it has came after the edge.
+fn forced_by_edge<S: State, R: Rules>(
+    state: &S,
+    rules: &R,
+    index: &UnionIndex,
+    from: u32,
+    to: u32,
+) -> Option<Choosing>
+    requires one_first { S.first state.now ≡ (R.context rules.now).first }
+    ensures { IfSome result (IsChoosable (R.context rules.now) (S.facts state.now)) }
+{
+    if to >= rules.first() {
+        return forced_by_successor(state, rules, index, from, TOP);
+    }
+    for concept in state.label(to) {
+        match forced_by_successor(state, rules, index, from, *concept) {
+            Some(choosing) => return Some(choosing),
+            None => {}
+        }
+    }
+    None
+}
+
+// A union of the node that is forced since a successor has the concept, which closes a part of it.
+fn forced_by_successor<S: State, R: Rules>(
+    state: &S,
+    rules: &R,
+    index: &UnionIndex,
+    node: u32,
+    concept: u32,
+) -> Option<Choosing>
+    requires one_first { S.first state.now ≡ (R.context rules.now).first }
+    ensures { IfSome result (IsChoosable (R.context rules.now) (S.facts state.now)) }
+{
+    let mut place = index.latest(concept);
+    for _ in 0..index.len() {
+        let watch = index.watch(place)?;
+        match forced_by_end(state, rules, node, watch) {
+            Some(choosing) => return Some(choosing),
+            None => {}
+        }
+        place = watch.next;
+    }
+    None
+}
+
+fn forced_by_end<S: State, R: Rules>(
+    state: &S,
+    rules: &R,
+    node: u32,
+    watch: Watch,
+) -> Option<Choosing>
+    requires one_first { S.first state.now ≡ (R.context rules.now).first }
+    ensures { IfSome result (IsChoosable (R.context rules.now) (S.facts state.now)) }
+{
+    match watch.closes {
+        Closes::Here => None,
+        Closes::Above => forced_at(state, rules, node, watch.union),
     }
 }
 
@@ -72,6 +133,7 @@ fn forced_by_label<S: State, R: Rules>(
     index: &mut UnionIndex,
     node: u32,
 ) -> Result<Option<Choosing>, NoMemory>
+    requires one_first { S.first state.now ≡ (R.context rules.now).first }
     ensures { IfOk result (λ found. IfSome found (IsChoosable (R.context rules.now) (S.facts state.now))) }
 {
     for concept in state.label(node) {
@@ -83,7 +145,7 @@ fn forced_by_label<S: State, R: Rules>(
     Ok(None)
 }
 
-// A union that is forced since the node has the concept: the concept itself, one of the node, or one of its parent.
+// A union that is forced since the node has the concept: the concept itself, one of the node, or one of a node above.
 fn forced_by_concept<S: State, R: Rules>(
     state: &S,
     rules: &R,
@@ -91,6 +153,7 @@ fn forced_by_concept<S: State, R: Rules>(
     node: u32,
     concept: u32,
 ) -> Result<Option<Choosing>, NoMemory>
+    requires one_first { S.first state.now ≡ (R.context rules.now).first }
     ensures { IfOk result (λ found. IfSome found (IsChoosable (R.context rules.now) (S.facts state.now))) }
 {
     match rules.shape(concept) {
@@ -121,12 +184,13 @@ fn forced_by_watches<S: State, R: Rules>(
     node: u32,
     concept: u32,
 ) -> Option<Choosing>
+    requires one_first { S.first state.now ≡ (R.context rules.now).first }
     ensures { IfSome result (IsChoosable (R.context rules.now) (S.facts state.now)) }
 {
     let mut place = index.latest(concept);
     for _ in 0..index.len() {
         let watch = index.watch(place)?;
-        match forced_by_watch(state, rules, node, concept, watch) {
+        match forced_by_watch(state, rules, node, watch) {
             Some(choosing) => return Some(choosing),
             None => {}
         }
@@ -139,32 +203,55 @@ fn forced_by_watch<S: State, R: Rules>(
     state: &S,
     rules: &R,
     node: u32,
-    concept: u32,
     watch: Watch,
 ) -> Option<Choosing>
+    requires one_first { S.first state.now ≡ (R.context rules.now).first }
     ensures { IfSome result (IsChoosable (R.context rules.now) (S.facts state.now)) }
 {
     match watch.closes {
         Closes::Here => forced_at(state, rules, node, watch.union),
-        Closes::Above if concept == TOP => forced_at(state, rules, node, watch.union),
-        Closes::Above => forced_at(state, rules, above(state, node)?, watch.union),
+        Closes::Above => forced_above(state, rules, node, watch.union),
     }
 }
 
-// The node from which edges lead to this one.
-pub(crate) fn above<S: State>(state: &S, node: u32) -> Option<u32> {
-    if node >= state.nodes() {
-        return None;
+// The union, where a node from which an edge leads to this one has it, and it is forced there.
+fn forced_above<S: State, R: Rules>(state: &S, rules: &R, node: u32, union: u32) -> Option<Choosing>
+    requires one_first { S.first state.now ≡ (R.context rules.now).first }
+    ensures { IfSome result (IsChoosable (R.context rules.now) (S.facts state.now)) }
+{
+    match above(state, node) {
+        Some(above) => return forced_at(state, rules, above, union),
+        None => {}
     }
-    let parent = state.parent(node)?;
-    Some(state.representative(parent))
+    for member in members_at(state, node) {
+        match forced_into(state, rules, *member, union) {
+            Some(choosing) => return Some(choosing),
+            None => {}
+        }
+    }
+    None
+}
+
+// The union, where a node from which an edge to this one is given has it, and it is forced there.
+fn forced_into<S: State, R: Rules>(state: &S, rules: &R, node: u32, union: u32) -> Option<Choosing>
+    requires one_first { S.first state.now ≡ (R.context rules.now).first }
+    ensures { IfSome result (IsChoosable (R.context rules.now) (S.facts state.now)) }
+{
+    for edge in rules.given_into(node) {
+        match forced_at(state, rules, state.representative(edge.1), union) {
+            Some(choosing) => return Some(choosing),
+            None => {}
+        }
+    }
+    None
 }
 
 // The union, where the node has it, a part of it is to be chosen, and it is forced.
 fn forced_at<S: State, R: Rules>(state: &S, rules: &R, node: u32, union: u32) -> Option<Choosing>
+    requires one_first { S.first state.now ≡ (R.context rules.now).first }
     ensures { IfSome result (IsChoosable (R.context rules.now) (S.facts state.now)) }
 {
-    if node >= state.nodes() || !state.has(node, union) {
+    if node >= count_of(state, rules) || !state.has(node, union) {
         return None;
     }
     let choosing = find_union_by(state, rules, node, union)?;

@@ -14,6 +14,10 @@
 //! Solver", DAC 2001). What is found can be done. That nothing is found says nothing, since a join or a block that goes
 //! can make an old fact count again: then `step_finders::find_step` looks through everything.
 //!
+//! The facts that axioms give to individuals are put before anything else. An edge that is given may lead to a node of
+//! which more is known already than that it is there, so what it brings is looked for by all that its end has; and what
+//! comes to an individual is looked at from each individual with an edge to it, where other nodes have a parent alone.
+//!
 //! What needs no look at blocks is looked for first, so that blocks are found where nothing of it is left alone, and
 //! not after each step.
 //!
@@ -21,10 +25,12 @@
 //! blocks of its nodes.
 #![tactic(auto)]
 
+mod above;
 mod additions;
 mod agenda;
 mod branchings;
 mod forced;
+mod givings;
 mod makings;
 mod pairs;
 mod tree_state;

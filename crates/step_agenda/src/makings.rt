@@ -7,7 +7,7 @@ use calculus_specs::Fact;
 use completion_tree::{Item, Tree};
 use shq_nnf::Shape;
 use std::alloc::{Allocator, Global};
-use step_finders::{NewNodes, Rules, StateWithBlocks, find_making_by};
+use step_finders::{NewNodes, Rules, StateWithBlocks, count_of, find_making_by};
 
 /// An entry that asks for nodes, as far as its node was not clear.
 #[derive(Clone, Copy, Debug, PartialEq, Eq)]
@@ -32,6 +32,7 @@ pub(crate) fn first_making<A: Allocator + Copy, S: StateWithBlocks, R: Rules>(
     held: &mut Vec<Held>,
     from: u32,
 ) -> Result<(u32, Option<NewNodes>), NoMemory>
+    requires one_first { S.first state.now ≡ (R.context rules.now).first }
     ensures { IfOk result (λ p. IfSome p.1 (IsMaking (R.context rules.now) (S.facts state.now))) }
 {
     for place in from..tree.len() {
@@ -80,6 +81,7 @@ pub(crate) fn first_held<A: Allocator + Copy, S: StateWithBlocks, R: Rules>(
     held: &[Held],
     from: u32,
 ) -> Result<Option<NewNodes>, NoMemory>
+    requires one_first { S.first state.now ≡ (R.context rules.now).first }
     ensures { IfOk result (λ found. IfSome found (IsMaking (R.context rules.now) (S.facts state.now))) }
 {
     for entry in held {
@@ -100,6 +102,7 @@ fn making_by<S: StateWithBlocks, R: Rules>(
     state: &S,
     rules: &R,
 ) -> Result<Option<NewNodes>, NoMemory>
+    requires one_first { S.first state.now ≡ (R.context rules.now).first }
     ensures { IfOk result (λ found. IfSome found (IsMaking (R.context rules.now) (S.facts state.now))) }
 {
     match item {
@@ -121,12 +124,13 @@ fn making_at<S: StateWithBlocks, R: Rules>(
     node: u32,
     concept: u32,
 ) -> Result<Option<NewNodes>, NoMemory>
+    requires one_first { S.first state.now ≡ (R.context rules.now).first }
     ensures { IfOk result (λ found. IfSome found (IsMaking (R.context rules.now) (S.facts state.now))) }
 {
     if !asks(rules, concept) {
         return Ok(None);
     }
-    if node >= state.nodes() || !state.has(node, concept) {
+    if node >= count_of(state, rules) || !state.has(node, concept) {
         return Ok(None);
     }
     if state.representative(node) != node {

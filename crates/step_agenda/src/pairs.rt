@@ -3,15 +3,24 @@ ghost use Rattle.std.specs.Prelude.{◌≡◌, ◌<◌, IfOk, IfSome};
 ghost use Rattle.step_finders.specs.Choosing.{IsChoosable};
 
 use crate::NoMemory;
-use crate::forced::above;
+use crate::above::{above, members_at};
 use calculus_specs::Fact;
 use completion_tree::Item;
 use shq_nnf::Shape;
 use std::alloc::Global;
-use step_finders::{Choosing, Rules, State, find_pair_by};
+use step_finders::{Choosing, Rules, State, count_of, find_pair_by};
 
 // Top, the filler that each node has.
 const TOP: u32 = 0;
+
+// The concepts of a node that are asked.
+#[derive(Clone, Copy)]
+enum Asked<'a> {
+    // These, where the node has them.
+    These(&'a [u32]),
+    // All that it has.
+    Own,
+}
 
 /// A pair that is to be chosen by the entry.
 ///
@@ -24,14 +33,15 @@ pub(crate) fn pair_by<S: State, R: Rules>(
     state: &S,
     rules: &R,
 ) -> Result<Option<Choosing>, NoMemory>
+    requires one_first { S.first state.now ≡ (R.context rules.now).first }
     ensures { IfOk result (λ found. IfSome found (IsChoosable (R.context rules.now) (S.facts state.now))) }
 {
     match item {
         Item::Fact(Fact::Has(node, concept)) => {
             pair_by_concept(heap, state, rules, state.representative(node), concept)
         }
-        Item::Fact(Fact::Edge(role, from, _)) => {
-            pair_by_edge(heap, state, rules, role, state.representative(from))
+        Item::Fact(Fact::Edge(role, from, to)) => {
+            pair_by_edge(heap, state, rules, role, state.representative(from), to)
         }
         Item::Fact(Fact::Same(node, _)) => {
             pair_by_join(heap, state, rules, state.representative(node))
@@ -49,30 +59,90 @@ fn pair_by_concept<S: State, R: Rules>(
     node: u32,
     concept: u32,
 ) -> Result<Option<Choosing>, NoMemory>
+    requires one_first { S.first state.now ≡ (R.context rules.now).first }
     ensures { IfOk result (λ found. IfSome found (IsChoosable (R.context rules.now) (S.facts state.now))) }
 {
     match pair_of(heap, state, rules, node, concept)? {
         Some(choosing) => Ok(Some(choosing)),
-        None => pair_above(heap, state, rules, node, rules.mosts(concept)),
+        None => pair_by_mosts_above(heap, state, rules, node, rules.mosts(concept)),
     }
 }
 
-// A pair by one of these, all of them an 'at most', where the parent of the node has it.
-fn pair_above<S: State, R: Rules>(
+// A pair by one of these, all of them an 'at most', where a node above has it.
+fn pair_by_mosts_above<S: State, R: Rules>(
     heap: Global,
     state: &S,
     rules: &R,
     node: u32,
     mosts: &[u32],
 ) -> Result<Option<Choosing>, NoMemory>
+    requires one_first { S.first state.now ≡ (R.context rules.now).first }
     ensures { IfOk result (λ found. IfSome found (IsChoosable (R.context rules.now) (S.facts state.now))) }
 {
     if mosts.is_empty() {
         return Ok(None);
     }
+    pair_above(heap, state, rules, node, Asked::These(mosts))
+}
+
+// A pair by a concept that is asked of a node from which an edge leads to this one.
+fn pair_above<S: State, R: Rules>(
+    heap: Global,
+    state: &S,
+    rules: &R,
+    node: u32,
+    asked: Asked<'_>,
+) -> Result<Option<Choosing>, NoMemory>
+    requires one_first { S.first state.now ≡ (R.context rules.now).first }
+    ensures { IfOk result (λ found. IfSome found (IsChoosable (R.context rules.now) (S.facts state.now))) }
+{
     match above(state, node) {
-        Some(parent) => pair_of_any(heap, state, rules, parent, mosts),
-        None => Ok(None),
+        Some(above) => return pair_of_asked(heap, state, rules, above, asked),
+        None => {}
+    }
+    for member in members_at(state, node) {
+        match pair_into(heap, state, rules, *member, asked)? {
+            Some(choosing) => return Ok(Some(choosing)),
+            None => {}
+        }
+    }
+    Ok(None)
+}
+
+// A pair by a concept that is asked of a node from which an edge to this one is given.
+fn pair_into<S: State, R: Rules>(
+    heap: Global,
+    state: &S,
+    rules: &R,
+    node: u32,
+    asked: Asked<'_>,
+) -> Result<Option<Choosing>, NoMemory>
+    requires one_first { S.first state.now ≡ (R.context rules.now).first }
+    ensures { IfOk result (λ found. IfSome found (IsChoosable (R.context rules.now) (S.facts state.now))) }
+{
+    for edge in rules.given_into(node) {
+        match pair_of_asked(heap, state, rules, state.representative(edge.1), asked)? {
+            Some(choosing) => return Ok(Some(choosing)),
+            None => {}
+        }
+    }
+    Ok(None)
+}
+
+// A pair by a concept of the node that is asked.
+fn pair_of_asked<S: State, R: Rules>(
+    heap: Global,
+    state: &S,
+    rules: &R,
+    node: u32,
+    asked: Asked<'_>,
+) -> Result<Option<Choosing>, NoMemory>
+    requires one_first { S.first state.now ≡ (R.context rules.now).first }
+    ensures { IfOk result (λ found. IfSome found (IsChoosable (R.context rules.now) (S.facts state.now))) }
+{
+    match asked {
+        Asked::These(concepts) => pair_of_any(heap, state, rules, node, concepts),
+        Asked::Own => pair_of_any(heap, state, rules, node, state.label(node)),
     }
 }
 
@@ -84,6 +154,7 @@ fn pair_of_any<S: State, R: Rules>(
     node: u32,
     concepts: &[u32],
 ) -> Result<Option<Choosing>, NoMemory>
+    requires one_first { S.first state.now ≡ (R.context rules.now).first }
     ensures { IfOk result (λ found. IfSome found (IsChoosable (R.context rules.now) (S.facts state.now))) }
 {
     for concept in concepts {
@@ -95,17 +166,44 @@ fn pair_of_any<S: State, R: Rules>(
     Ok(None)
 }
 
-// A pair by an 'at most' of all successors by a role above this one.
+// A pair by an 'at most' of the beginning of an edge that counts its end: where that is no first node, one of all
+// successors, since what else the end has came after the edge.
 fn pair_by_edge<S: State, R: Rules>(
     heap: Global,
     state: &S,
     rules: &R,
     role: u32,
-    node: u32,
+    from: u32,
+    to: u32,
 ) -> Result<Option<Choosing>, NoMemory>
+    requires one_first { S.first state.now ≡ (R.context rules.now).first }
     ensures { IfOk result (λ found. IfSome found (IsChoosable (R.context rules.now) (S.facts state.now))) }
 {
-    for concept in rules.mosts(TOP) {
+    if to >= rules.first() {
+        return pair_by_filler(heap, state, rules, role, from, TOP);
+    }
+    for concept in state.label(to) {
+        match pair_by_filler(heap, state, rules, role, from, *concept)? {
+            Some(choosing) => return Ok(Some(choosing)),
+            None => {}
+        }
+    }
+    Ok(None)
+}
+
+// A pair by an 'at most' of the node with this filler, of a role above this one.
+fn pair_by_filler<S: State, R: Rules>(
+    heap: Global,
+    state: &S,
+    rules: &R,
+    role: u32,
+    node: u32,
+    filler: u32,
+) -> Result<Option<Choosing>, NoMemory>
+    requires one_first { S.first state.now ≡ (R.context rules.now).first }
+    ensures { IfOk result (λ found. IfSome found (IsChoosable (R.context rules.now) (S.facts state.now))) }
+{
+    for concept in rules.mosts(filler) {
         if counts(rules, *concept, role) {
             match pair_of(heap, state, rules, node, *concept)? {
                 Some(choosing) => return Ok(Some(choosing)),
@@ -132,21 +230,19 @@ fn counts<R: Rules>(rules: &R, concept: u32, role: u32) -> bool {
     }
 }
 
-// A pair by what a node has that was joined, or its parent.
+// A pair by what a node has that was joined, or a node above.
 fn pair_by_join<S: State, R: Rules>(
     heap: Global,
     state: &S,
     rules: &R,
     node: u32,
 ) -> Result<Option<Choosing>, NoMemory>
+    requires one_first { S.first state.now ≡ (R.context rules.now).first }
     ensures { IfOk result (λ found. IfSome found (IsChoosable (R.context rules.now) (S.facts state.now))) }
 {
     match pair_of_any(heap, state, rules, node, state.label(node))? {
         Some(choosing) => Ok(Some(choosing)),
-        None => match above(state, node) {
-            Some(parent) => pair_of_any(heap, state, rules, parent, state.label(parent)),
-            None => Ok(None),
-        },
+        None => pair_above(heap, state, rules, node, Asked::Own),
     }
 }
 
@@ -158,9 +254,10 @@ fn pair_of<S: State, R: Rules>(
     node: u32,
     concept: u32,
 ) -> Result<Option<Choosing>, NoMemory>
+    requires one_first { S.first state.now ≡ (R.context rules.now).first }
     ensures { IfOk result (λ found. IfSome found (IsChoosable (R.context rules.now) (S.facts state.now))) }
 {
-    if node >= state.nodes() || !state.has(node, concept) {
+    if node >= count_of(state, rules) || !state.has(node, concept) {
         return Ok(None);
     }
     find_pair_by(heap, state, rules, node, concept)

@@ -26,7 +26,9 @@ impl<'a, A: Allocator + Copy> TreeState<'a, A> {
 }
 
 impl<'a, A: Allocator + Copy> State for TreeState<'a, A> {
-    ghost facts = { λ s. facts_in s.tree.now };
+    ghost facts = { λ s. facts_in s.tree.now.entries };
+
+    ghost first = { λ s. s.tree.now.first };
 
     fn nodes(&self) -> u32 {
         self.tree.nodes()
@@ -34,6 +36,10 @@ impl<'a, A: Allocator + Copy> State for TreeState<'a, A> {
 
     fn representative(&self, node: u32) -> u32 {
         self.tree.representative(node)
+    }
+
+    fn members(&self, node: u32) -> &[u32] {
+        self.tree.members(node)
     }
 
     fn parent(&self, node: u32) -> Option<u32> {
@@ -56,8 +62,8 @@ impl<'a, A: Allocator + Copy> State for TreeState<'a, A> {
         self.tree.edges(node)
     }
 
-    fn are_apart(&self, first: u32, second: u32) -> bool {
-        self.tree.are_apart(first, second)
+    fn are_apart(&self, one: u32, other: u32) -> bool {
+        self.tree.are_apart(one, other)
     }
 }
 
@@ -68,13 +74,13 @@ pub struct TreeWithBlocks<'a, A: Allocator> {
     pub state: TreeState<'a, A>,
     /// The blocks of its nodes.
     pub prints: &'a Blocks,
-    ghost current: { IsCurrent (facts_in state.tree.now) prints.now },
+    ghost current: { IsCurrent state.tree.now.first (facts_in state.tree.now.entries) prints.now },
 }
 
 impl<'a, A: Allocator + Copy> TreeWithBlocks<'a, A> {
     /// The tree with its blocks, which have been followed since it changed.
     pub fn new(tree: &'a Tree<A>, prints: &'a Blocks) -> Self
-        requires { IsCurrent (facts_in tree.now) prints.now }
+        requires { IsCurrent tree.now.first (facts_in tree.now.entries) prints.now }
         ensures tree { result.state.tree.now ≡ tree.now }
         ensures prints { result.prints.now ≡ prints.now }
     {
@@ -86,7 +92,9 @@ impl<'a, A: Allocator + Copy> TreeWithBlocks<'a, A> {
 }
 
 impl<'a, A: Allocator + Copy> State for TreeWithBlocks<'a, A> {
-    ghost facts = { λ s. facts_in s.state.tree.now };
+    ghost facts = { λ s. facts_in s.state.tree.now.entries };
+
+    ghost first = { λ s. s.state.tree.now.first };
 
     fn nodes(&self) -> u32 {
         self.state.nodes()
@@ -94,6 +102,10 @@ impl<'a, A: Allocator + Copy> State for TreeWithBlocks<'a, A> {
 
     fn representative(&self, node: u32) -> u32 {
         self.state.representative(node)
+    }
+
+    fn members(&self, node: u32) -> &[u32] {
+        self.state.members(node)
     }
 
     fn parent(&self, node: u32) -> Option<u32> {
@@ -116,8 +128,8 @@ impl<'a, A: Allocator + Copy> State for TreeWithBlocks<'a, A> {
         self.state.edges(node)
     }
 
-    fn are_apart(&self, first: u32, second: u32) -> bool {
-        self.state.are_apart(first, second)
+    fn are_apart(&self, one: u32, other: u32) -> bool {
+        self.state.are_apart(one, other)
     }
 }
 

@@ -6,7 +6,7 @@ use Rattle.std.proofs.lemmas.List.Elements.{All-contains}
 use Rattle.calculus_specs.specs.Shape.{Shape, shape_of}
 use Rattle.calculus_specs.specs.Shape.Shape.{intersection, all_of}
 use Rattle.calculus_specs.specs.declared.facts.Fact.{Fact}
-use Rattle.calculus_specs.specs.State.{node_count, has, is_successor}
+use Rattle.calculus_specs.specs.State.{node_count_from, has, is_successor}
 use Rattle.tableau_specs.specs.Steps.{SearchContext, below_of}
 use Rattle.tableau_specs.specs.Steps.Adds.{by_and, by_all, by_carry}
 use Rattle.calculus_specs.specs.Listed.{IsLabel}
@@ -21,7 +21,7 @@ abbrev pub added : ℕ → ℕ → Reason → Addition
 added x d reason = record { node = x; concept = d; reason = reason }
 
 module _ (w : SearchContext) (files : Files) (fs : List (Fact ℕ)) (x c : ℕ) where
-  pub part_adds : (parts : List ℕ) (d : ℕ) → x < node_count fs → has fs x c ≡ true → shape_of w.table c ≡ intersection parts → Contains parts d → has fs x d ≡ false
+  pub part_adds : (parts : List ℕ) (d : ℕ) → x < node_count_from w.first fs → has fs x c ≡ true → shape_of w.table c ≡ intersection parts → Contains parts d → has fs x d ≡ false
       → IsAddition w fs files (added x d (R.And c))
   part_adds parts d lt h sh m out = record {
     adds = by_and x c d parts lt h sh m;
@@ -29,20 +29,20 @@ module _ (w : SearchContext) (files : Files) (fs : List (Fact ℕ)) (x c : ℕ) 
     reason = record { is_node = lt; holds = h; parts = parts; shape = sh; is_part = m };
   }
 
-  pub all_adds : (s e q y : ℕ) → x < node_count fs → has fs x c ≡ true → shape_of w.table c ≡ all_of s e → LacksAtEnd w fs x s e q y → IsAddition w fs files (added y e (R.All x q c))
+  pub all_adds : (s e q y : ℕ) → x < node_count_from w.first fs → has fs x c ≡ true → shape_of w.table c ≡ all_of s e → LacksAtEnd w fs x s e q y → IsAddition w fs files (added y e (R.All x q c))
   all_adds s e q y lt h sh at =
-      let is_edge = edge_to_next fs q x y lt at.next in
+      let is_edge = edge_to_next w.first fs q x y lt at.next in
       record {
         adds = by_all x y c s e lt is_edge.end_is_node h sh (edge_of_kind fs (λ r. below_of w r s) q x y at.role_below is_edge.leads);
         lacks = at.lacks;
         reason = record { is_edge = is_edge; holds = h; role = s; shape = sh; role_below = at.role_below };
       }
 
-  pub carry_adds : (s e : ℕ) (pairs : List (ℕ × ℕ)) (pair : ℕ × ℕ) (q y : ℕ) → x < node_count fs → has fs x c ≡ true → shape_of w.table c ≡ all_of s e
+  pub carry_adds : (s e : ℕ) (pairs : List (ℕ × ℕ)) (pair : ℕ × ℕ) (q y : ℕ) → x < node_count_from w.first fs → has fs x c ≡ true → shape_of w.table c ≡ all_of s e
       → AreCarries w s e pairs → Contains pairs pair → LacksAtEnd w fs x pair.0 pair.1 q y → IsAddition w fs files (added y pair.1 (R.Carry x q pair.0 c))
   carry_adds s e pairs pair q y lt h sh are m at =
       let i = All-contains (IsCarry w s e) pairs pair are.each m in
-      let is_edge = edge_to_next fs q x y lt at.next in
+      let is_edge = edge_to_next w.first fs q x y lt at.next in
       record {
         adds = by_carry x y c s pair.0 e pair.1
             (record {

@@ -9,7 +9,7 @@ use Rattle.calculus_specs.specs.Shape.Shape.{top, bottom, name, not_name, inters
 use Rattle.calculus_specs.specs.Tree.{IsComplement}
 use Rattle.calculus_specs.proofs.Unique.{numbers_unique}
 use Rattle.calculus_specs.specs.declared.facts.Fact.{Fact}
-use Rattle.calculus_specs.specs.State.{node_count, has, is_successor, all_apart}
+use Rattle.calculus_specs.specs.State.{node_count_from, has, is_successor, all_apart}
 use Rattle.tableau_specs.specs.declared.Branch.{Branch}
 use Rattle.tableau_specs.specs.Clash.{filled_successors}
 use Rattle.tableau_specs.specs.Steps.{SearchContext, below_of, MayBranch}
@@ -83,23 +83,23 @@ module _ (w : SearchContext) (fs : List (Fact ℕ)) (x s e : ℕ) (edges : List 
 
 module _ (w : SearchContext) (fs : List (Fact ℕ)) (x n s e : ℕ) (ys : List ℕ) (is : AreFilled (below_of w) fs x s e ys) where
   pub no_pair_few : length ys ≤ n → NoPair w fs x n s e
-  no_pair_few few = record { are_apart = λ more. absurd (omega (arith, more, few, same_length (below_of w) fs x s e ys is)) }
+  no_pair_few few = record { are_apart = λ more. absurd (omega (arith, more, few, same_length w.first (below_of w) fs x s e ys is)) }
 
   pub pair_or_none : (found : Option (ℕ × ℕ)) → n < length ys → MatchOption found (all_apart fs ys ≡ true) (λ p. AreUnapart fs ys p.0 p.1)
       → MatchOption found (NoPair w fs x n s e) (λ p. IsPair w fs x n s e p.0 p.1)
-  pair_or_none None more h = record { are_apart = λ more'. same_apart fs (below_of w) x s e ys is h }
+  pair_or_none None more h = record { are_apart = λ more'. same_apart fs w.first (below_of w) x s e ys is h }
   pair_or_none (Some p) more h = record {
-    more = omega (arith, more, same_length (below_of w) fs x s e ys is);
-    two = same_unapart fs (below_of w) x s e ys p.0 p.1 is h;
+    more = omega (arith, more, same_length w.first (below_of w) fs x s e ys is);
+    two = same_unapart fs w.first (below_of w) x s e ys p.0 p.1 is h;
   }
 
 -- ---- choices
 
-module _ (w : SearchContext) (fs : List (Fact ℕ)) (x c : ℕ) (lt : x < node_count fs) (holds : has fs x c ≡ true) where
+module _ (w : SearchContext) (fs : List (Fact ℕ)) (x c : ℕ) (lt : x < node_count_from w.first fs) (holds : has fs x c ≡ true) where
   pub may_choose : (n s e q y : ℕ) → shape_of w.table c ≡ at_most n s e → UndecidedAtEnd w fs x s e q y → IsChoosable w fs (C.Filler y e x q c)
   may_choose n s e q y sh h = record {
     may = on_filler x c n s e y lt holds sh (next_of_kind fs (λ r. below_of w r s) q x y h.role_below h.next) h.undecided.lacks h.undecided.lacks_complement;
-    why = record { is_edge = edge_to_next fs q x y lt h.next; holds = holds; count = n; role = s; shape = sh; role_below = h.role_below };
+    why = record { is_edge = edge_to_next w.first fs q x y lt h.next; holds = holds; count = n; role = s; shape = sh; role_below = h.role_below };
     first = _;
     is_first = of_filler y e;
   }
@@ -108,8 +108,8 @@ module _ (w : SearchContext) (fs : List (Fact ℕ)) (x c : ℕ) (lt : x < node_c
   may_pair n s e y z q r sh h to_y to_z = record {
     may = on_pair x c n s e y z lt holds sh h.more h.two.has_one h.two.has_other h.two.differ h.two.unapart;
     why = record {
-      first_edge = edge_to_next fs q x y lt to_y.next;
-      second_edge = edge_to_next fs r x z lt to_z.next;
+      first_edge = edge_to_next w.first fs q x y lt to_y.next;
+      second_edge = edge_to_next w.first fs r x z lt to_z.next;
       holds = holds;
       count = n;
       role = s;
@@ -117,8 +117,8 @@ module _ (w : SearchContext) (fs : List (Fact ℕ)) (x c : ℕ) (lt : x < node_c
       shape = sh;
       first_below = to_y.role_below;
       second_below = to_z.role_below;
-      first_has = All-contains (λ v. has fs v e ≡ true) (filled_successors (below_of w) fs x s e) y (filled_have_filler (below_of w) fs x s e) h.two.has_one;
-      second_has = All-contains (λ v. has fs v e ≡ true) (filled_successors (below_of w) fs x s e) z (filled_have_filler (below_of w) fs x s e) h.two.has_other;
+      first_has = All-contains (λ v. has fs v e ≡ true) (filled_successors w.first (below_of w) fs x s e) y (filled_have_filler w.first (below_of w) fs x s e) h.two.has_one;
+      second_has = All-contains (λ v. has fs v e ≡ true) (filled_successors w.first (below_of w) fs x s e) z (filled_have_filler w.first (below_of w) fs x s e) h.two.has_other;
     };
     first = _;
     is_first = of_joining y z;
@@ -126,10 +126,10 @@ module _ (w : SearchContext) (fs : List (Fact ℕ)) (x c : ℕ) (lt : x < node_c
 
   -- both are successors
   pub first_is_next : (n s e y z : ℕ) → IsPair w fs x n s e y z → is_successor fs (λ r. below_of w r s) x y ≡ true
-  first_is_next n s e y z h = All-contains (λ v. is_successor fs (λ r. below_of w r s) x v ≡ true) (filled_successors (below_of w) fs x s e) y (filled_are_successors (below_of w) fs x s e) h.two.has_one
+  first_is_next n s e y z h = All-contains (λ v. is_successor fs (λ r. below_of w r s) x v ≡ true) (filled_successors w.first (below_of w) fs x s e) y (filled_are_successors w.first (below_of w) fs x s e) h.two.has_one
 
   pub second_is_next : (n s e y z : ℕ) → IsPair w fs x n s e y z → is_successor fs (λ r. below_of w r s) x z ≡ true
-  second_is_next n s e y z h = All-contains (λ v. is_successor fs (λ r. below_of w r s) x v ≡ true) (filled_successors (below_of w) fs x s e) z (filled_are_successors (below_of w) fs x s e) h.two.has_other
+  second_is_next n s e y z h = All-contains (λ v. is_successor fs (λ r. below_of w r s) x v ≡ true) (filled_successors w.first (below_of w) fs x s e) z (filled_are_successors w.first (below_of w) fs x s e) h.two.has_other
 
   none_of : (parts : List ℕ) → list_any (has fs x) parts ≡ false → All (λ d. has fs x d ≡ false) parts
   none_of [] h = All-nil (λ d. has fs x d ≡ false)
@@ -170,7 +170,7 @@ module _ (w : SearchContext) (fs : List (Fact ℕ)) where
   moved : (x c : ℕ) → has fs (rep fs x) c ≡ has fs x c
   moved x c = has_at fs (rep fs x) x c (rep_twice fs x)
 
-  rep_is_node : (x : ℕ) → x < node_count fs → rep fs x < node_count fs
+  rep_is_node : (x : ℕ) → x < node_count_from w.first fs → rep fs x < node_count_from w.first fs
   rep_is_node x lt = omega (arith, rep-le fs x, lt)
 
   next_moved : (roles : ℕ → Bool) (x y : ℕ) → is_successor fs roles (rep fs x) y ≡ is_successor fs roles x y
@@ -193,7 +193,7 @@ module _ (w : SearchContext) (fs : List (Fact ℕ)) where
 
   most_moved : (x : ℕ) (sh : Shape) → NoMostByShape w fs (rep fs x) sh → NoMostByShape w fs x sh
   most_moved x (at_most n s e) h =
-      let same = filled_at fs (below_of w) (rep fs x) x s e (rep_twice fs x) in (
+      let same = filled_at fs w.first (below_of w) (rep fs x) x s e (rep_twice fs x) in (
         record { decided = λ y next. h.0.decided y (next_moved (λ r. below_of w r s) x y ∙ next) },
         record {
           are_apart = λ more.
@@ -210,12 +210,12 @@ module _ (w : SearchContext) (fs : List (Fact ℕ)) where
   most_moved x (all_of s e) h = tt
   most_moved x (at_least n s e) h = tt
 
-  pub no_union : ((z : ℕ) → z < node_count fs → rep fs z ≡ z → NoUnionAt w fs z) → NoUnion w fs
+  pub no_union : ((z : ℕ) → z < node_count_from w.first fs → rep fs z ≡ z → NoUnionAt w fs z) → NoUnion w fs
   no_union each x lt = record {
     none = λ c h. union_moved x (shape_of w.table c) ((each (rep fs x) (rep_is_node x lt) (rep_twice fs x)).none c (moved x c ∙ h));
   }
 
-  pub no_most : ((z : ℕ) → z < node_count fs → rep fs z ≡ z → NoMostAt w fs z) → NoMost w fs
+  pub no_most : ((z : ℕ) → z < node_count_from w.first fs → rep fs z ≡ z → NoMostAt w fs z) → NoMost w fs
   no_most each x lt = record {
     none = λ c h. most_moved x (shape_of w.table c) ((each (rep fs x) (rep_is_node x lt) (rep_twice fs x)).none c (moved x c ∙ h));
   }
@@ -233,7 +233,7 @@ module _ (w : SearchContext) (fs : List (Fact ℕ)) where
   none_may unions mosts b (on_filler x c n s e y lt h sh next out lacks) = not_decided y e out lacks ((subst (NoMostByShape w fs x) sh ((mosts x lt).none c h)).0.decided y next)
   none_may unions mosts b (on_pair x c n s e y z lt h sh more cy cz ne out) =
       let every = (subst (NoMostByShape w fs x) sh ((mosts x lt).none c h)).1.are_apart more in
-      let apart = pair_apart fs (filled_successors (below_of w) fs x s e) y z every (contains_member y (filled_successors (below_of w) fs x s e) cy) (contains_member z (filled_successors (below_of w) fs x s e) cz) ne in
+      let apart = pair_apart fs (filled_successors w.first (below_of w) fs x s e) y z every (contains_member y (filled_successors w.first (below_of w) fs x s e) cy) (contains_member z (filled_successors w.first (below_of w) fs x s e) cz) ne in
       cc
 
   pub nothing_to_choose : NoUnion w fs → NoMost w fs → NothingToChoose w fs

@@ -5,7 +5,7 @@ use Rattle.std.proofs.lemmas.Bool.{eqb-true, or_cases, and_parts, cases_Bool, or
 use Rattle.std.proofs.lemmas.Bool.Decides.{nat_tests}
 use Rattle.calculus_specs.specs.declared.facts.Fact.{Fact}
 use Rattle.calculus_specs.specs.declared.facts.Fact.TheVariants.{Has, Edge, Apart, Same}
-use Rattle.calculus_specs.specs.State.{node_count, gives_edge, has, has_edge, is_successor}
+use Rattle.calculus_specs.specs.State.{node_count_from, gives_edge, has, has_edge, is_successor}
 use Rattle.tableau_specs.proofs.PlainClash.{successor_is_node, successor_has_edge}
 use Rattle.tableau_specs.specs.Steps.{SearchContext, below_of}
 use Rattle.calculus_specs.specs.Joins.{rep}
@@ -106,5 +106,5 @@ next_of_kind fs roles r x y hit h =
     rw t.0 (edge_of_kind fs roles r x y hit t.1)
 
 -- a successor by this very role is at the end of an edge
-pub edge_to_next : (fs : List (Fact ℕ)) (r x y : ℕ) → x < node_count fs → is_successor fs (λ q. eqb q r) x y ≡ true → IsEdge fs r x y
-edge_to_next fs r x y lt h = record { begin_is_node = lt; end_is_node = successor_is_node fs (λ q. eqb q r) x y h; leads = successor_has_edge fs (λ q. eqb q r) x y h }
+pub edge_to_next : (first : ℕ) (fs : List (Fact ℕ)) (r x y : ℕ) → x < node_count_from first fs → is_successor fs (λ q. eqb q r) x y ≡ true → IsEdge first fs r x y
+edge_to_next first fs r x y lt h = record { begin_is_node = lt; end_is_node = successor_is_node first fs (λ q. eqb q r) x y h; leads = successor_has_edge fs (λ q. eqb q r) x y h }

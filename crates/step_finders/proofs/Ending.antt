@@ -9,6 +9,7 @@ pub saturated : (w : SearchContext) (trail : List Item) → ¬ HasPlainClash w t
 saturated w trail none h = record {
   no_clash = none;
   no_add = h.no_add.no_add;
+  no_give = h.no_give;
   no_carry = h.no_add.no_carry;
   no_generate = h.no_making.none;
   no_choose = λ b f may alt. h.no_choice.none b may;

@@ -14,7 +14,7 @@ use Rattle.calculus_specs.specs.Rows.Part.{inclusion}
 use Rattle.calculus_specs.specs.Rows.Trigger.{always, names, edge, end_of}
 use Rattle.calculus_specs.specs.declared.facts.Fact.{Fact}
 use Rattle.calculus_specs.specs.Joins.{rep}
-use Rattle.calculus_specs.specs.State.{node_count, has, has_edge, is_successor, label}
+use Rattle.calculus_specs.specs.State.{node_count_from, has, has_edge, is_successor, label}
 use Rattle.calculus_specs.specs.Listed.{IsLabel, AreEdges}
 use Rattle.calculus_specs.proofs.State.{any-label}
 use Rattle.tableau_specs.specs.Steps.{SearchContext, below_of, is_named, has_name, has_names, is_triggered, is_used_at, Adds}
@@ -30,7 +30,7 @@ use Rattle.step_finders.proofs.Opposite.{name_of_tree}
 
 -- ---- rows that are filed are rows that are used
 
-module _ (w : SearchContext) (fs : List (Fact ℕ)) (x : ℕ) (lt : x < node_count fs) where
+module _ (w : SearchContext) (fs : List (Fact ℕ)) (x : ℕ) (lt : x < node_count_from w.first fs) where
   -- a row is used where its trigger is
   triggered : (row : Row) (t : Trigger) → row.trigger ≡ t → is_triggered w fs x (part_at w.theory row.axiom_number row.part_number) t ≡ true → is_used_at w fs row x ≡ true
   triggered row t e h = subst (λ (s : Trigger). is_triggered w fs x (part_at w.theory row.axiom_number row.part_number) s ≡ true) (sym e) h
@@ -41,16 +41,16 @@ module _ (w : SearchContext) (fs : List (Fact ℕ)) (x : ℕ) (lt : x < node_cou
   pub general_adds : (u : PlainRow) → IsPlain w always u → Adds w fs x u.gives
   general_adds u is = plain_adds always u is (λ row. refl)
 
-  pub begin_adds : (r y : ℕ) (u : PlainRow) → IsAtEdge w edge r u → IsEdge fs r x y → Adds w fs x u.gives
+  pub begin_adds : (r y : ℕ) (u : PlainRow) → IsAtEdge w edge r u → IsEdge w.first fs r x y → Adds w fs x u.gives
   begin_adds r y u is e =
       plain_adds (edge is.role) u is.is_plain
-      (λ row. any_among (λ z. has_edge fs (λ q. below_of w q is.role) x z) y (range_with_len 0 (node_count fs)) (in_range y (node_count fs) e.end_is_node)
+      (λ row. any_among (λ z. has_edge fs (λ q. below_of w q is.role) x z) y (range_with_len 0 (node_count_from w.first fs)) (in_range y (node_count_from w.first fs) e.end_is_node)
       (edge_of_kind fs (λ q. below_of w q is.role) r x y is.role_above e.leads))
 
-  pub end_adds : (r z : ℕ) (u : PlainRow) → IsAtEdge w end_of r u → IsEdge fs r z x → Adds w fs x u.gives
+  pub end_adds : (r z : ℕ) (u : PlainRow) → IsAtEdge w end_of r u → IsEdge w.first fs r z x → Adds w fs x u.gives
   end_adds r z u is e =
       plain_adds (end_of is.role) u is.is_plain
-      (λ row. any_among (λ v. has_edge fs (λ q. below_of w q is.role) v x) z (range_with_len 0 (node_count fs)) (in_range z (node_count fs) e.begin_is_node)
+      (λ row. any_among (λ v. has_edge fs (λ q. below_of w q is.role) v x) z (range_with_len 0 (node_count_from w.first fs)) (in_range z (node_count_from w.first fs) e.begin_is_node)
       (edge_of_kind fs (λ q. below_of w q is.role) r z x is.role_above e.leads))
 
   -- ---- rows that wait for names
@@ -110,12 +110,12 @@ contains_at : {X : Type 0} (us : List X) (k : ℕ) (u : X) → slice_get us k �
 contains_at us k u e = (k, slice_get_within us k u e, get_or_from_slice_get us k u u e)
 
 module _ (w : SearchContext) (files : Files) (good : IsTable w.table) (choice : IsChoice w.theory w.table w.rows) (filed : AreFiled w files) (fs : List (Fact ℕ)) where
-  pub general_due : (x : ℕ) → x < node_count fs → (u : PlainRow) → PlainDue fs x files.general u → IsAddition w fs files (added x u.gives (R.General u))
+  pub general_due : (x : ℕ) → x < node_count_from w.first fs → (u : PlainRow) → PlainDue fs x files.general u → IsAddition w fs files (added x u.gives (R.General u))
   general_due x lt u due =
       let is = All-contains (IsPlain w always) files.general u filed.general due.is_in in
       record { adds = general_adds w fs x lt u is; lacks = due.lacks; reason = record { is_node = lt; is_plain = is; gives = refl } }
 
-  pub named_due : (x c place d : ℕ) → x < node_count fs → NamedDue fs x (files.named c) place d → IsAddition w fs files (added x d (R.Named c place))
+  pub named_due : (x c place d : ℕ) → x < node_count_from w.first fs → NamedDue fs x (files.named c) place d → IsAddition w fs files (added x d (R.Named c place))
   named_due x c place d lt due =
       let is = All-at (files.named c) (filed.named c) place due.row due.stands in
       record {
@@ -127,16 +127,16 @@ module _ (w : SearchContext) (files : Files) (good : IsTable w.table) (choice : 
       All-at : (us : List NamedRow) → All (IsNamed w) us → (k : ℕ) (u : NamedRow) → slice_get us k ≡ Some u → IsNamed w u
       All-at us all k u e = All-contains (IsNamed w) us u all (contains_at us k u e)
 
-  pub begin_due : (x r y : ℕ) (u : PlainRow) → x < node_count fs → is_successor fs (λ q. eqb q r) x y ≡ true → PlainDue fs x (files.begins r) u → IsAddition w fs files (added x u.gives (R.Begin r y u))
+  pub begin_due : (x r y : ℕ) (u : PlainRow) → x < node_count_from w.first fs → is_successor fs (λ q. eqb q r) x y ≡ true → PlainDue fs x (files.begins r) u → IsAddition w fs files (added x u.gives (R.Begin r y u))
   begin_due x r y u lt next due =
       let is = All-contains (IsAtEdge w edge r) (files.begins r) u (filed.begins r) due.is_in in
-      let e = edge_to_next fs r x y lt next in
+      let e = edge_to_next w.first fs r x y lt next in
       record { adds = begin_adds w fs x lt r y u is e; lacks = due.lacks; reason = record { is_edge = e; is_at_edge = is; gives = refl } }
 
-  pub end_due : (x r y : ℕ) (u : PlainRow) → x < node_count fs → is_successor fs (λ q. eqb q r) x y ≡ true → PlainDue fs y (files.ends r) u → IsAddition w fs files (added y u.gives (R.End x r u))
+  pub end_due : (x r y : ℕ) (u : PlainRow) → x < node_count_from w.first fs → is_successor fs (λ q. eqb q r) x y ≡ true → PlainDue fs y (files.ends r) u → IsAddition w fs files (added y u.gives (R.End x r u))
   end_due x r y u lt next due =
       let is = All-contains (IsAtEdge w end_of r) (files.ends r) u (filed.ends r) due.is_in in
-      let e = edge_to_next fs r x y lt next in
+      let e = edge_to_next w.first fs r x y lt next in
       record { adds = end_adds w fs y e.end_is_node r x u is e; lacks = due.lacks; reason = record { is_edge = e; is_at_edge = is; gives = refl } }
 
 module _ (files : Files) (fs : List (Fact ℕ)) (x : ℕ) where

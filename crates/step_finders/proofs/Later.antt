@@ -12,7 +12,7 @@ use Rattle.std.proofs.lemmas.Map.Made.{length-le_from_is_member}
 use Rattle.calculus_specs.specs.declared.facts.Fact.{Fact}
 use Rattle.calculus_specs.specs.Joins.{rep}
 use Rattle.calculus_specs.specs.Listed.{AreEdges}
-use Rattle.calculus_specs.specs.State.{node_count, has, is_successor, are_apart}
+use Rattle.calculus_specs.specs.State.{node_count_from, has, is_successor, are_apart}
 use Rattle.tableau_specs.specs.Clash.{filled_successors}
 use Rattle.tableau_specs.proofs.PlainClash.{successor_is_node}
 use Rattle.step_finders.specs.Filled.{filled_from, IsLeast}
@@ -83,46 +83,46 @@ pub least_same : (p q : ℕ → Bool) → ((z : ℕ) → p z ≡ q z) → (o : O
 least_same p q h None l = λ z. sym (h z) ∙ l z
 least_same p q h (Some y) l = (sym (h y) ∙ l.0, λ z t. l.1 z (h z ∙ t))
 
-module _ (below : ℕ → ℕ → Bool) (fs : List (Fact ℕ)) (x s e : ℕ) where
+module _ (first : ℕ) (below : ℕ → ℕ → Bool) (fs : List (Fact ℕ)) (x s e : ℕ) where
   abbrev roles : ℕ → Bool
   roles r = below r s
 
-  pub from_first : filled_from below fs x s e 0 ≡ filled_successors below fs x s e
+  pub from_first : filled_from first below fs x s e 0 ≡ filled_successors first below fs x s e
   unfolding filled_from
-  from_first = keep_all (leb 0) (filled_successors below fs x s e) (λ k d lt. is_le 0 (get_or (filled_successors below fs x s e) k d) (omega arith))
+  from_first = keep_all (leb 0) (filled_successors first below fs x s e) (λ k d lt. is_le 0 (get_or (filled_successors first below fs x s e) k d) (omega arith))
 
-  pub member_from : (from z : ℕ) → list_any (eqb z) (filled_from below fs x s e from) ≡ ((is_successor fs roles x z && has fs z e) && leb from z)
+  pub member_from : (from z : ℕ) → list_any (eqb z) (filled_from first below fs x s e from) ≡ ((is_successor fs roles x z && has fs z e) && leb from z)
   unfolding filled_from
-  member_from from z = member_filter (leb from) z (filled_successors below fs x s e) ∙ ap (λ (t : Bool). t && leb from z) (member_filled below fs x s e z)
+  member_from from z = member_filter (leb from) z (filled_successors first below fs x s e) ∙ ap (λ (t : Bool). t && leb from z) (member_filled first below fs x s e z)
 
-  from_ascending : (from : ℕ) → AllPairs (λ y z. y < z) (filled_from below fs x s e from)
+  from_ascending : (from : ℕ) → AllPairs (λ y z. y < z) (filled_from first below fs x s e from)
   unfolding filled_from
-  from_ascending from = AllPairs-filter (λ y z. y < z) (leb from) (filled_successors below fs x s e) (filled_ascending below fs x s e)
+  from_ascending from = AllPairs-filter (λ y z. y < z) (leb from) (filled_successors first below fs x s e) (filled_ascending first below fs x s e)
 
-  after_least : (from y : ℕ) → from ≤ y → filter (leb (y + 1)) (filled_from below fs x s e from) ≡ filled_from below fs x s e (y + 1)
+  after_least : (from y : ℕ) → from ≤ y → filter (leb (y + 1)) (filled_from first below fs x s e from) ≡ filled_from first below fs x s e (y + 1)
   unfolding filled_from
-  after_least from y le = filter_twice from (y + 1) (omega (arith, le)) (filled_successors below fs x s e)
+  after_least from y le = filter_twice from (y + 1) (omega (arith, le)) (filled_successors first below fs x s e)
 
   -- ---- the least of them
 
   module _ (from : ℕ) where
-    not_before : (y : ℕ) → list_any (eqb y) (filled_from below fs x s e from) ≡ true → from ≤ y
+    not_before : (y : ℕ) → list_any (eqb y) (filled_from first below fs x s e from) ≡ true → from ≤ y
     not_before y m = leb-true from y (and_parts (is_successor fs roles x y && has fs y e) (leb from y) (sym (member_from from y) ∙ m)).1
 
-    pub next_is : (o : Option ℕ) → IsLeast (λ z. list_any (eqb z) (filled_from below fs x s e from)) o
-        → MatchOption o (filled_from below fs x s e from ≡ []) (λ y. filled_from below fs x s e from ≡ y ∷ filled_from below fs x s e (y + 1))
-    next_is None l = none_is_empty (filled_from below fs x s e from) l
-    next_is (Some y) l = least_is_first (filled_from below fs x s e from) (from_ascending from) y l ∙ ap (λ (zs : List ℕ). y ∷ zs) (after_least from y (not_before y l.0))
+    pub next_is : (o : Option ℕ) → IsLeast (λ z. list_any (eqb z) (filled_from first below fs x s e from)) o
+        → MatchOption o (filled_from first below fs x s e from ≡ []) (λ y. filled_from first below fs x s e from ≡ y ∷ filled_from first below fs x s e (y + 1))
+    next_is None l = none_is_empty (filled_from first below fs x s e from) l
+    next_is (Some y) l = least_is_first (filled_from first below fs x s e from) (from_ascending from) y l ∙ ap (λ (zs : List ℕ). y ∷ zs) (after_least from y (not_before y l.0))
 
-    pub next_is_later : (o : Option ℕ) → IsLeast (λ z. list_any (eqb z) (filled_from below fs x s e from)) o → IfSome o (λ y. from ≤ y)
+    pub next_is_later : (o : Option ℕ) → IsLeast (λ z. list_any (eqb z) (filled_from first below fs x s e from)) o → IfSome o (λ y. from ≤ y)
     next_is_later None l = tt
     next_is_later (Some y) l = not_before y l.0
 
-    pub next_is_node : (o : Option ℕ) → IsLeast (λ z. list_any (eqb z) (filled_from below fs x s e from)) o → IfSome o (λ y. y < node_count fs)
+    pub next_is_node : (o : Option ℕ) → IsLeast (λ z. list_any (eqb z) (filled_from first below fs x s e from)) o → IfSome o (λ y. y < node_count_from first fs)
     next_is_node None l = tt
     next_is_node (Some y) l =
         let t = and_parts (is_successor fs roles x y && has fs y e) (leb from y) (sym (member_from from y) ∙ l.0) in
-        successor_is_node fs roles x y (and_parts (is_successor fs roles x y) (has fs y e) t.0).0
+        successor_is_node first fs roles x y (and_parts (is_successor fs roles x y) (has fs y e) t.0).0
 
   module _ (edges : List (ℕ × ℕ)) where
     -- whether a number is that of one of the first edges' ends that are counted, from one on
@@ -144,9 +144,9 @@ module _ (below : ℕ → ℕ → Bool) (fs : List (Fact ℕ)) (x s e : ℕ) whe
         (λ z. (λ j. is_seen from i z || (same j && eqb z (at j))) ∙ sym (any_more (fits_at roles (λ v. has fs v e && leb from v) (rep fs) z) edges i d lt)) o l
 
     module _ (are : AreEdges fs x edges) where
-      pub seen_all : (from count : ℕ) → length edges ≤ count → (o : Option ℕ) → IsLeast (is_seen from count) o → IsLeast (λ z. list_any (eqb z) (filled_from below fs x s e from)) o
+      pub seen_all : (from count : ℕ) → length edges ≤ count → (o : Option ℕ) → IsLeast (is_seen from count) o → IsLeast (λ z. list_any (eqb z) (filled_from first below fs x s e from)) o
       seen_all from count past o l =
-          least_same (is_seen from count) (λ z. list_any (eqb z) (filled_from below fs x s e from))
+          least_same (is_seen from count) (λ z. list_any (eqb z) (filled_from first below fs x s e from))
           (λ z.
           ap (list_any (fits_at roles (λ v. has fs v e && leb from v) (rep fs) z)) (take_all count edges past)
           ∙ all_fit roles (λ v. has fs v e && leb from v) (rep fs) z edges
@@ -169,50 +169,50 @@ module _ (below : ℕ → ℕ → Bool) (fs : List (Fact ℕ)) (x s e : ℕ) whe
           each k d lt (rw (t.0, there) refl) at)
           (are roles z ∙ next)
 
-      pub end_is_node : (k : ℕ) (d : ℕ × ℕ) → k < length edges → (below (get_or edges k d).0 s && has fs (get_or edges k d).1 e) ≡ true → rep fs (get_or edges k d).1 < node_count fs
+      pub end_is_node : (k : ℕ) (d : ℕ × ℕ) → k < length edges → (below (get_or edges k d).0 s && has fs (get_or edges k d).1 e) ≡ true → rep fs (get_or edges k d).1 < node_count_from first fs
       end_is_node k d lt hit =
           let p = get_or edges k d in
-          successor_is_node fs roles x (rep fs p.1) (next_at fs x edges roles k d are lt (and_parts (below p.0 s) (has fs p.1 e) hit).0)
+          successor_is_node first fs roles x (rep fs p.1) (next_at fs x edges roles k d are lt (and_parts (below p.0 s) (has fs p.1 e) hit).0)
 
       end_is_member : (from k : ℕ) (d : ℕ × ℕ) → k < length edges → (below (get_or edges k d).0 s && has fs (get_or edges k d).1 e) ≡ true → from ≤ rep fs (get_or edges k d).1
-          → list_any (eqb (rep fs (get_or edges k d).1)) (filled_from below fs x s e from) ≡ true
+          → list_any (eqb (rep fs (get_or edges k d).1)) (filled_from first below fs x s e from) ≡ true
       end_is_member from k d lt hit le =
           let p = get_or edges k d in
           let t = and_parts (below p.0 s) (has fs p.1 e) hit in
           member_from from (rep fs p.1) ∙ rw (next_at fs x edges roles k d are lt t.0, has_rep fs p.1 e, t.1, is_le from (rep fs p.1) le) refl
 
-      pub all_are_apart : (first : ℕ)
-          → ((k : ℕ) (d : ℕ × ℕ) → k < length edges → (below (get_or edges k d).0 s && has fs (get_or edges k d).1 e) ≡ true → first < rep fs (get_or edges k d).1 → are_apart fs first (rep fs (get_or edges k d).1) ≡ true)
-          → list_all (are_apart fs first) (filled_from below fs x s e (first + 1)) ≡ true
-      all_are_apart first each =
-          all_from (are_apart fs first) (filled_from below fs x s e (first + 1))
+      pub all_are_apart : (one : ℕ)
+          → ((k : ℕ) (d : ℕ × ℕ) → k < length edges → (below (get_or edges k d).0 s && has fs (get_or edges k d).1 e) ≡ true → one < rep fs (get_or edges k d).1 → are_apart fs one (rep fs (get_or edges k d).1) ≡ true)
+          → list_all (are_apart fs one) (filled_from first below fs x s e (one + 1)) ≡ true
+      all_are_apart one each =
+          all_from (are_apart fs one) (filled_from first below fs x s e (one + 1))
           (λ y m.
-          let t = and_parts (is_successor fs roles x y && has fs y e) (leb (first + 1) y) (sym (member_from (first + 1) y) ∙ m) in
+          let t = and_parts (is_successor fs roles x y && has fs y e) (leb (one + 1) y) (sym (member_from (one + 1) y) ∙ m) in
           let u = and_parts (is_successor fs roles x y) (has fs y e) t.0 in
-          let le : first + 1 ≤ y = leb-true (first + 1) y t.1 in
-          counted_edge (are_apart fs first y ≡ true) y u.0 u.1
-          (λ k d lt hit at. subst (λ (v : ℕ). are_apart fs first v ≡ true) at (each k d lt hit (omega (arith, le, at)))))
+          let le : one + 1 ≤ y = leb-true (one + 1) y t.1 in
+          counted_edge (are_apart fs one y ≡ true) y u.0 u.1
+          (λ k d lt hit at. subst (λ (v : ℕ). are_apart fs one v ≡ true) at (each k d lt hit (omega (arith, le, at)))))
 
-      pub one_is_not_apart : (first k : ℕ) (d : ℕ × ℕ) → k < length edges → (below (get_or edges k d).0 s && has fs (get_or edges k d).1 e) ≡ true → first < rep fs (get_or edges k d).1
-          → are_apart fs first (rep fs (get_or edges k d).1) ≡ false → list_all (are_apart fs first) (filled_from below fs x s e (first + 1)) ≡ false
-      one_is_not_apart first k d lt hit less out = elim (cases_Bool (list_all (are_apart fs first) (filled_from below fs x s e (first + 1)))) [
+      pub one_is_not_apart : (one k : ℕ) (d : ℕ × ℕ) → k < length edges → (below (get_or edges k d).0 s && has fs (get_or edges k d).1 e) ≡ true → one < rep fs (get_or edges k d).1
+          → are_apart fs one (rep fs (get_or edges k d).1) ≡ false → list_all (are_apart fs one) (filled_from first below fs x s e (one + 1)) ≡ false
+      one_is_not_apart one k d lt hit less out = elim (cases_Bool (list_all (are_apart fs one) (filled_from first below fs x s e (one + 1)))) [
         | inr refused ↦ refused
         | inl every ↦
             let y = rep fs (get_or edges k d).1 in
-            let h : are_apart fs first y ≡ true = all_at (are_apart fs first) y (filled_from below fs x s e (first + 1)) every (end_is_member (first + 1) k d lt hit (omega (arith, less))) in
+            let h : are_apart fs one y ≡ true = all_at (are_apart fs one) y (filled_from first below fs x s e (one + 1)) every (end_is_member (one + 1) k d lt hit (omega (arith, less))) in
             cc
       ]
 
       -- ---- how many there are
 
-      pub no_more_than_edges : length (filled_successors below fs x s e) ≤ count_by (λ p. below p.0 s && has fs p.1 e) edges
+      pub no_more_than_edges : length (filled_successors first below fs x s e) ≤ count_by (λ p. below p.0 s && has fs p.1 e) edges
       no_more_than_edges =
           let test : ℕ × ℕ → Bool = λ p. below p.0 s && has fs p.1 e in
           let ends = map (λ (p : ℕ × ℕ). rep fs p.1) (filter test edges) in
-          let le : length (filled_successors below fs x s e) ≤ length ends =
-          length-le_from_is_member nat_eq_equiv (filled_successors below fs x s e) ends (filled_distinct below fs x s e)
+          let le : length (filled_successors first below fs x s e) ≤ length ends =
+          length-le_from_is_member nat_eq_equiv (filled_successors first below fs x s e) ends (filled_distinct first below fs x s e)
           (λ z m.
-          let t = and_parts (is_successor fs roles x z) (has fs z e) (sym (member_filled below fs x s e z) ∙ m) in
+          let t = and_parts (is_successor fs roles x z) (has fs z e) (sym (member_filled first below fs x s e z) ∙ m) in
           counted_edge (list_any (eqb z) ends ≡ true) z t.0 t.1
           (λ k d lt hit at. subst (λ (v : ℕ). list_any (eqb v) ends ≡ true) at (kept_member test (λ p. rep fs p.1) edges k d lt hit))) in
           omega (arith, le, length-map (filter test edges) (λ (p : ℕ × ℕ). rep fs p.1), length-filter test edges)

@@ -12,3 +12,4 @@ pub mod Ending
 pub mod Clashing
 pub mod Opposite
 pub mod Chosen
+pub mod Giving

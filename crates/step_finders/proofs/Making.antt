@@ -4,7 +4,7 @@ use Rattle.std.specs.List.{list_any, list_all, range_with_len}
 use Rattle.std.proofs.lemmas.Bool.{eqb-true, leb-true, ltb-true, lt-ltb, cases_Bool, cases_lt, and_parts, and_right}
 use Rattle.calculus_specs.specs.declared.facts.Fact.{Fact}
 use Rattle.calculus_specs.specs.Joins.{rep}
-use Rattle.calculus_specs.specs.State.{node_count, has, has_edge, is_successor, all_apart}
+use Rattle.calculus_specs.specs.State.{node_count_from, has, has_edge, is_successor, all_apart}
 use Rattle.tableau_specs.specs.Clash.{filled_successors}
 use Rattle.tableau_specs.specs.Steps.{SearchContext, below_of, IsOpen, Generates, is_run}
 use Rattle.tableau_specs.specs.Clash.{is_filled_successor}
@@ -34,9 +34,9 @@ module _ (w : SearchContext) (fs : List (Fact ℕ)) (x s e : ℕ) (edges : List 
   }
 
   pub none_filled : AreEdges fs x edges → ((k : ℕ) (d : ℕ × ℕ) → k < length edges → below_of w (get_or edges k d).0 s ≡ true → has fs (get_or edges k d).1 e ≡ false)
-      → filled_successors (below_of w) fs x s e ≡ []
-  none_filled are each = none_passes (filled_successors (below_of w) fs x s e) (λ y m.
-      let t = and_parts (is_successor fs (λ r. below_of w r s) x y) (has fs y e) (sym (member_filled (below_of w) fs x s e y) ∙ m) in
+      → filled_successors w.first (below_of w) fs x s e ≡ []
+  none_filled are each = none_passes (filled_successors w.first (below_of w) fs x s e) (λ y m.
+      let t = and_parts (is_successor fs (λ r. below_of w r s) x y) (has fs y e) (sym (member_filled w.first (below_of w) fs x s e y) ∙ m) in
       where_any (λ p. below_of w p.0 s && eqb (rep fs p.1) y) ⊥ edges
       (λ k d lt hit.
       let u = and_parts (below_of w (get_or edges k d).0 s) (eqb (rep fs (get_or edges k d).1) y) hit in
@@ -51,30 +51,30 @@ parts_of true b b' c c' d is eb ec = rw (is, eb, ec) refl
 parts_of false b b' c c' d is eb ec = refl
 
 module _ (w : SearchContext) (fs : List (Fact ℕ)) (x n s e : ℕ) (ys : List ℕ) (is : AreFilled (below_of w) fs x s e ys) where
-  same_filler : (z : ℕ) → is_among fs ys (node_count fs) z ≡ is_filled_successor (below_of w) fs x s e z
+  same_filler : (z : ℕ) → is_among fs ys (node_count_from w.first fs) z ≡ is_filled_successor w.first (below_of w) fs x s e z
   same_filler z =
       let roles : ℕ → Bool = λ r. below_of w r s in
       let y = rep fs z in
-      ap (λ (b : Bool). ltb z (node_count fs) && b) (ap (λ (q : ℕ → Bool). list_any q ys) (λ j v. eqb-comm v y j) ∙ is.members y)
-      ∙ parts_of (ltb z (node_count fs)) (has_edge fs roles x y) (has_edge fs roles x z) (has fs y e) (has fs z e) (eqb (rep fs y) y)
+      ap (λ (b : Bool). ltb z (node_count_from w.first fs) && b) (ap (λ (q : ℕ → Bool). list_any q ys) (λ j v. eqb-comm v y j) ∙ is.members y)
+      ∙ parts_of (ltb z (node_count_from w.first fs)) (has_edge fs roles x y) (has_edge fs roles x z) (has fs y e) (has fs z e) (eqb (rep fs y) y)
       (eq-eqb (rep fs y) y (rep_twice fs z)) (edge_to fs roles y z x (rep_twice fs z)) (has_rep fs z e)
 
-  same_runs : (y : ℕ) → runs_among fs ys (node_count fs) n y ≡ is_run w fs x s e n y
+  same_runs : (y : ℕ) → runs_among fs ys (node_count_from w.first fs) n y ≡ is_run w fs x s e n y
   same_runs y =
       ap (λ (p : ℕ → Bool). list_all p (range_with_len y n) && all_apart fs (range_with_len y n)) (λ i z. same_filler z i)
 
-  out_of_row : (k y : ℕ) → ltb y (node_count fs) ≡ false → 0 < k → list_all (is_among fs ys (node_count fs)) (range_with_len y k) ≡ false
+  out_of_row : (k y : ℕ) → ltb y (node_count_from w.first fs) ≡ false → 0 < k → list_all (is_among fs ys (node_count_from w.first fs)) (range_with_len y k) ≡ false
   out_of_row zero y out pos = absurd (omega arith)
   out_of_row (suc k) y out pos = rw out refl
 
   -- a run begins at a node
-  only_there : (y : ℕ) → 0 < n → AnswersAmong fs ys (node_count fs) n false → runs_among fs ys (node_count fs) n y ≡ false
-  only_there y pos none = elim (cases_Bool (ltb y (node_count fs))) [
+  only_there : (y : ℕ) → 0 < n → AnswersAmong fs ys (node_count_from w.first fs) n false → runs_among fs ys (node_count_from w.first fs) n y ≡ false
+  only_there y pos none = elim (cases_Bool (ltb y (node_count_from w.first fs))) [
     | inr out ↦ ap (λ (b : Bool). b && all_apart fs (range_with_len y n)) (out_of_row n y out pos)
-    | inl there ↦ none y (ltb-true y (node_count fs) there)
+    | inl there ↦ none y (ltb-true y (node_count_from w.first fs) there)
   ]
 
-  pub run_of_among : (found : Bool) → 0 < n → AnswersAmong fs ys (node_count fs) n found → AnswersRun w fs x n s e found
+  pub run_of_among : (found : Bool) → 0 < n → AnswersAmong fs ys (node_count_from w.first fs) n found → AnswersRun w fs x n s e found
   run_of_among true pos h = record { first = h.0; is_run' = sym (same_runs h.0) ∙ h.1 }
   run_of_among false pos h = λ y. sym (same_runs y) ∙ only_there y pos h
 
@@ -203,7 +203,7 @@ module _ (w : SearchContext) (fs : List (Fact ℕ)) (x c : ℕ) (at : IsOpen w f
   abbrev made : ℕ → ℕ → ℕ → NewNodes
   made s e n = record { parent = x; role = s; filler = e; count = n; concept = c }
 
-  pub makes_some : (s e : ℕ) → shape_of w.table c ≡ some_of s e → filled_successors (below_of w) fs x s e ≡ [] → IsMaking w fs (made s e 1)
+  pub makes_some : (s e : ℕ) → shape_of w.table c ≡ some_of s e → filled_successors w.first (below_of w) fs x s e ≡ [] → IsMaking w fs (made s e 1)
   makes_some s e sh none = record {
     generates = by_some x c s e at h sh none;
     is_open = at;
@@ -227,10 +227,10 @@ no_making_by_label w fs x cs label each = record {
       (label e ∙ h);
 }
 
-module _ (w : SearchContext) (fs : List (Fact ℕ)) (each : (z : ℕ) → z < node_count fs → IsOpen w fs z → NoMakingAt w fs z) where
-  some_there : (x s e : ℕ) → HasFiller w fs x s e → filled_successors (below_of w) fs x s e ≡ [] → ⊥
+module _ (w : SearchContext) (fs : List (Fact ℕ)) (each : (z : ℕ) → z < node_count_from w.first fs → IsOpen w fs z → NoMakingAt w fs z) where
+  some_there : (x s e : ℕ) → HasFiller w fs x s e → filled_successors w.first (below_of w) fs x s e ≡ [] → ⊥
   some_there x s e h none =
-      let m : list_any (eqb h.end) (filled_successors (below_of w) fs x s e) ≡ true = member_filled (below_of w) fs x s e h.end ∙ rw (h.next, h.holds) refl in
+      let m : list_any (eqb h.end) (filled_successors w.first (below_of w) fs x s e) ≡ true = member_filled w.first (below_of w) fs x s e h.end ∙ rw (h.next, h.holds) refl in
       (let k = subst (λ (ys : List ℕ). list_any (eqb h.end) ys ≡ true) none m in cc)
 
   none_makes : (new : List (Fact ℕ)) → ¬ Generates w fs new

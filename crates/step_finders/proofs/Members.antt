@@ -10,7 +10,7 @@ use Rattle.std.proofs.lemmas.Map.Keys.{IsDistinct-from_apart, IsDistinct-head, I
 use Rattle.std.proofs.lemmas.Map.Made.{length-from_same_keys}
 use Rattle.std.proofs.Math.Bool.{and-false}
 use Rattle.calculus_specs.specs.declared.facts.Fact.{Fact}
-use Rattle.calculus_specs.specs.State.{node_count, has, is_successor, successors, are_apart, all_apart}
+use Rattle.calculus_specs.specs.State.{node_count_from, has, is_successor, successors_from, are_apart, all_apart}
 use Rattle.calculus_specs.proofs.State.{apart_back}
 use Rattle.tableau_specs.specs.Clash.{filled_successors}
 use Rattle.tableau_specs.proofs.PlainClash.{successor_is_node}
@@ -59,31 +59,31 @@ node_and a false c h = ap (λ (t : Bool). t && c) (and-false a)
 node_and true true c h = refl
 node_and false true c h = (let k = h refl in cc)
 
-module _ (below : ℕ → ℕ → Bool) (fs : List (Fact ℕ)) (x s e : ℕ) where
+module _ (first : ℕ) (below : ℕ → ℕ → Bool) (fs : List (Fact ℕ)) (x s e : ℕ) where
   abbrev roles : ℕ → Bool
   roles r = below r s
 
-  pub member_filled : (y : ℕ) → list_any (eqb y) (filled_successors below fs x s e) ≡ (is_successor fs roles x y && has fs y e)
+  pub member_filled : (y : ℕ) → list_any (eqb y) (filled_successors first below fs x s e) ≡ (is_successor fs roles x y && has fs y e)
   member_filled y =
-      member_filter (λ z. has fs z e) y (successors fs roles x)
-      ∙ ap (λ (t : Bool). t && has fs y e) (member_filter (is_successor fs roles x) y (range_with_len 0 (node_count fs)))
-      ∙ node_and (list_any (eqb y) (range_with_len 0 (node_count fs))) (is_successor fs roles x y) (has fs y e)
-      (λ h. member_row y 0 (node_count fs) (omega arith) (omega (arith, successor_is_node fs roles x y h)))
+      member_filter (λ z. has fs z e) y (successors_from first fs roles x)
+      ∙ ap (λ (t : Bool). t && has fs y e) (member_filter (is_successor fs roles x) y (range_with_len 0 (node_count_from first fs)))
+      ∙ node_and (list_any (eqb y) (range_with_len 0 (node_count_from first fs))) (is_successor fs roles x y) (has fs y e)
+      (λ h. member_row y 0 (node_count_from first fs) (omega arith) (omega (arith, successor_is_node first fs roles x y h)))
 
-  pub filled_ascending : AllPairs (λ y z. y < z) (filled_successors below fs x s e)
+  pub filled_ascending : AllPairs (λ y z. y < z) (filled_successors first below fs x s e)
   filled_ascending =
-      AllPairs-filter (λ y z. y < z) (λ v. has fs v e) (successors fs roles x)
-      (AllPairs-filter (λ y z. y < z) (is_successor fs roles x) (range_with_len 0 (node_count fs)) (row_ascending (node_count fs)))
+      AllPairs-filter (λ y z. y < z) (λ v. has fs v e) (successors_from first fs roles x)
+      (AllPairs-filter (λ y z. y < z) (is_successor fs roles x) (range_with_len 0 (node_count_from first fs)) (row_ascending (node_count_from first fs)))
 
-  pub filled_distinct : IsDistinct eqb (filled_successors below fs x s e)
-  filled_distinct = IsDistinct-from_apart eqb (filled_successors below fs x s e) (λ i j d lt mt. ne_eqb (get_or (filled_successors below fs x s e) i d) (get_or (filled_successors below fs x s e) j d) (λ k. absurd (omega (arith, k, filled_ascending i j d lt mt))))
+  pub filled_distinct : IsDistinct eqb (filled_successors first below fs x s e)
+  filled_distinct = IsDistinct-from_apart eqb (filled_successors first below fs x s e) (λ i j d lt mt. ne_eqb (get_or (filled_successors first below fs x s e) i d) (get_or (filled_successors first below fs x s e) j d) (λ k. absurd (omega (arith, k, filled_ascending i j d lt mt))))
 
   module _ (ys : List ℕ) (is : AreFilled below fs x s e ys) where
-    pub same_members : (y : ℕ) → list_any (eqb y) ys ≡ list_any (eqb y) (filled_successors below fs x s e)
+    pub same_members : (y : ℕ) → list_any (eqb y) ys ≡ list_any (eqb y) (filled_successors first below fs x s e)
     same_members y = is.members y ∙ sym (member_filled y)
 
-    pub same_length : length ys ≡ length (filled_successors below fs x s e)
-    same_length = length-from_same_keys nat_eq_equiv ys (filled_successors below fs x s e) is.distinct filled_distinct same_members
+    pub same_length : length ys ≡ length (filled_successors first below fs x s e)
+    same_length = length-from_same_keys nat_eq_equiv ys (filled_successors first below fs x s e) is.distinct filled_distinct same_members
 
 -- ---- an element and its place
 
@@ -145,15 +145,15 @@ module _ (fs : List (Fact ℕ)) where
       all_from (are_apart fs y) ys (λ z m. h y z (rw (eq-eqb y y refl) refl) (or_right (eqb z y) (list_any (eqb z) ys) m) (λ e. not_head y z ys (IsDistinct-head eqb y ys d) m e)) in
       rw first (apart_from_pairs ys (IsDistinct-tail eqb y ys d) (λ a b ma mb ne. h a b (or_right (eqb a y) (list_any (eqb a) ys) ma) (or_right (eqb b y) (list_any (eqb b) ys) mb) ne))
 
-  pub same_apart : (below : ℕ → ℕ → Bool) (x s e : ℕ) (ys : List ℕ) → AreFilled below fs x s e ys → all_apart fs ys ≡ true → all_apart fs (filled_successors below fs x s e) ≡ true
-  same_apart below x s e ys is h =
-      apart_from_pairs (filled_successors below fs x s e) (filled_distinct below fs x s e)
-      (λ a b ma mb ne. pair_apart ys a b h (same_members below fs x s e ys is a ∙ ma) (same_members below fs x s e ys is b ∙ mb) ne)
+  pub same_apart : (first : ℕ) (below : ℕ → ℕ → Bool) (x s e : ℕ) (ys : List ℕ) → AreFilled below fs x s e ys → all_apart fs ys ≡ true → all_apart fs (filled_successors first below fs x s e) ≡ true
+  same_apart first below x s e ys is h =
+      apart_from_pairs (filled_successors first below fs x s e) (filled_distinct first below fs x s e)
+      (λ a b ma mb ne. pair_apart ys a b h (same_members first below fs x s e ys is a ∙ ma) (same_members first below fs x s e ys is b ∙ mb) ne)
 
-  pub same_unapart : (below : ℕ → ℕ → Bool) (x s e : ℕ) (ys : List ℕ) (y z : ℕ) → AreFilled below fs x s e ys → AreUnapart fs ys y z → AreUnapart fs (filled_successors below fs x s e) y z
-  same_unapart below x s e ys y z is h = record {
-    has_one = member_contains y (filled_successors below fs x s e) (sym (same_members below fs x s e ys is y) ∙ contains_member y ys h.has_one);
-    has_other = member_contains z (filled_successors below fs x s e) (sym (same_members below fs x s e ys is z) ∙ contains_member z ys h.has_other);
+  pub same_unapart : (first : ℕ) (below : ℕ → ℕ → Bool) (x s e : ℕ) (ys : List ℕ) (y z : ℕ) → AreFilled below fs x s e ys → AreUnapart fs ys y z → AreUnapart fs (filled_successors first below fs x s e) y z
+  same_unapart first below x s e ys y z is h = record {
+    has_one = member_contains y (filled_successors first below fs x s e) (sym (same_members first below fs x s e ys is y) ∙ contains_member y ys h.has_one);
+    has_other = member_contains z (filled_successors first below fs x s e) (sym (same_members first below fs x s e ys is z) ∙ contains_member z ys h.has_other);
     differ = h.differ;
     unapart = h.unapart;
   }
@@ -165,7 +165,7 @@ member_at [] k d lt = absurd (omega arith)
 member_at (y ∷ ys) zero d lt = rw (eq-eqb y y refl) refl
 member_at (y ∷ ys) (suc k) d lt = elim (eqb (get_or ys k d) y) as (λ (b : Bool). (b || list_any (eqb (get_or ys k d)) ys) ≡ true) [ true ↦ refl | false ↦ member_at ys k d (omega arith) ]
 
-pub filled_nodes : (below : ℕ → ℕ → Bool) (fs : List (Fact ℕ)) (x s e : ℕ) (ys : List ℕ) → AreFilled below fs x s e ys → All (λ y. y < node_count fs) ys
-filled_nodes below fs x s e ys are k d lt =
+pub filled_nodes : (first : ℕ) (below : ℕ → ℕ → Bool) (fs : List (Fact ℕ)) (x s e : ℕ) (ys : List ℕ) → AreFilled below fs x s e ys → All (λ y. y < node_count_from first fs) ys
+filled_nodes first below fs x s e ys are k d lt =
     let y = get_or ys k d in
-    successor_is_node fs (λ r. below r s) x y (and_parts (is_successor fs (λ r. below r s) x y) (has fs y e) (sym (are.members y) ∙ member_at ys k d lt)).0
+    successor_is_node first fs (λ r. below r s) x y (and_parts (is_successor fs (λ r. below r s) x y) (has fs y e) (sym (are.members y) ∙ member_at ys k d lt)).0

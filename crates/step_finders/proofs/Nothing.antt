@@ -6,7 +6,7 @@ use Rattle.calculus_specs.specs.Shape.{Shape, shape_of, IsTable}
 use Rattle.calculus_specs.specs.Shape.Shape.{top, bottom, name, not_name, intersection, union, some_of, all_of, at_least, at_most}
 use Rattle.calculus_specs.specs.declared.facts.Fact.{Fact}
 use Rattle.calculus_specs.specs.Joins.{rep}
-use Rattle.calculus_specs.specs.State.{node_count, has, has_edge, is_successor}
+use Rattle.calculus_specs.specs.State.{node_count_from, has, has_edge, is_successor}
 use Rattle.calculus_specs.proofs.Joined.{rep-le}
 use Rattle.tableau_specs.specs.Steps.{SearchContext, below_of, Adds, IsCarried}
 use Rattle.tableau_specs.specs.Steps.Adds.{by_and, by_all, by_carry, by_row}
@@ -19,7 +19,7 @@ use Rattle.step_finders.proofs.Edges.{rep_twice}
 next_of_edge : (fs : List (Fact ℕ)) (roles : ℕ → Bool) (x y : ℕ) → has_edge fs roles x y ≡ true → is_successor fs roles x (rep fs y) ≡ true
 next_of_edge fs roles x y h = rw (eq-eqb (rep fs (rep fs y)) (rep fs y) (rep_twice fs y)) (edge_to fs roles (rep fs y) y x (rep_twice fs y) ∙ h)
 
-module _ (w : SearchContext) (files : Files) (fs : List (Fact ℕ)) (each : (z : ℕ) → z < node_count fs → rep fs z ≡ z → NothingFrom w fs files z) (x : ℕ) (lt : x < node_count fs) where
+module _ (w : SearchContext) (files : Files) (fs : List (Fact ℕ)) (each : (z : ℕ) → z < node_count_from w.first fs → rep fs z ≡ z → NothingFrom w fs files z) (x : ℕ) (lt : x < node_count_from w.first fs) where
   at_rep : NothingFrom w fs files (rep fs x)
   at_rep = each (rep fs x) (omega (arith, rep-le fs x, lt)) (rep_twice fs x)
 
@@ -68,7 +68,7 @@ module _ (w : SearchContext) (files : Files) (fs : List (Fact ℕ)) (each : (z :
       }
 
 module _ (w : SearchContext) (files : Files) (good : IsTable w.table) (filed : AreFiled w files) (fs : List (Fact ℕ))
-    (each : (z : ℕ) → z < node_count fs → rep fs z ≡ z → NothingFrom w fs files z) where
+    (each : (z : ℕ) → z < node_count_from w.first fs → rep fs z ≡ z → NothingFrom w fs files z) where
   carry_there : (x y c s t e : ℕ) → IsCarried w fs x y c s t e → (d : ℕ) × (shape_of w.table d ≡ all_of t e) × (has fs y d ≡ true)
   carry_there x y c s t e h =
       let k = (none_by w files fs each x h.begin_is_node c (all_of s e) h.holds h.shape).1.carried t (rep fs y) h.transitive h.role_below (next_of_edge fs (λ r. below_of w r t) x y h.edge) in

@@ -8,7 +8,7 @@ use Rattle.calculus_specs.specs.Tree.{tree_of, trees_of, tree_over, IsComplement
 use Rattle.calculus_specs.proofs.Unique.{tree_of_shape}
 use Rattle.tableau_specs.proofs.Listed.{listed}
 use Rattle.calculus_specs.specs.declared.facts.Fact.{Fact}
-use Rattle.calculus_specs.specs.State.{has, node_count}
+use Rattle.calculus_specs.specs.State.{has, node_count_from}
 use Rattle.tableau_specs.specs.Steps.{SearchContext}
 use Rattle.step_finders.specs.Choosing.{LacksComplement}
 use Rattle.step_finders.specs.Clashing.{HasBoth, NoneByShape}
@@ -71,10 +71,10 @@ module _ (table : List Shape) (good : IsTable table) where
   complement_of_not d c a sh th = record { listed = name_listed c a th; negates = tree_name c a th ∙ ap negated_form (sym (tree_not d a sh)) }
 
 module _ (w : SearchContext) (good : IsTable w.table) (fs : List (Fact ℕ)) (x d a : ℕ) where
-  pub both_by_name : (c : ℕ) → x < node_count fs → has fs x d ≡ true → shape_of w.table d ≡ name a → IsComplement w.table d c → has fs x c ≡ true → HasBoth w fs x d c
+  pub both_by_name : (c : ℕ) → x < node_count_from w.first fs → has fs x d ≡ true → shape_of w.table d ≡ name a → IsComplement w.table d c → has fs x c ≡ true → HasBoth w fs x d c
   both_by_name c lt h sh is g = record { is_node = lt; class = a; holds = h; shape = sh; holds_other = g; shape_other = not_of_name w.table good d c a sh is }
 
-  pub both_by_not : (c : ℕ) → x < node_count fs → has fs x d ≡ true → shape_of w.table d ≡ not_name a → IsComplement w.table d c → has fs x c ≡ true → HasBoth w fs x c d
+  pub both_by_not : (c : ℕ) → x < node_count_from w.first fs → has fs x d ≡ true → shape_of w.table d ≡ not_name a → IsComplement w.table d c → has fs x c ≡ true → HasBoth w fs x c d
   both_by_not c lt h sh is g = record { is_node = lt; class = a; holds = g; shape = name_of_not w.table good d c a sh is; holds_other = h; shape_other = sh }
 
   pub none_by_name : shape_of w.table d ≡ name a → LacksComplement w fs x d → NoneByShape w fs x (name a)

@@ -5,7 +5,7 @@ use Rattle.calculus_specs.specs.Shape.{Shape, shape_of}
 use Rattle.calculus_specs.specs.Shape.Shape.{union, at_most}
 use Rattle.calculus_specs.specs.Tree.{IsComplement}
 use Rattle.calculus_specs.specs.declared.facts.Fact.{Fact}
-use Rattle.calculus_specs.specs.State.{node_count, has, is_successor, all_apart}
+use Rattle.calculus_specs.specs.State.{node_count_from, has, is_successor, all_apart}
 use Rattle.tableau_specs.specs.declared.Branch.{Branch}
 use Rattle.tableau_specs.specs.declared.Branch.TheVariants.{Or, Choose, Pair}
 use Rattle.tableau_specs.specs.Clash.{filled_successors}
@@ -24,14 +24,14 @@ branch_of (C.Pair y z from r q c) = Pair y z
 module _ (w : SearchContext) (fs : List (Fact ℕ)) where
   -- x has the union c
   pub record IsByUnion (x c : ℕ) : Type 0 where
-    pub is_node : x < node_count fs
+    pub is_node : x < node_count_from w.first fs
     pub holds : has fs x c ≡ true
     pub parts : List ℕ
     pub shape : shape_of w.table c ≡ union parts
 
   -- an edge of r leads to y from a node with the 'at most' c, whose filler is e
   pub record IsByFiller (y e from r c : ℕ) : Type 0 where
-    pub is_edge : IsEdge fs r from y
+    pub is_edge : IsEdge w.first fs r from y
     pub holds : has fs from c ≡ true
     pub count : ℕ
     pub role : ℕ
@@ -40,8 +40,8 @@ module _ (w : SearchContext) (fs : List (Fact ℕ)) where
 
   -- edges of r to y, and of q to z, lead from a node with the 'at most' c, whose filler both have
   pub record IsByPair (y z from r q c : ℕ) : Type 0 where
-    pub first_edge : IsEdge fs r from y
-    pub second_edge : IsEdge fs q from z
+    pub first_edge : IsEdge w.first fs r from y
+    pub second_edge : IsEdge w.first fs q from z
     pub holds : has fs from c ≡ true
     pub count : ℕ
     pub role : ℕ
@@ -94,11 +94,11 @@ module _ (w : SearchContext) (fs : List (Fact ℕ)) where
 
   -- no two of the successors that are counted are to be made one or kept apart
   pub record NoPair (x n s e : ℕ) : Type 0 where
-    pub are_apart : n < length (filled_successors (below_of w) fs x s e) → all_apart fs (filled_successors (below_of w) fs x s e) ≡ true
+    pub are_apart : n < length (filled_successors w.first (below_of w) fs x s e) → all_apart fs (filled_successors w.first (below_of w) fs x s e) ≡ true
 
   pub record IsPair (x n s e y z : ℕ) : Type 0 where
-    pub more : n < length (filled_successors (below_of w) fs x s e)
-    pub two : AreUnapart fs (filled_successors (below_of w) fs x s e) y z
+    pub more : n < length (filled_successors w.first (below_of w) fs x s e)
+    pub two : AreUnapart fs (filled_successors w.first (below_of w) fs x s e) y z
 
   -- an edge of role q, below s, leads from x to y
   pub record IsRoleTo (x s y q : ℕ) : Type 0 where
@@ -128,11 +128,11 @@ module _ (w : SearchContext) (fs : List (Fact ℕ)) where
 
   -- no part of a union is to be chosen at any node
   abbrev pub NoUnion : Type 0
-  NoUnion = (x : ℕ) → x < node_count fs → NoUnionAt x
+  NoUnion = (x : ℕ) → x < node_count_from w.first fs → NoUnionAt x
 
   -- nothing is to be chosen at successors of any node
   abbrev pub NoMost : Type 0
-  NoMost = (x : ℕ) → x < node_count fs → NoMostAt x
+  NoMost = (x : ℕ) → x < node_count_from w.first fs → NoMostAt x
 
   pub record NothingToChoose : Type 0 where
     pub none : (b : Branch) → ¬ MayBranch w fs b

@@ -26,8 +26,8 @@ pub record IsLater (fs : List (Fact ℕ)) (ys : List ℕ) (place z : ℕ) : Type
   pub unapart : are_apart fs (slice_index ys place) z ≡ false
 
 -- those from a number on of the representatives that an 'at most' counts, ascending
-unfoldable pub filled_from : (ℕ → ℕ → Bool) → List (Fact ℕ) → ℕ → ℕ → ℕ → ℕ → List ℕ
-filled_from below fs x s e from = filter (nat_le from) (filled_successors below fs x s e)
+unfoldable pub filled_from : ℕ → (ℕ → ℕ → Bool) → List (Fact ℕ) → ℕ → ℕ → ℕ → ℕ → List ℕ
+filled_from first below fs x s e from = filter (nat_le from) (filled_successors first below fs x s e)
 
 -- this is the least number that passes, or there is none
 abbrev pub IsLeast : (ℕ → Bool) → Option ℕ → Type 0

@@ -11,7 +11,7 @@ use Rattle.step_finders.specs.declared.state.NamedRow.{NamedRow}
 use Rattle.calculus_specs.specs.Shape.{Shape, shape_of}
 use Rattle.calculus_specs.specs.Shape.Shape.{intersection, all_of}
 use Rattle.calculus_specs.specs.declared.facts.Fact.{Fact}
-use Rattle.calculus_specs.specs.State.{node_count, has, is_successor}
+use Rattle.calculus_specs.specs.State.{node_count_from, has, is_successor}
 use Rattle.tableau_specs.specs.Steps.{SearchContext, below_of, Adds, IsCarried, is_used_at}
 
 -- a pair of a transitive role t below s and a concept 'all t e'
@@ -116,7 +116,7 @@ pub record AreFiled (w : SearchContext) (files : Files) : Type 0 where
   pub begins : (r : ℕ) → All (IsAtEdge w edge r) (files.begins r)
   pub ends : (r : ℕ) → All (IsAtEdge w end_of r) (files.ends r)
   -- each row is filed: where all that is filed holds at all nodes, each row that is used holds
-  pub each_filed : (fs : List (Fact ℕ)) → ((x : ℕ) → x < node_count fs → HoldsRows files fs x) → (x : ℕ) (row : Row) → x < node_count fs → Contains w.rows row → is_used_at w fs row x ≡ true
+  pub each_filed : (fs : List (Fact ℕ)) → ((x : ℕ) → x < node_count_from w.first fs → HoldsRows files fs x) → (x : ℕ) (row : Row) → x < node_count_from w.first fs → Contains w.rows row → is_used_at w fs row x ≡ true
       → has fs x row.concept ≡ true
 
 module _ (w : SearchContext) (fs : List (Fact ℕ)) where

@@ -1,4 +1,5 @@
 pub mod Found
+pub mod Giving
 pub mod Reasons
 pub mod Filled
 pub mod Choosing

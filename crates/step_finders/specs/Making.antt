@@ -5,7 +5,7 @@ use Rattle.calculus_specs.specs.Shape.{Shape, shape_of}
 use Rattle.calculus_specs.specs.Shape.Shape.{some_of, at_least}
 use Rattle.calculus_specs.specs.declared.facts.Fact.{Fact}
 use Rattle.calculus_specs.specs.Joins.{rep}
-use Rattle.calculus_specs.specs.State.{node_count, has, is_successor, all_apart, fresh_facts}
+use Rattle.calculus_specs.specs.State.{node_count_from, has, is_successor, all_apart, fresh_facts}
 use Rattle.tableau_specs.specs.Steps.{SearchContext, below_of, IsOpen, Generates, is_run}
 use Rattle.step_finders.specs.declared.make.NewNodes.{NewNodes}
 
@@ -31,7 +31,7 @@ Asks _ m = ⊥
 module _ (w : SearchContext) (fs : List (Fact ℕ)) where
   -- these nodes are to be made, since a concept of their parent asks for them
   pub record IsMaking (m : NewNodes) : Type 0 where
-    pub generates : Generates w fs (fresh_facts m.parent m.role m.filler (node_count fs) m.count)
+    pub generates : Generates w fs (fresh_facts m.parent m.role m.filler (node_count_from w.first fs) m.count)
     pub is_open : IsOpen w fs m.parent
     pub holds : has fs m.parent m.concept ≡ true
     pub asks : Asks (shape_of w.table m.concept) m

@@ -1,21 +1,23 @@
 // Add: a concept that a rule without branches gives a node.
 ghost use Rattle.std.specs.Prelude.{◌≡◌, ◌<◌, MatchOption};
 ghost use Rattle.calculus_specs.specs.Joins.{rep};
-ghost use Rattle.calculus_specs.specs.State.{node_count};
+ghost use Rattle.calculus_specs.specs.State.{node_count_from};
 ghost use Rattle.step_finders.specs.Found.{NothingToAdd, NothingFrom};
 ghost use Rattle.step_finders.specs.Reasons.{IsAddition};
 
+use crate::nodes::count_of;
 use crate::parts::find_at_node;
 use crate::rows::find_by_rows;
 use crate::{Addition, Rules, State};
 
 /// A node and a concept that is to be added to it; none exactly where there is none.
 pub fn find_add<S: State, R: Rules>(state: &S, rules: &R) -> Option<Addition>
+    requires one_first { S.first state.now ≡ (R.context rules.now).first }
     ensures { let w = R.context rules.now in let fs = S.facts state.now in
         MatchOption result (NothingToAdd w fs) (IsAddition w fs (R.files rules.now)) }
 {
     rules.is_ready();
-    for node in 0..state.nodes() {
+    for node in 0..count_of(state, rules) {
         match find_at_representative(state, rules, node) {
             Some(addition) => return Some(addition),
             None => {}
@@ -26,7 +28,7 @@ pub fn find_add<S: State, R: Rules>(state: &S, rules: &R) -> Option<Addition>
 
 // What is to be added because of what the node has, where it is a representative.
 fn find_at_representative<S: State, R: Rules>(state: &S, rules: &R, node: u32) -> Option<Addition>
-    requires { node < node_count (S.facts state.now) }
+    requires { node < node_count_from (R.context rules.now).first (S.facts state.now) }
     ensures { let w = R.context rules.now in let fs = S.facts state.now in
         MatchOption result (rep fs node ≡ node → NothingFrom w fs (R.files rules.now) node) (IsAddition w fs (R.files rules.now)) }
 {
@@ -38,7 +40,7 @@ fn find_at_representative<S: State, R: Rules>(state: &S, rules: &R, node: u32) -
 
 /// What is to be added because of what the node has; none exactly where there is nothing.
 pub fn find_from<S: State, R: Rules>(state: &S, rules: &R, node: u32) -> Option<Addition>
-    requires { node < node_count (S.facts state.now) }
+    requires { node < node_count_from (R.context rules.now).first (S.facts state.now) }
     ensures { let w = R.context rules.now in let fs = S.facts state.now in
         MatchOption result (NothingFrom w fs (R.files rules.now) node) (IsAddition w fs (R.files rules.now)) }
 {

@@ -4,11 +4,12 @@ ghost use Rattle.std.specs.List.{list_any};
 ghost use Rattle.calculus_specs.specs.Shape.{shape_of};
 ghost use Rattle.calculus_specs.specs.Shape.Shape.{union, at_most};
 ghost use Rattle.calculus_specs.specs.Joins.{rep};
-ghost use Rattle.calculus_specs.specs.State.{node_count, has as holds, is_successor};
+ghost use Rattle.calculus_specs.specs.State.{node_count_from, has as holds, is_successor};
 ghost use Rattle.tableau_specs.specs.Steps.{below_of};
 ghost use Rattle.step_finders.specs.Choosing.{IsChoosable, HasComplement, LacksComplement, IsDecided, IsUndecided, AllDecided, UndecidedAtEnd, NoPair, IsPair, IsRoleTo, NoUnionByShape, NoMostByShape, NoPairByShape, NoUnionAt, NoMostAt, NoUnion, NoMost, NothingToChoose};
 
 use crate::counted::filled_successors;
+use crate::nodes::count_of;
 use crate::unapart::find_unapart;
 use crate::{Choosing, NoMemory, Rules, State};
 use shq_nnf::Shape;
@@ -78,6 +79,7 @@ fn find_pair<S: State, R: Rules>(
     role: u32,
     filler: u32,
 ) -> Result<Option<(u32, u32)>, NoMemory>
+    requires one_first { S.first state.now ≡ (R.context rules.now).first }
     ensures { let w = R.context rules.now in let fs = S.facts state.now in
         IfOk result (λ found. MatchOption found (NoPair w fs node count role filler)
         (λ p. IsPair w fs node count role filler p.0 p.1)) }
@@ -120,7 +122,7 @@ fn pair_of<S: State, R: Rules>(
     first: u32,
     second: u32,
 ) -> Option<Choosing>
-    requires is_node { node < node_count (S.facts state.now) }
+    requires is_node { node < node_count_from (R.context rules.now).first (S.facts state.now) }
     requires holds { holds (S.facts state.now) node concept ≡ true }
     requires shape { shape_of (R.context rules.now).table concept ≡ at_most count role filler }
     requires pair { IsPair (R.context rules.now) (S.facts state.now) node count role filler first second }
@@ -153,7 +155,8 @@ fn find_by_most<S: State, R: Rules>(
     role: u32,
     filler: u32,
 ) -> Result<Option<Choosing>, NoMemory>
-    requires is_node { node < node_count (S.facts state.now) }
+    requires one_first { S.first state.now ≡ (R.context rules.now).first }
+    requires is_node { node < node_count_from (R.context rules.now).first (S.facts state.now) }
     requires holds { holds (S.facts state.now) node concept ≡ true }
     requires shape { shape_of (R.context rules.now).table concept ≡ at_most count role filler }
     ensures { let w = R.context rules.now in let fs = S.facts state.now in
@@ -183,7 +186,8 @@ fn find_pair_by_most<S: State, R: Rules>(
     role: u32,
     filler: u32,
 ) -> Result<Option<Choosing>, NoMemory>
-    requires is_node { node < node_count (S.facts state.now) }
+    requires one_first { S.first state.now ≡ (R.context rules.now).first }
+    requires is_node { node < node_count_from (R.context rules.now).first (S.facts state.now) }
     requires holds { holds (S.facts state.now) node concept ≡ true }
     requires shape { shape_of (R.context rules.now).table concept ≡ at_most count role filler }
     ensures { let w = R.context rules.now in let fs = S.facts state.now in
@@ -205,7 +209,7 @@ fn find_by_union<S: State, R: Rules>(
     concept: u32,
     parts: &[u32],
 ) -> Option<Choosing>
-    requires is_node { node < node_count (S.facts state.now) }
+    requires is_node { node < node_count_from (R.context rules.now).first (S.facts state.now) }
     requires holds { holds (S.facts state.now) node concept ≡ true }
     requires shape { shape_of (R.context rules.now).table concept ≡ union parts.now }
     ensures { let w = R.context rules.now in let fs = S.facts state.now in
@@ -232,7 +236,8 @@ pub fn find_most_by<S: State, R: Rules>(
     node: u32,
     concept: u32,
 ) -> Result<Option<Choosing>, NoMemory>
-    requires is_node { node < node_count (S.facts state.now) }
+    requires one_first { S.first state.now ≡ (R.context rules.now).first }
+    requires is_node { node < node_count_from (R.context rules.now).first (S.facts state.now) }
     requires holds { holds (S.facts state.now) node concept ≡ true }
     ensures { let w = R.context rules.now in let fs = S.facts state.now in
         IfOk result (λ found. MatchOption found (NoMostByShape w fs node (shape_of w.table concept))
@@ -259,7 +264,8 @@ pub fn find_pair_by<S: State, R: Rules>(
     node: u32,
     concept: u32,
 ) -> Result<Option<Choosing>, NoMemory>
-    requires is_node { node < node_count (S.facts state.now) }
+    requires one_first { S.first state.now ≡ (R.context rules.now).first }
+    requires is_node { node < node_count_from (R.context rules.now).first (S.facts state.now) }
     requires holds { holds (S.facts state.now) node concept ≡ true }
     ensures { let w = R.context rules.now in let fs = S.facts state.now in
         IfOk result (λ found. MatchOption found (NoPairByShape w fs node (shape_of w.table concept))
@@ -280,7 +286,7 @@ pub fn find_union_by<S: State, R: Rules>(
     node: u32,
     concept: u32,
 ) -> Option<Choosing>
-    requires is_node { node < node_count (S.facts state.now) }
+    requires is_node { node < node_count_from (R.context rules.now).first (S.facts state.now) }
     requires holds { holds (S.facts state.now) node concept ≡ true }
     ensures { let w = R.context rules.now in let fs = S.facts state.now in
         MatchOption result (NoUnionByShape w fs node (shape_of w.table concept)) (IsChoosable w fs) }
@@ -302,7 +308,8 @@ pub fn find_most_at<S: State, R: Rules>(
     rules: &R,
     node: u32,
 ) -> Result<Option<Choosing>, NoMemory>
-    requires { node < node_count (S.facts state.now) }
+    requires one_first { S.first state.now ≡ (R.context rules.now).first }
+    requires is_node { node < node_count_from (R.context rules.now).first (S.facts state.now) }
     ensures { let w = R.context rules.now in let fs = S.facts state.now in
         IfOk result (λ found. MatchOption found (NoMostAt w fs node) (IsChoosable w fs)) }
 {
@@ -317,7 +324,7 @@ pub fn find_most_at<S: State, R: Rules>(
 
 /// Which part of a union of the node is to be chosen; none exactly where none is.
 pub fn find_union_at<S: State, R: Rules>(state: &S, rules: &R, node: u32) -> Option<Choosing>
-    requires { node < node_count (S.facts state.now) }
+    requires { node < node_count_from (R.context rules.now).first (S.facts state.now) }
     ensures { let w = R.context rules.now in let fs = S.facts state.now in
         MatchOption result (NoUnionAt w fs node) (IsChoosable w fs) }
 {
@@ -337,7 +344,8 @@ fn find_most_of_rep<S: State, R: Rules>(
     rules: &R,
     node: u32,
 ) -> Result<Option<Choosing>, NoMemory>
-    requires { node < node_count (S.facts state.now) }
+    requires one_first { S.first state.now ≡ (R.context rules.now).first }
+    requires is_node { node < node_count_from (R.context rules.now).first (S.facts state.now) }
     ensures { let w = R.context rules.now in let fs = S.facts state.now in
         IfOk result (λ found. MatchOption found (rep fs node ≡ node → NoMostAt w fs node) (IsChoosable w fs)) }
 {
@@ -349,7 +357,7 @@ fn find_most_of_rep<S: State, R: Rules>(
 
 // Which part of a union of the node is to be chosen, where it is a representative.
 fn find_union_of_rep<S: State, R: Rules>(state: &S, rules: &R, node: u32) -> Option<Choosing>
-    requires { node < node_count (S.facts state.now) }
+    requires { node < node_count_from (R.context rules.now).first (S.facts state.now) }
     ensures { let w = R.context rules.now in let fs = S.facts state.now in
         MatchOption result (rep fs node ≡ node → NoUnionAt w fs node) (IsChoosable w fs) }
 {
@@ -370,10 +378,11 @@ pub fn find_most<S: State, R: Rules>(
     state: &S,
     rules: &R,
 ) -> Result<Option<Choosing>, NoMemory>
+    requires one_first { S.first state.now ≡ (R.context rules.now).first }
     ensures { let w = R.context rules.now in let fs = S.facts state.now in
         IfOk result (λ found. MatchOption found (NoMost w fs) (IsChoosable w fs)) }
 {
-    for node in 0..state.nodes() {
+    for node in 0..count_of(state, rules) {
         match find_most_of_rep(alloc, state, rules, node)? {
             Some(choosing) => return Ok(Some(choosing)),
             None => {}
@@ -384,10 +393,11 @@ pub fn find_most<S: State, R: Rules>(
 
 /// A union of which a part is to be chosen; none exactly where there is none.
 pub fn find_union<S: State, R: Rules>(state: &S, rules: &R) -> Option<Choosing>
+    requires one_first { S.first state.now ≡ (R.context rules.now).first }
     ensures { let w = R.context rules.now in let fs = S.facts state.now in
         MatchOption result (NoUnion w fs) (IsChoosable w fs) }
 {
-    for node in 0..state.nodes() {
+    for node in 0..count_of(state, rules) {
         match find_union_of_rep(state, rules, node) {
             Some(choosing) => return Some(choosing),
             None => {}
@@ -406,6 +416,7 @@ pub fn find_choice<S: State, R: Rules>(
     state: &S,
     rules: &R,
 ) -> Result<Option<Choosing>, NoMemory>
+    requires one_first { S.first state.now ≡ (R.context rules.now).first }
     ensures { let w = R.context rules.now in let fs = S.facts state.now in
         IfOk result (λ found. MatchOption found (NothingToChoose w fs) (IsChoosable w fs)) }
 {

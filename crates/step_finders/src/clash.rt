@@ -3,14 +3,14 @@ ghost use Rattle.std.specs.Prelude.{◌≡◌, ℕ, ◌<◌, ◌↔◌, true, fa
 ghost use Rattle.std.specs.List.{All};
 ghost use Rattle.calculus_specs.specs.Shape.{shape_of};
 ghost use Rattle.calculus_specs.specs.Shape.Shape.{bottom};
-ghost use Rattle.calculus_specs.specs.State.{node_count, has as holds};
+ghost use Rattle.calculus_specs.specs.State.{node_count_from, has as holds, are_apart as kept_apart, speak_of_nodes};
 ghost use Rattle.calculus_specs.specs.Tree.{IsComplement};
-ghost use Rattle.tableau_specs.specs.Near.{speak_of_nodes};
 ghost use Rattle.step_finders.specs.Choosing.{LacksComplement};
-ghost use Rattle.step_finders.specs.Clashing.{IsShown, NotOverrun, NotOverrunOver, CountsNot, IsMost, NoneByShape, NoneAbove, NoClashBy, IsOfParent, NoneOver, NoClashByNew, NoClashByApart, NoClashByJoin, ShownClashesArePlain};
+ghost use Rattle.step_finders.specs.Clashing.{IsShown, NotOverrun, NoneOverrun, NotOverrunOver, CountsNot, IsMost, NoneByShape, NoneAbove, NoneInto, NoneAt, NoClashBy, AreLedTo, NoneOver, NoClashByNew, NoClashByEdge, NoClashByApart, NoClashByJoin, ShownClashesArePlain};
 ghost use Rattle.tableau_specs.specs.Clash.{IsPlainClash};
 ghost use Rattle.tableau_specs.specs.Steps.{below_of};
 
+use crate::nodes::{are_apart, count_of, members_of, parent_of};
 use crate::overrun::is_overrun;
 use crate::{Rules, State};
 use shq_nnf::Shape;
@@ -41,6 +41,8 @@ pub enum Clash {
         /// The number of the 'at most'.
         concept: u32,
     },
+    /// Two nodes that are one, and are apart.
+    Differ(u32, u32),
 }
 
 // A clash by an 'at most' with this filler, if the node has it.
@@ -51,7 +53,8 @@ fn find_by_most<S: State, R: Rules>(
     filler: u32,
     concept: u32,
 ) -> Option<Clash>
-    requires is_node { node < node_count (S.facts state.now) }
+    requires one_first { S.first state.now ≡ (R.context rules.now).first }
+    requires is_node { node < node_count_from (R.context rules.now).first (S.facts state.now) }
     requires shape { IsMost (R.context rules.now).table filler concept }
     ensures { let w = R.context rules.now in let fs = S.facts state.now in
         MatchOption result (NotOverrun w fs node filler concept) (IsShown w fs) }
@@ -79,7 +82,8 @@ fn find_by_mosts<S: State, R: Rules>(
     filler: u32,
     concepts: &[u32],
 ) -> Option<Clash>
-    requires is_node { node < node_count (S.facts state.now) }
+    requires one_first { S.first state.now ≡ (R.context rules.now).first }
+    requires is_node { node < node_count_from (R.context rules.now).first (S.facts state.now) }
     requires shapes { All (IsMost (R.context rules.now).table filler) concepts.now }
     ensures { let w = R.context rules.now in let fs = S.facts state.now in
         MatchOption result (All (NotOverrun w fs node filler) concepts.now) (IsShown w fs) }
@@ -112,9 +116,20 @@ fn find_opposite<S: State, R: Rules>(state: &S, rules: &R, node: u32, concept: u
     }
 }
 
+// A clash by an 'at most' of the node with this filler.
+fn find_counting<S: State, R: Rules>(state: &S, rules: &R, node: u32, filler: u32) -> Option<Clash>
+    requires one_first { S.first state.now ≡ (R.context rules.now).first }
+    requires is_node { node < node_count_from (R.context rules.now).first (S.facts state.now) }
+    ensures { let w = R.context rules.now in let fs = S.facts state.now in
+        MatchOption result (NoneOverrun w fs node filler) (IsShown w fs) }
+{
+    find_by_mosts(state, rules, node, filler, rules.mosts(filler))
+}
+
 // A clash at the node by the concept.
 fn find_at_node<S: State, R: Rules>(state: &S, rules: &R, node: u32, concept: u32) -> Option<Clash>
-    requires is_node { node < node_count (S.facts state.now) }
+    requires one_first { S.first state.now ≡ (R.context rules.now).first }
+    requires is_node { node < node_count_from (R.context rules.now).first (S.facts state.now) }
     requires holds { holds (S.facts state.now) node concept ≡ true }
     ensures { let w = R.context rules.now in let fs = S.facts state.now in
         MatchOption result (NoneByShape w fs node (shape_of w.table concept)) (IsShown w fs) }
@@ -149,20 +164,55 @@ fn find_at_node<S: State, R: Rules>(state: &S, rules: &R, node: u32, concept: u3
     }
 }
 
-// A clash above the node by its concept.
+// A clash by an 'at most' with this filler, at a node from which an axiom gives an edge to this one.
+fn find_into<S: State, R: Rules>(state: &S, rules: &R, node: u32, filler: u32) -> Option<Clash>
+    requires one_first { S.first state.now ≡ (R.context rules.now).first }
+    ensures { let w = R.context rules.now in let fs = S.facts state.now in
+        MatchOption result (NoneInto w fs filler node) (IsShown w fs) }
+{
+    for edge in rules.given_into(node) {
+        match find_counting(state, rules, state.representative(edge.1), filler) {
+            Some(clash) => return Some(clash),
+            None => {}
+        }
+    }
+    None
+}
+
+// A clash by an 'at most' with this filler, at a node from which an axiom gives an edge to one of these.
+fn find_into_any<S: State, R: Rules>(
+    state: &S,
+    rules: &R,
+    nodes: &[u32],
+    filler: u32,
+) -> Option<Clash>
+    requires one_first { S.first state.now ≡ (R.context rules.now).first }
+    ensures { let w = R.context rules.now in let fs = S.facts state.now in
+        MatchOption result (All (NoneInto w fs filler) nodes.now) (IsShown w fs) }
+{
+    for node in nodes {
+        match find_into(state, rules, *node, filler) {
+            Some(clash) => return Some(clash),
+            None => {}
+        }
+    }
+    None
+}
+
+// A clash above the node by its concept. Where its representative has a parent, all edges to it come from there; where
+// it has none, it is a first node, and they are by edges that axioms give to a node that is one with it.
 fn find_above<S: State, R: Rules>(state: &S, rules: &R, node: u32, concept: u32) -> Option<Clash>
-    requires is_node { node < node_count (S.facts state.now) }
-    requires speak { speak_of_nodes (S.facts state.now) ≡ true }
-    requires above { IsOfParent (S.facts state.now) node }
+    requires one_first { S.first state.now ≡ (R.context rules.now).first }
+    requires is_node { node < node_count_from (R.context rules.now).first (S.facts state.now) }
+    requires speak { speak_of_nodes (R.context rules.now).first (S.facts state.now) ≡ true }
+    requires above { AreLedTo (R.context rules.now) (S.facts state.now) node }
     ensures { let w = R.context rules.now in let fs = S.facts state.now in
         MatchOption result (NoneAbove w fs node concept) (IsShown w fs) }
 {
-    let up = match state.parent(state.representative(node)) {
-        Some(up) => up,
-        None => return None,
-    };
-    let above = state.representative(up);
-    find_by_mosts(state, rules, above, concept, rules.mosts(concept))
+    match parent_of(state, rules, state.representative(node)) {
+        Some(up) => find_counting(state, rules, state.representative(up), concept),
+        None => find_into_any(state, rules, members_of(state, rules, node), concept),
+    }
 }
 
 /// A plain clash that is there since the node has the concept; none exactly where there is none.
@@ -172,10 +222,11 @@ pub fn find_clash<S: State, R: Rules>(
     node: u32,
     concept: u32,
 ) -> Option<Clash>
-    requires is_node { node < node_count (S.facts state.now) }
+    requires one_first { S.first state.now ≡ (R.context rules.now).first }
+    requires is_node { node < node_count_from (R.context rules.now).first (S.facts state.now) }
     requires holds { holds (S.facts state.now) node concept ≡ true }
-    requires speak { speak_of_nodes (S.facts state.now) ≡ true }
-    requires above { IsOfParent (S.facts state.now) node }
+    requires speak { speak_of_nodes (R.context rules.now).first (S.facts state.now) ≡ true }
+    requires above { AreLedTo (R.context rules.now) (S.facts state.now) node }
     ensures { let w = R.context rules.now in let fs = S.facts state.now in
         MatchOption result (NoClashBy w fs node concept) (IsShown w fs) }
 {
@@ -204,7 +255,8 @@ fn find_by_most_over<S: State, R: Rules>(
     filler: u32,
     concept: u32,
 ) -> Option<Clash>
-    requires is_node { node < node_count (S.facts state.now) }
+    requires one_first { S.first state.now ≡ (R.context rules.now).first }
+    requires is_node { node < node_count_from (R.context rules.now).first (S.facts state.now) }
     requires shape { IsMost (R.context rules.now).table filler concept }
     ensures { let w = R.context rules.now in let fs = S.facts state.now in
         MatchOption result (NotOverrunOver w fs node role filler concept) (IsShown w fs) }
@@ -224,7 +276,8 @@ fn find_by_mosts_over<S: State, R: Rules>(
     filler: u32,
     concepts: &[u32],
 ) -> Option<Clash>
-    requires is_node { node < node_count (S.facts state.now) }
+    requires one_first { S.first state.now ≡ (R.context rules.now).first }
+    requires is_node { node < node_count_from (R.context rules.now).first (S.facts state.now) }
     requires shapes { All (IsMost (R.context rules.now).table filler) concepts.now }
     ensures { let w = R.context rules.now in let fs = S.facts state.now in
         MatchOption result (All (NotOverrunOver w fs node role filler) concepts.now) (IsShown w fs) }
@@ -246,7 +299,8 @@ fn find_by_filler<S: State, R: Rules>(
     role: u32,
     filler: u32,
 ) -> Option<Clash>
-    requires { node < node_count (S.facts state.now) }
+    requires one_first { S.first state.now ≡ (R.context rules.now).first }
+    requires is_node { node < node_count_from (R.context rules.now).first (S.facts state.now) }
     ensures { let w = R.context rules.now in let fs = S.facts state.now in
         MatchOption result (NoneOver w fs node role filler) (IsShown w fs) }
 {
@@ -271,7 +325,8 @@ fn find_by_fillers<S: State, R: Rules>(
     role: u32,
     filler: u32,
 ) -> Option<Clash>
-    requires { node < node_count (S.facts state.now) }
+    requires one_first { S.first state.now ≡ (R.context rules.now).first }
+    requires is_node { node < node_count_from (R.context rules.now).first (S.facts state.now) }
     ensures { let w = R.context rules.now in let fs = S.facts state.now in
         MatchOption result (NoneOver w fs node role 0 × NoneOver w fs node role filler) (IsShown w fs) }
 {
@@ -291,8 +346,9 @@ pub fn find_clash_of_new_nodes<S: State, R: Rules>(
     filler: u32,
     first: u32,
 ) -> Option<Clash>
-    requires parent { parent < node_count (S.facts state.now) }
-    requires first { first < node_count (S.facts state.now) }
+    requires one_first { S.first state.now ≡ (R.context rules.now).first }
+    requires parent { parent < node_count_from (R.context rules.now).first (S.facts state.now) }
+    requires first { first < node_count_from (R.context rules.now).first (S.facts state.now) }
     requires holds { holds (S.facts state.now) first filler ≡ true }
     ensures { let w = R.context rules.now in let fs = S.facts state.now in
         MatchOption result (NoClashByNew w fs parent role filler) (IsShown w fs) }
@@ -314,9 +370,10 @@ fn find_shared<S: State, R: Rules>(
     second: u32,
     concept: u32,
 ) -> Option<Clash>
-    requires is_node { first < node_count (S.facts state.now) }
-    requires speak { speak_of_nodes (S.facts state.now) ≡ true }
-    requires above { IsOfParent (S.facts state.now) first }
+    requires one_first { S.first state.now ≡ (R.context rules.now).first }
+    requires is_node { first < node_count_from (R.context rules.now).first (S.facts state.now) }
+    requires speak { speak_of_nodes (R.context rules.now).first (S.facts state.now) ≡ true }
+    requires above { AreLedTo (R.context rules.now) (S.facts state.now) first }
     ensures { let w = R.context rules.now in let fs = S.facts state.now in
         MatchOption result (holds fs second concept ≡ true → NoneAbove w fs first concept) (IsShown w fs) }
 {
@@ -326,6 +383,29 @@ fn find_shared<S: State, R: Rules>(
     find_above(state, rules, first, concept)
 }
 
+/// A plain clash that is there since an edge of the role leads from one node to another; none exactly where there is
+/// none.
+pub fn find_clash_of_edge<S: State, R: Rules>(
+    state: &S,
+    rules: &R,
+    role: u32,
+    begin: u32,
+    end: u32,
+) -> Option<Clash>
+    requires one_first { S.first state.now ≡ (R.context rules.now).first }
+    requires is_node { begin < node_count_from (R.context rules.now).first (S.facts state.now) }
+    ensures { let w = R.context rules.now in let fs = S.facts state.now in
+        MatchOption result (NoClashByEdge w fs role begin end) (IsShown w fs) }
+{
+    for concept in state.label(end) {
+        match find_by_filler(state, rules, begin, role, *concept) {
+            Some(clash) => return Some(clash),
+            None => {}
+        }
+    }
+    None
+}
+
 /// A plain clash that is there since the two nodes are apart; none exactly where there is none.
 pub fn find_clash_of_apart<S: State, R: Rules>(
     state: &S,
@@ -333,12 +413,18 @@ pub fn find_clash_of_apart<S: State, R: Rules>(
     first: u32,
     second: u32,
 ) -> Option<Clash>
-    requires is_node { first < node_count (S.facts state.now) }
-    requires speak { speak_of_nodes (S.facts state.now) ≡ true }
-    requires above { IsOfParent (S.facts state.now) first }
+    requires one_first { S.first state.now ≡ (R.context rules.now).first }
+    requires is_node { first < node_count_from (R.context rules.now).first (S.facts state.now) }
+    requires is_other_node { second < node_count_from (R.context rules.now).first (S.facts state.now) }
+    requires apart { kept_apart (S.facts state.now) first second ≡ true }
+    requires speak { speak_of_nodes (R.context rules.now).first (S.facts state.now) ≡ true }
+    requires above { AreLedTo (R.context rules.now) (S.facts state.now) first }
     ensures { let w = R.context rules.now in let fs = S.facts state.now in
         MatchOption result (NoClashByApart w fs first second) (IsShown w fs) }
 {
+    if state.representative(first) == state.representative(second) {
+        return Some(Clash::Differ(first, second));
+    }
     for concept in state.label(first) {
         match find_shared(state, rules, first, second, *concept) {
             Some(clash) => return Some(clash),
@@ -350,12 +436,16 @@ pub fn find_clash_of_apart<S: State, R: Rules>(
 
 /// A plain clash that is there since the node is one with another; none exactly where there is none.
 pub fn find_clash_of_join<S: State, R: Rules>(state: &S, rules: &R, node: u32) -> Option<Clash>
-    requires is_node { node < node_count (S.facts state.now) }
-    requires speak { speak_of_nodes (S.facts state.now) ≡ true }
-    requires above { IsOfParent (S.facts state.now) node }
+    requires one_first { S.first state.now ≡ (R.context rules.now).first }
+    requires is_node { node < node_count_from (R.context rules.now).first (S.facts state.now) }
+    requires speak { speak_of_nodes (R.context rules.now).first (S.facts state.now) ≡ true }
+    requires above { AreLedTo (R.context rules.now) (S.facts state.now) node }
     ensures { let w = R.context rules.now in let fs = S.facts state.now in
         MatchOption result (NoClashByJoin w fs node) (IsShown w fs) }
 {
+    if are_apart(state, rules, node, node) {
+        return Some(Clash::Differ(node, node));
+    }
     for concept in state.label(node) {
         match find_clash(state, rules, node, *concept) {
             Some(clash) => return Some(clash),
@@ -367,7 +457,8 @@ pub fn find_clash_of_join<S: State, R: Rules>(state: &S, rules: &R, node: u32) -
 
 // A clash at the node by one of its concepts.
 fn find_by_label<S: State, R: Rules>(state: &S, rules: &R, node: u32) -> Option<Clash>
-    requires { node < node_count (S.facts state.now) }
+    requires one_first { S.first state.now ≡ (R.context rules.now).first }
+    requires is_node { node < node_count_from (R.context rules.now).first (S.facts state.now) }
     ensures { let w = R.context rules.now in let fs = S.facts state.now in
         MatchOption result ((c : ℕ) → holds fs node c ≡ true → NoneByShape w fs node (shape_of w.table c)) (IsShown w fs) }
 {
@@ -380,13 +471,27 @@ fn find_by_label<S: State, R: Rules>(state: &S, rules: &R, node: u32) -> Option<
     None
 }
 
+// A clash at the node by one of its concepts, or since it is apart from itself.
+fn find_anywhere_at<S: State, R: Rules>(state: &S, rules: &R, node: u32) -> Option<Clash>
+    requires one_first { S.first state.now ≡ (R.context rules.now).first }
+    requires is_node { node < node_count_from (R.context rules.now).first (S.facts state.now) }
+    ensures { let w = R.context rules.now in let fs = S.facts state.now in
+        MatchOption result (NoneAt w fs node) (IsShown w fs) }
+{
+    if are_apart(state, rules, node, node) {
+        return Some(Clash::Differ(node, node));
+    }
+    find_by_label(state, rules, node)
+}
+
 /// A plain clash of the state; none exactly where it has none.
 pub fn find_plain_clash<S: State, R: Rules>(state: &S, rules: &R) -> Option<Clash>
+    requires one_first { S.first state.now ≡ (R.context rules.now).first }
     ensures { let w = R.context rules.now in let fs = S.facts state.now in
-        MatchOption result (¬ IsPlainClash (below_of w) w.table fs) (IsShown w fs) }
+        MatchOption result (¬ IsPlainClash w.first (below_of w) w.table fs) (IsShown w fs) }
 {
-    for node in 0..state.nodes() {
-        match find_by_label(state, rules, node) {
+    for node in 0..count_of(state, rules) {
+        match find_anywhere_at(state, rules, node) {
             Some(clash) => return Some(clash),
             None => {}
         }

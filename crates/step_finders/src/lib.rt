@@ -9,7 +9,9 @@ mod choose;
 mod choosing;
 mod clash;
 mod counted;
+mod give;
 mod make;
+mod nodes;
 mod overrun;
 mod parts;
 mod reason;
@@ -25,11 +27,13 @@ pub use choose::{
 };
 pub use choosing::Choosing;
 pub use clash::{
-    Clash, find_clash, find_clash_of_apart, find_clash_of_join, find_clash_of_new_nodes,
-    find_plain_clash, shown_clashes_are_plain,
+    Clash, find_clash, find_clash_of_apart, find_clash_of_edge, find_clash_of_join,
+    find_clash_of_new_nodes, find_plain_clash, shown_clashes_are_plain,
 };
 pub use counted::filled_successors;
+pub use give::{find_giving, is_so};
 pub use make::{NewNodes, find_making, find_making_at, find_making_by};
+pub use nodes::{count_of, members_of};
 pub use parts::{find_at_node, find_by_concept};
 pub use reason::{Addition, Reason};
 pub use rows::{
@@ -37,5 +41,5 @@ pub use rows::{
     find_by_rows, find_general,
 };
 pub use shq_terms::NoMemory;
-pub use state::{NamedRow, PlainRow, Rules, State, StateWithBlocks};
+pub use state::{Given, NamedRow, PlainRow, Rules, State, StateWithBlocks};
 pub use step::{Step, find_step, no_step_is_saturated};

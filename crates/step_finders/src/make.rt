@@ -4,12 +4,13 @@ ghost use Rattle.std.specs.List.{list_all, range_with_len};
 ghost use Rattle.calculus_specs.specs.Shape.{shape_of};
 ghost use Rattle.calculus_specs.specs.Shape.Shape.{at_least, some_of};
 ghost use Rattle.calculus_specs.specs.Joins.{rep};
-ghost use Rattle.calculus_specs.specs.State.{node_count, has as holds, are_apart, all_apart};
+ghost use Rattle.calculus_specs.specs.State.{node_count_from, has as holds, are_apart, all_apart};
 ghost use Rattle.tableau_specs.specs.Clash.{filled_successors as all_filled};
 ghost use Rattle.tableau_specs.specs.Steps.{below_of, IsOpen};
 ghost use Rattle.step_finders.specs.Making.{IsMaking, HasFiller, AnswersRun, AnswersAmong, NoMakingByShape, NoMakingAt, NothingToMake};
 
 use crate::counted::filled_successors;
+use crate::nodes::{count_of, is_clear};
 use crate::{NoMemory, Rules, State, StateWithBlocks};
 use shq_nnf::Shape;
 use std::alloc::Global;
@@ -33,7 +34,7 @@ pub struct NewNodes {
 fn has_filler<S: State, R: Rules>(state: &S, rules: &R, node: u32, role: u32, filler: u32) -> bool
     ensures yes { IsTrue result → HasFiller (R.context rules.now) (S.facts state.now) node role filler }
     ensures no { let w = R.context rules.now in let fs = S.facts state.now in
-        result ≡ false → all_filled (below_of w) fs node role filler ≡ [] }
+        result ≡ false → all_filled w.first (below_of w) fs node role filler ≡ [] }
 {
     for edge in state.edges(node) {
         if rules.is_below(edge.0, role) && state.has(edge.1, filler) {
@@ -46,8 +47,8 @@ fn has_filler<S: State, R: Rules>(state: &S, rules: &R, node: u32, role: u32, fi
 // Whether the node is apart from each of so many nodes in a row.
 fn is_apart_from<S: State>(state: &S, node: u32, first: u32, count: u32) -> bool
     requires room { first + count < 2 ^ 32 }
-    requires node { node < node_count (S.facts state.now) }
-    requires within { first + count ≤ node_count (S.facts state.now) }
+    requires node { node < node_count_from (S.first state.now) (S.facts state.now) }
+    requires within { first + count ≤ node_count_from (S.first state.now) (S.facts state.now) }
     ensures { result ≡ list_all (are_apart (S.facts state.now) node) (range_with_len first count) }
 {
     let end = first + count;
@@ -62,7 +63,7 @@ fn is_apart_from<S: State>(state: &S, node: u32, first: u32, count: u32) -> bool
 // Whether so many nodes in a row are pairwise apart.
 fn are_all_apart<S: State>(state: &S, first: u32, count: u32) -> bool
     requires room { first + count < 2 ^ 32 }
-    requires within { first + count ≤ node_count (S.facts state.now) }
+    requires within { first + count ≤ node_count_from (S.first state.now) (S.facts state.now) }
     ensures { result ≡ all_apart (S.facts state.now) (range_with_len first count) }
 {
     let end = first + count;
@@ -85,6 +86,7 @@ fn has_run<S: State, R: Rules>(
     role: u32,
     filler: u32,
 ) -> Result<bool, NoMemory>
+    requires one_first { S.first state.now ≡ (R.context rules.now).first }
     requires some { 0 < count }
     requires few { count < 200 }
     ensures { IfOk result (λ found. AnswersRun (R.context rules.now) (S.facts state.now) node count role filler found) }
@@ -98,7 +100,7 @@ fn has_run<S: State, R: Rules>(
 fn has_run_among<S: State>(state: &S, ends: &[u32], bound: u32, count: u32) -> bool
     requires some { 0 < count }
     requires small { bound + count < 2 ^ 32 }
-    requires within { bound ≤ node_count (S.facts state.now) }
+    requires within { bound ≤ node_count_from (S.first state.now) (S.facts state.now) }
     ensures { AnswersAmong (S.facts state.now) ends.now bound count result }
 {
     let mut start = 0;
@@ -151,6 +153,7 @@ pub fn find_making_by<S: State, R: Rules>(
     node: u32,
     concept: u32,
 ) -> Result<Option<NewNodes>, NoMemory>
+    requires one_first { S.first state.now ≡ (R.context rules.now).first }
     requires is_open { IsOpen (R.context rules.now) (S.facts state.now) node }
     requires holds { holds (S.facts state.now) node concept ≡ true }
     ensures { let w = R.context rules.now in let fs = S.facts state.now in
@@ -180,6 +183,7 @@ fn find_by_least<S: State, R: Rules>(
     role: u32,
     filler: u32,
 ) -> Result<Option<NewNodes>, NoMemory>
+    requires one_first { S.first state.now ≡ (R.context rules.now).first }
     requires is_open { IsOpen (R.context rules.now) (S.facts state.now) node }
     requires holds { holds (S.facts state.now) node concept ≡ true }
     requires shape { shape_of (R.context rules.now).table concept ≡ at_least count role filler }
@@ -211,7 +215,8 @@ pub fn find_making_at<S: State, R: Rules>(
     rules: &R,
     node: u32,
 ) -> Result<Option<NewNodes>, NoMemory>
-    requires { IsOpen (R.context rules.now) (S.facts state.now) node }
+    requires one_first { S.first state.now ≡ (R.context rules.now).first }
+    requires is_open { IsOpen (R.context rules.now) (S.facts state.now) node }
     ensures { let w = R.context rules.now in let fs = S.facts state.now in
         IfOk result (λ found. MatchOption found (NoMakingAt w fs node) (IsMaking w fs)) }
 {
@@ -231,14 +236,15 @@ fn find_at_open<S: StateWithBlocks, R: Rules>(
     rules: &R,
     node: u32,
 ) -> Result<Option<NewNodes>, NoMemory>
-    requires { node < node_count (S.facts state.now) }
+    requires one_first { S.first state.now ≡ (R.context rules.now).first }
+    requires is_node { node < node_count_from (R.context rules.now).first (S.facts state.now) }
     ensures { let w = R.context rules.now in let fs = S.facts state.now in
         IfOk result (λ found. MatchOption found (IsOpen w fs node → NoMakingAt w fs node) (IsMaking w fs)) }
 {
     if state.representative(node) != node {
         return Ok(None);
     }
-    if !state.is_clear(node) {
+    if !is_clear(state, rules, node) {
         return Ok(None);
     }
     find_making_at(alloc, state, rules, node)
@@ -254,10 +260,11 @@ pub fn find_making<S: StateWithBlocks, R: Rules>(
     state: &S,
     rules: &R,
 ) -> Result<Option<NewNodes>, NoMemory>
+    requires one_first { S.first state.now ≡ (R.context rules.now).first }
     ensures { let w = R.context rules.now in let fs = S.facts state.now in
         IfOk result (λ found. MatchOption found (NothingToMake w fs) (IsMaking w fs)) }
 {
-    for node in 0..state.nodes() {
+    for node in 0..count_of(state, rules) {
         match find_at_open(alloc, state, rules, node)? {
             Some(new) => return Ok(Some(new)),
             None => {}

@@ -1,13 +1,14 @@
 // Whether an 'at most' counts too many successors. It takes no memory.
 ghost use Rattle.std.specs.Prelude.{◌≡◌, ℕ, ◌+◌, ◌<◌, ◌≤◌, ◌==◌, ◌&&◌, ◌||◌, nat_le, Bool, true, false, [], ◌∷◌, MatchOption, IsSome, IfSome, length};
 ghost use Rattle.std.specs.List.{list_all};
-ghost use Rattle.calculus_specs.specs.State.{node_count, has as holds, are_apart};
+ghost use Rattle.calculus_specs.specs.State.{node_count_from, has as holds, are_apart as kept_apart};
 ghost use Rattle.tableau_specs.specs.Clash.{filled_successors};
 ghost use Rattle.tableau_specs.specs.Steps.{below_of};
 ghost use Rattle.step_finders.specs.Clashing.{AnswersOverrun};
 ghost use Rattle.step_finders.specs.Filled.{filled_from, IsLeast};
 
 use crate::counted::is_counted;
+use crate::nodes::{are_apart, count_of};
 use crate::{Rules, State};
 
 /// Whether the successors by roles below this one that have the filler are more than so many, and pairwise apart.
@@ -19,12 +20,13 @@ pub(crate) fn is_overrun<S: State, R: Rules>(
     role: u32,
     filler: u32,
 ) -> bool
+    requires one_first { S.first state.now ≡ (R.context rules.now).first }
     ensures { AnswersOverrun (R.context rules.now) (S.facts state.now) node count role filler result }
 {
     if count_edges(state, rules, node, role, filler) <= count as usize {
         return false;
     }
-    let _nodes = state.nodes();
+    let _nodes = count_of(state, rules);
     let mut more = 0_u32;
     let mut from = 0_u32;
     while let Some(next) = next_filled(state, rules, node, role, filler, from) {
@@ -39,7 +41,7 @@ pub(crate) fn is_overrun<S: State, R: Rules>(
 
 // How many edges lead to successors that are counted: at least as many as there are such successors.
 fn count_edges<S: State, R: Rules>(state: &S, rules: &R, node: u32, role: u32, filler: u32) -> usize
-    ensures { length (filled_successors (below_of (R.context rules.now)) (S.facts state.now) node role filler) ≤ result }
+    ensures { length (filled_successors (R.context rules.now).first (below_of (R.context rules.now)) (S.facts state.now) node role filler) ≤ result }
 {
     let mut count = 0;
     for edge in state.edges(node) {
@@ -60,10 +62,10 @@ fn next_filled<S: State, R: Rules>(
     from: u32,
 ) -> Option<u32>
     ensures next { let w = R.context rules.now in let fs = S.facts state.now in
-        MatchOption result (filled_from (below_of w) fs node role filler from ≡ [])
-        (λ y. filled_from (below_of w) fs node role filler from ≡ y ∷ filled_from (below_of w) fs node role filler (y + 1)) }
+        MatchOption result (filled_from w.first (below_of w) fs node role filler from ≡ [])
+        (λ y. filled_from w.first (below_of w) fs node role filler from ≡ y ∷ filled_from w.first (below_of w) fs node role filler (y + 1)) }
     ensures later { IfSome result (λ y. from ≤ y) }
-    ensures within { IfSome result (λ y. y < node_count (S.facts state.now)) }
+    ensures within { IfSome result (λ y. y < node_count_from (R.context rules.now).first (S.facts state.now)) }
 {
     let mut least = None;
     for edge in state.edges(node) {
@@ -119,9 +121,10 @@ fn is_apart_from_later<S: State, R: Rules>(
     filler: u32,
     first: u32,
 ) -> bool
-    requires { first < node_count (S.facts state.now) }
+    requires one_first { S.first state.now ≡ (R.context rules.now).first }
+    requires is_node { first < node_count_from (R.context rules.now).first (S.facts state.now) }
     ensures { let w = R.context rules.now in let fs = S.facts state.now in
-        result ≡ list_all (are_apart fs first) (filled_from (below_of w) fs node role filler (first + 1)) }
+        result ≡ list_all (kept_apart fs first) (filled_from w.first (below_of w) fs node role filler (first + 1)) }
 {
     for edge in state.edges(node) {
         let end = state.representative(edge.1);
@@ -142,16 +145,17 @@ fn is_passed<S: State, R: Rules>(
     role: u32,
     filler: u32,
 ) -> bool
-    requires first { first < node_count (S.facts state.now) }
-    requires end { (below_of (R.context rules.now) edge.0 role && holds (S.facts state.now) edge.1 filler) ≡ true → end < node_count (S.facts state.now) }
+    requires one_first { S.first state.now ≡ (R.context rules.now).first }
+    requires first { first < node_count_from (R.context rules.now).first (S.facts state.now) }
+    requires end { (below_of (R.context rules.now) edge.0 role && holds (S.facts state.now) edge.1 filler) ≡ true → end < node_count_from (R.context rules.now).first (S.facts state.now) }
     ensures yes { result ≡ true → (below_of (R.context rules.now) edge.0 role && holds (S.facts state.now) edge.1 filler) ≡ true
-        → first < end → are_apart (S.facts state.now) first end ≡ true }
+        → first < end → kept_apart (S.facts state.now) first end ≡ true }
     ensures no_counted { result ≡ false → (below_of (R.context rules.now) edge.0 role && holds (S.facts state.now) edge.1 filler) ≡ true }
     ensures no_later { result ≡ false → first < end }
-    ensures no_apart { result ≡ false → are_apart (S.facts state.now) first end ≡ false }
+    ensures no_apart { result ≡ false → kept_apart (S.facts state.now) first end ≡ false }
 {
     if end <= first || !is_counted(state, rules, edge.0, edge.1, role, filler) {
         return true;
     }
-    state.are_apart(first, end)
+    are_apart(state, rules, first, end)
 }

@@ -3,7 +3,7 @@ ghost use Rattle.std.specs.Prelude.{◌≡◌, ℕ, ◌<◌, true, false, MatchO
 ghost use Rattle.std.specs.List.{All, Contains};
 ghost use Rattle.calculus_specs.specs.Shape.{shape_of};
 ghost use Rattle.calculus_specs.specs.Shape.Shape.{all_of, intersection};
-ghost use Rattle.calculus_specs.specs.State.{node_count, has as holds};
+ghost use Rattle.calculus_specs.specs.State.{node_count_from, has as holds};
 ghost use Rattle.step_finders.specs.Found.{NoneByShape, NoneByConcepts, AllEndsHave, LacksAtEnd, AllCarried, AreCarries};
 ghost use Rattle.step_finders.specs.Reasons.{IsAddition};
 
@@ -54,7 +54,7 @@ fn find_carried<S: State, R: Rules>(
     filler: u32,
     carries: &[(u32, u32)],
 ) -> Option<Addition>
-    requires is_node { node < node_count (S.facts state.now) }
+    requires is_node { node < node_count_from (R.context rules.now).first (S.facts state.now) }
     requires holds { holds (S.facts state.now) node concept ≡ true }
     requires shape { shape_of (R.context rules.now).table concept ≡ all_of role filler }
     requires carries { AreCarries (R.context rules.now) role filler carries.now }
@@ -90,7 +90,7 @@ fn find_by_all<S: State, R: Rules>(
     role: u32,
     filler: u32,
 ) -> Option<Addition>
-    requires is_node { node < node_count (S.facts state.now) }
+    requires is_node { node < node_count_from (R.context rules.now).first (S.facts state.now) }
     requires holds { holds (S.facts state.now) node concept ≡ true }
     requires shape { shape_of (R.context rules.now).table concept ≡ all_of role filler }
     ensures { let w = R.context rules.now in let fs = S.facts state.now in
@@ -126,7 +126,7 @@ fn find_by_and<S: State, R: Rules>(
     concept: u32,
     parts: &[u32],
 ) -> Option<Addition>
-    requires is_node { node < node_count (S.facts state.now) }
+    requires is_node { node < node_count_from (R.context rules.now).first (S.facts state.now) }
     requires holds { holds (S.facts state.now) node concept ≡ true }
     requires shape { shape_of (R.context rules.now).table concept ≡ intersection parts.now }
     ensures { let w = R.context rules.now in let fs = S.facts state.now in
@@ -149,7 +149,7 @@ pub fn find_by_concept<S: State, R: Rules>(
     node: u32,
     concept: u32,
 ) -> Option<Addition>
-    requires is_node { node < node_count (S.facts state.now) }
+    requires is_node { node < node_count_from (R.context rules.now).first (S.facts state.now) }
     requires holds { holds (S.facts state.now) node concept ≡ true }
     ensures { let w = R.context rules.now in let fs = S.facts state.now in
         MatchOption result (NoneByShape w fs node (shape_of w.table concept)) (IsAddition w fs (R.files rules.now)) }
@@ -163,7 +163,7 @@ pub fn find_by_concept<S: State, R: Rules>(
 
 /// What the concepts of the node add to a node; none exactly where they add nothing.
 pub fn find_at_node<S: State, R: Rules>(state: &S, rules: &R, node: u32) -> Option<Addition>
-    requires { node < node_count (S.facts state.now) }
+    requires { node < node_count_from (R.context rules.now).first (S.facts state.now) }
     ensures { let w = R.context rules.now in let fs = S.facts state.now in
         MatchOption result (NoneByConcepts w fs node) (IsAddition w fs (R.files rules.now)) }
 {

@@ -1,7 +1,7 @@
 // What the rows add.
 ghost use Rattle.std.specs.Prelude.{◌≡◌, ℕ, ◌<◌, ◌==◌, true, false, MatchOption, IsTrue};
 ghost use Rattle.std.specs.List.{All, list_all};
-ghost use Rattle.calculus_specs.specs.State.{node_count, has as holds, is_successor};
+ghost use Rattle.calculus_specs.specs.State.{node_count_from, has as holds, is_successor};
 ghost use Rattle.step_finders.specs.Found.{PlainHolds, PlainDue, NamedHold, NamedLacks, NamedDue, NamesHold, EdgeHolds, EdgesHold, HoldsRows};
 ghost use Rattle.step_finders.specs.Reasons.{IsAddition};
 
@@ -60,7 +60,7 @@ pub fn find_by_name<S: State, R: Rules>(
     node: u32,
     concept: u32,
 ) -> Option<Addition>
-    requires is_node { node < node_count (S.facts state.now) }
+    requires is_node { node < node_count_from (R.context rules.now).first (S.facts state.now) }
     requires holds { holds (S.facts state.now) node concept ≡ true }
     ensures { let w = R.context rules.now in let fs = S.facts state.now in
         MatchOption result (All (NamedHold fs node) ((R.files rules.now).named concept)) (IsAddition w fs (R.files rules.now)) }
@@ -78,7 +78,7 @@ pub fn find_by_name<S: State, R: Rules>(
 
 /// What a row gives the node since it has some concepts; none exactly where such rows give nothing new.
 pub fn find_by_names<S: State, R: Rules>(state: &S, rules: &R, node: u32) -> Option<Addition>
-    requires { node < node_count (S.facts state.now) }
+    requires { node < node_count_from (R.context rules.now).first (S.facts state.now) }
     ensures { let w = R.context rules.now in let fs = S.facts state.now in
         MatchOption result (NamesHold (R.files rules.now) fs node) (IsAddition w fs (R.files rules.now)) }
 {
@@ -99,7 +99,7 @@ pub fn find_at_begin<S: State, R: Rules>(
     role: u32,
     end: u32,
 ) -> Option<Addition>
-    requires is_node { node < node_count (S.facts state.now) }
+    requires is_node { node < node_count_from (R.context rules.now).first (S.facts state.now) }
     requires next { is_successor (S.facts state.now) (λ r. r == role) node end ≡ true }
     ensures { let w = R.context rules.now in let fs = S.facts state.now in
         MatchOption result (All (PlainHolds fs node) ((R.files rules.now).begins role)) (IsAddition w fs (R.files rules.now)) }
@@ -123,7 +123,7 @@ pub fn find_at_end<S: State, R: Rules>(
     role: u32,
     end: u32,
 ) -> Option<Addition>
-    requires is_node { node < node_count (S.facts state.now) }
+    requires is_node { node < node_count_from (R.context rules.now).first (S.facts state.now) }
     requires next { is_successor (S.facts state.now) (λ r. r == role) node end ≡ true }
     ensures { let w = R.context rules.now in let fs = S.facts state.now in
         MatchOption result (All (PlainHolds fs end) ((R.files rules.now).ends role)) (IsAddition w fs (R.files rules.now)) }
@@ -151,7 +151,7 @@ pub fn find_by_edge<S: State, R: Rules>(
     role: u32,
     end: u32,
 ) -> Option<Addition>
-    requires is_node { node < node_count (S.facts state.now) }
+    requires is_node { node < node_count_from (R.context rules.now).first (S.facts state.now) }
     requires next { is_successor (S.facts state.now) (λ r. r == role) node end ≡ true }
     ensures { let w = R.context rules.now in let fs = S.facts state.now in
         MatchOption result (EdgeHolds (R.files rules.now) fs node role end) (IsAddition w fs (R.files rules.now)) }
@@ -164,7 +164,7 @@ pub fn find_by_edge<S: State, R: Rules>(
 
 /// What a row gives where some edge from the node begins or ends; none exactly where such rows give nothing new.
 pub fn find_by_edges<S: State, R: Rules>(state: &S, rules: &R, node: u32) -> Option<Addition>
-    requires { node < node_count (S.facts state.now) }
+    requires { node < node_count_from (R.context rules.now).first (S.facts state.now) }
     ensures { let w = R.context rules.now in let fs = S.facts state.now in
         MatchOption result (EdgesHold (R.files rules.now) fs node) (IsAddition w fs (R.files rules.now)) }
 {
@@ -179,7 +179,7 @@ pub fn find_by_edges<S: State, R: Rules>(state: &S, rules: &R, node: u32) -> Opt
 
 /// What a row gives the node that is used at each node; none exactly where such rows give nothing new.
 pub fn find_general<S: State, R: Rules>(state: &S, rules: &R, node: u32) -> Option<Addition>
-    requires { node < node_count (S.facts state.now) }
+    requires { node < node_count_from (R.context rules.now).first (S.facts state.now) }
     ensures { let w = R.context rules.now in let fs = S.facts state.now in
         MatchOption result (All (PlainHolds fs node) (R.files rules.now).general) (IsAddition w fs (R.files rules.now)) }
 {
@@ -196,7 +196,7 @@ pub fn find_general<S: State, R: Rules>(state: &S, rules: &R, node: u32) -> Opti
 
 /// What a row gives the node, or the end of an edge from it; none exactly where rows give nothing new.
 pub fn find_by_rows<S: State, R: Rules>(state: &S, rules: &R, node: u32) -> Option<Addition>
-    requires { node < node_count (S.facts state.now) }
+    requires { node < node_count_from (R.context rules.now).first (S.facts state.now) }
     ensures { let w = R.context rules.now in let fs = S.facts state.now in
         MatchOption result (HoldsRows (R.files rules.now) fs node) (IsAddition w fs (R.files rules.now)) }
 {

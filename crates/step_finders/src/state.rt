@@ -2,7 +2,7 @@
 ghost use Rattle.std.specs.Prelude.{◌≡◌, ℕ, ◌+◌, ◌<◌, ◌==◌, ◌^◌, ◌↔◌, true, List, MatchOption, IsTrue, IsNone, IfSome};
 ghost use Rattle.calculus_specs.specs.declared.facts.Fact.{Fact as PlainFact};
 ghost use Rattle.calculus_specs.specs.Joins.{rep};
-ghost use Rattle.calculus_specs.specs.State.{node_count, parent as parent_of, has as holds, has_edge, are_apart as kept_apart};
+ghost use Rattle.calculus_specs.specs.State.{node_count_from, parent_from, has as holds, has_edge, are_apart as kept_apart};
 ghost use Rattle.calculus_specs.specs.Shape.{shape_of, IsTable};
 ghost use Rattle.calculus_specs.specs.Tree.{IsComplement};
 ghost use Rattle.calculus_specs.specs.Rows.{IsChoice};
@@ -12,9 +12,11 @@ ghost use Rattle.tableau_specs.specs.Blocked.{block_of};
 ghost use Rattle.tableau_specs.specs.Steps.{SearchContext, below_of};
 ghost use Rattle.tableau_specs.specs.LineLaws.{RangesAreFirst};
 ghost use Rattle.step_finders.specs.Clashing.{AreMosts};
-ghost use Rattle.calculus_specs.specs.Listed.{IsLabel, AreEdges};
+ghost use Rattle.calculus_specs.specs.Listed.{IsLabel, AreEdges, AreJoined};
+ghost use Rattle.step_finders.specs.Giving.{AreGiven, AreGivenInto};
 ghost use Rattle.step_finders.specs.Found.{AreCarriesOf, Files, AreFiled};
 
+use calculus_specs::Fact;
 use shq_nnf::Shape;
 use shq_terms::NumberList;
 
@@ -22,25 +24,33 @@ use shq_terms::NumberList;
 pub trait State {
     ghost facts: { Self → List (PlainFact ℕ) };
 
+    // How many of its nodes are first ones.
+    ghost first: { Self → ℕ };
+
     /// How many nodes there are.
     fn nodes(&self) -> u32
-        ensures count { result ≡ node_count (facts self.now) }
+        ensures count { result ≡ node_count_from (first self.now) (facts self.now) }
         ensures small { result + 200 < 2 ^ 32 };
 
     /// The representative of a node.
     fn representative(&self, node: u32) -> u32
         ensures { result ≡ rep (facts self.now) node };
 
-    /// The parent of a node, which node 0 does not have.
-    fn parent(&self, node: u32) -> Option<u32>
-        requires { node < node_count (facts self.now) }
-        ensures { result ≡ parent_of (facts self.now) node };
+    /// The nodes that are one with a node, itself among them.
+    fn members(&self, node: u32) -> &[u32]
+        requires { node < node_count_from (first self.now) (facts self.now) }
+        ensures { AreJoined (facts self.now) (node_count_from (first self.now) (facts self.now)) node result.now };
 
-    /// The first edge into a node: its role, and the node where it begins. Node 0 has none.
+    /// The parent of a node, which first nodes do not have.
+    fn parent(&self, node: u32) -> Option<u32>
+        requires { node < node_count_from (first self.now) (facts self.now) }
+        ensures { result ≡ parent_from (first self.now) (facts self.now) node };
+
+    /// The first edge into a node: its role, and the node where it begins. First nodes have none.
     fn origin(&self, node: u32) -> Option<(u32, u32)>
-        requires { node < node_count (facts self.now) }
-        ensures none { IsNone result → node ≡ 0 }
-        ensures some { IfSome result (λ o. (has_edge (facts self.now) (λ s. s == o.0) o.1 node ≡ true) × (parent_of (facts self.now) node ≡ Some o.1)) };
+        requires { node < node_count_from (first self.now) (facts self.now) }
+        ensures none { IsNone result → node < first self.now }
+        ensures some { IfSome result (λ o. (has_edge (facts self.now) (λ s. s == o.0) o.1 node ≡ true) × (parent_from (first self.now) (facts self.now) node ≡ Some o.1)) };
 
     /// Whether the node has the concept.
     fn has(&self, node: u32, concept: u32) -> bool
@@ -55,10 +65,10 @@ pub trait State {
         ensures { AreEdges (facts self.now) node result.now };
 
     /// Whether two nodes are apart.
-    fn are_apart(&self, first: u32, second: u32) -> bool
-        requires first { first < node_count (facts self.now) }
-        requires second { second < node_count (facts self.now) }
-        ensures { result ≡ kept_apart (facts self.now) first second };
+    fn are_apart(&self, one: u32, other: u32) -> bool
+        requires one { one < node_count_from (first self.now) (facts self.now) }
+        requires other { other < node_count_from (first self.now) (facts self.now) }
+        ensures { result ≡ kept_apart (facts self.now) one other };
 }
 
 /// A state of a search of which the blocks of all nodes are known. Only whether nodes may be made rests on these, so
@@ -66,7 +76,7 @@ pub trait State {
 pub trait StateWithBlocks: State {
     /// Whether nodes may be made below a representative.
     fn is_clear(&self, node: u32) -> bool
-        ensures { IsTrue result ↔ (block_of (Self.facts self.now) node ≡ Clear) };
+        ensures { IsTrue result ↔ (block_of (Self.first self.now) (Self.facts self.now) node ≡ Clear) };
 }
 
 /// A row that waits for no concept.
@@ -95,11 +105,34 @@ pub struct NamedRow {
     pub gives: u32,
 }
 
-/// The concepts, roles and rows that a search uses.
+/// A fact that an axiom gives to first nodes.
+#[derive(Clone, Copy, Debug, PartialEq, Eq)]
+pub struct Given {
+    /// The number of the axiom.
+    pub axiom: u32,
+    /// The number of the fact among those of the axiom, from 1.
+    pub place: u32,
+    /// The fact, over the numbers of concepts.
+    pub fact: Fact<u32>,
+}
+
+/// The concepts, roles, rows and given facts that a search uses.
 pub trait Rules {
     ghost context: { Self → SearchContext };
 
     ghost files: { Self → Files };
+
+    /// How many first nodes there are.
+    fn first(&self) -> u32
+        ensures { result ≡ (context self.now).first };
+
+    /// The facts that axioms give.
+    fn given(&self) -> &[Given]
+        ensures { AreGiven (context self.now) result.now };
+
+    /// The role and the beginning of each edge to a node that axioms give. Only first nodes have such edges.
+    fn given_into(&self, node: u32) -> &[(u32, u32)]
+        ensures { AreGivenInto (context self.now) node result.now };
 
     /// The shape of a concept.
     fn shape(&self, concept: u32) -> Shape<'_>
@@ -139,6 +172,7 @@ pub trait Rules {
 
     /// What is always so of rules. Nothing is computed.
     fn is_ready(&self)
+        ensures rooted { 0 < (context self.now).first }
         ensures tabled { IsTable (context self.now).table }
         ensures chosen { IsChoice (context self.now).theory (context self.now).table (context self.now).rows }
         ensures ranged { RangesAreFirst (context self.now).theory }

@@ -1,18 +1,22 @@
 // The next step, of any kind.
 ghost use Rattle.std.specs.Prelude.{◌≡◌, MatchOption, IfOk};
 ghost use Rattle.step_finders.specs.Stepping.{IsStep, NoStep, NoStepIsSaturated};
+ghost use Rattle.step_finders.specs.Found.{NothingToAdd};
 ghost use Rattle.step_finders.specs.Making.{NothingToMake};
 ghost use Rattle.step_finders.specs.Choosing.{NothingToChoose};
 
 use crate::add::find_add;
 use crate::choose::find_choice;
+use crate::give::find_giving;
 use crate::make::{NewNodes, find_making};
-use crate::{Addition, Choosing, NoMemory, Rules, StateWithBlocks};
+use crate::{Addition, Choosing, Given, NoMemory, Rules, StateWithBlocks};
 use std::alloc::Global;
 
 /// A step that is legal where there is no plain clash.
 #[derive(Clone, Copy, Debug, PartialEq, Eq)]
 pub enum Step {
+    /// A given fact is put.
+    Give(Given),
     /// A node gets a concept by a rule without branches.
     Add(Addition),
     /// Nodes are made.
@@ -21,7 +25,7 @@ pub enum Step {
     Choose(Choosing),
 }
 
-/// The next step; none exactly where there is none.
+/// The next step, given facts before all others; none exactly where there is none.
 ///
 /// # Errors
 ///
@@ -31,8 +35,25 @@ pub fn find_step<S: StateWithBlocks, R: Rules>(
     state: &S,
     rules: &R,
 ) -> Result<Option<Step>, NoMemory>
+    requires one_first { S.first state.now ≡ (R.context rules.now).first }
     ensures { let w = R.context rules.now in let fs = S.facts state.now in
         IfOk result (λ found. MatchOption found (NoStep w fs) (IsStep w fs (R.files rules.now))) }
+{
+    match find_giving(state, rules) {
+        Some(given) => Ok(Some(Step::Give(given))),
+        None => find_ungiven(alloc, state, rules),
+    }
+}
+
+// A step that puts no given fact: concepts first.
+fn find_ungiven<S: StateWithBlocks, R: Rules>(
+    alloc: Global,
+    state: &S,
+    rules: &R,
+) -> Result<Option<Step>, NoMemory>
+    requires one_first { S.first state.now ≡ (R.context rules.now).first }
+    ensures { let w = R.context rules.now in let fs = S.facts state.now in
+        IfOk result (λ found. MatchOption found (NothingToAdd w fs × (NothingToMake w fs × NothingToChoose w fs)) (IsStep w fs (R.files rules.now))) }
 {
     match find_add(state, rules) {
         Some(addition) => Ok(Some(Step::Add(addition))),
@@ -46,6 +67,7 @@ fn find_branching<S: StateWithBlocks, R: Rules>(
     state: &S,
     rules: &R,
 ) -> Result<Option<Step>, NoMemory>
+    requires one_first { S.first state.now ≡ (R.context rules.now).first }
     ensures { let w = R.context rules.now in let fs = S.facts state.now in
         IfOk result (λ found. MatchOption found (NothingToMake w fs × NothingToChoose w fs) (IsStep w fs (R.files rules.now))) }
 {

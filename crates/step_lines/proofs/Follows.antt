@@ -19,7 +19,7 @@ use Rattle.calculus_specs.specs.Reading.{read_facts}
 use Rattle.calculus_specs.proofs.Reading.{reps-read, keeps_state}
 use Rattle.tableau_specs.proofs.Listed.{listed}
 use Rattle.tableau_specs.specs.Steps.{SearchContext}
-use Rattle.search_trace.specs.Premises.{has_concept, has_edge_below, is_apart, holds}
+use Rattle.search_trace.specs.Premises.{has_concept, has_edge_below, is_apart, is_one, holds}
 use Rattle.search_trace.specs.Noted.{within}
 use Rattle.search_trace.specs.Trail.{MarkedFact, trail_within}
 use Rattle.search_trace.specs.Grounded.{is_known_within, AreGrounded}
@@ -80,27 +80,30 @@ has_reads table good fs x c h =
     ]
 
 module _ (w : SearchContext) (good : IsTable w.table) (u : NumberSet) (ms : List MarkedFact) where
-  pub concept_follows : (x c : ℕ) → has (within u ms) x c ≡ true → holds w.theory (trail_within w.table u ms) (has_concept x (tree_of w.table c)) ≡ true
+  pub concept_follows : (x c : ℕ) → has (within u ms) x c ≡ true → holds w.theory (trail_within w.first w.table u ms) (has_concept x (tree_of w.table c)) ≡ true
   concept_follows x c h = has_reads w.table good (within u ms) x c h
 
-  pub edge_follows : (r s x y : ℕ) → w.theory.below r s ≡ true → has_edge (within u ms) (λ q. eqb q r) x y ≡ true → holds w.theory (trail_within w.table u ms) (has_edge_below s x y) ≡ true
+  pub edge_follows : (r s x y : ℕ) → w.theory.below r s ≡ true → has_edge (within u ms) (λ q. eqb q r) x y ≡ true → holds w.theory (trail_within w.first w.table u ms) (has_edge_below s x y) ≡ true
   edge_follows r s x y below h =
       (keeps_state ℕ Concept (tree_of w.table) (within u ms)).edges (λ q. w.theory.below q s) x y ∙ edge_of_kind (within u ms) (λ q. w.theory.below q s) r x y below h
 
-  pub apart_follows : (x y : ℕ) → are_apart (within u ms) x y ≡ true → holds w.theory (trail_within w.table u ms) (is_apart x y) ≡ true
+  pub apart_follows : (x y : ℕ) → are_apart (within u ms) x y ≡ true → holds w.theory (trail_within w.first w.table u ms) (is_apart x y) ≡ true
   apart_follows x y h = (keeps_state ℕ Concept (tree_of w.table) (within u ms)).aparts x y ∙ h
+
+  pub one_follows : (x y : ℕ) → eqb (rep (within u ms) x) (rep (within u ms) y) ≡ true → holds w.theory (trail_within w.first w.table u ms) (is_one x y) ≡ true
+  one_follows x y h = ap (λ (m : ℕ → ℕ). eqb (m x) (m y)) (reps-read ℕ Concept (tree_of w.table) (within u ms)) ∙ h
 
 -- ---- nodes
 
-module _ (u : NumberSet) (ms : List MarkedFact) (grounded : AreGrounded ms) where
-  pub node_of_has : (x c : ℕ) → ¬ (c ≡ 0) → has (within u ms) x c ≡ true → is_known_within u ms x ≡ true
+module _ (first : ℕ) (u : NumberSet) (ms : List MarkedFact) (grounded : AreGrounded first ms) where
+  pub node_of_has : (x c : ℕ) → ¬ (c ≡ 0) → has (within u ms) x c ≡ true → is_known_within first u ms x ≡ true
   node_of_has x c ne h = elim (or_cases (eqb c 0) (is_given (λ d. eqb d c) (within u ms) x) h) [
     | inl zero' ↦ absurd (ne (eqb-true c 0 zero'))
-    | inr there ↦ given_is_known u ms grounded (λ d. eqb d c) x there
+    | inr there ↦ given_is_known first u ms grounded (λ d. eqb d c) x there
   ]
 
-  pub begin_of_edge : (r x y : ℕ) → has_edge (within u ms) (λ q. eqb q r) x y ≡ true → is_known_within u ms x ≡ true
-  begin_of_edge r x y h = (edge_is_known u ms grounded (λ q. eqb q r) x y h).0
+  pub begin_of_edge : (r x y : ℕ) → has_edge (within u ms) (λ q. eqb q r) x y ≡ true → is_known_within first u ms x ≡ true
+  begin_of_edge r x y h = (edge_is_known first u ms grounded (λ q. eqb q r) x y h).0
 
-  pub end_of_edge : (r x y : ℕ) → has_edge (within u ms) (λ q. eqb q r) x y ≡ true → is_known_within u ms y ≡ true
-  end_of_edge r x y h = (edge_is_known u ms grounded (λ q. eqb q r) x y h).1
+  pub end_of_edge : (r x y : ℕ) → has_edge (within u ms) (λ q. eqb q r) x y ≡ true → is_known_within first u ms y ≡ true
+  end_of_edge r x y h = (edge_is_known first u ms grounded (λ q. eqb q r) x y h).1

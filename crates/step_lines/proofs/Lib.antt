@@ -4,3 +4,5 @@ pub mod ConceptLines
 pub mod RowLines
 pub mod Branching
 pub mod Many
+pub mod Apart
+pub mod GivenLines

@@ -14,6 +14,7 @@ use Rattle.calculus_specs.specs.declared.facts.Fact.TheVariants.{Has, Edge, Apar
 use Rattle.calculus_specs.specs.State.{has, has_edge, is_successor, are_apart, all_apart, is_so}
 use Rattle.calculus_specs.specs.Line.Line.{most_line}
 use Rattle.tableau_specs.specs.Clash.{filled_successors}
+use Rattle.tableau_specs.specs.Lines.{asked_in}
 use Rattle.tableau_specs.specs.Steps.{SearchContext, below_of}
 use Rattle.tableau_specs.proofs.PlainClash.{successor_has_edge}
 use Rattle.tableau_specs.specs.Near.{IsOverrun}
@@ -45,7 +46,7 @@ apart_take fs (suc n) (y ∷ ys) h =
     let t = and_parts (list_all (are_apart fs y) ys) (all_apart fs ys) h in
     and_from (list_all (are_apart fs y) (take n ys)) (all_apart fs (take n ys)) (all_take (are_apart fs y) n ys t.0) (apart_take fs n ys t.1)
 
-module _ (w : SearchContext) (fs : List (Fact ℕ)) (x c n s e : ℕ) (o : IsOverrun (below_of w) w.table fs x c n s e) (ys : List ℕ) (is : AreFilled (below_of w) fs x s e ys) where
+module _ (w : SearchContext) (fs : List (Fact ℕ)) (x c n s e : ℕ) (o : IsOverrun w.first (below_of w) w.table fs x c n s e) (ys : List ℕ) (is : AreFilled (below_of w) fs x s e ys) where
   filled_ends : All (IsFilledEnd w fs x s e) ys
   filled_ends k d lt =
       let y = get_or ys k d in
@@ -55,12 +56,12 @@ module _ (w : SearchContext) (fs : List (Fact ℕ)) (x c n s e : ℕ) (o : IsOve
   filled_apart : all_apart fs ys ≡ true
   filled_apart =
       apart_from_pairs fs ys is.distinct
-      (λ a b ma mb ne. pair_apart fs (filled_successors (below_of w) fs x s e) a b o.every (sym (same_members (below_of w) fs x s e ys is a) ∙ ma) (sym (same_members (below_of w) fs x s e ys is b) ∙ mb) ne)
+      (λ a b ma mb ne. pair_apart fs (filled_successors w.first (below_of w) fs x s e) a b o.every (sym (same_members w.first (below_of w) fs x s e ys is a) ∙ ma) (sym (same_members w.first (below_of w) fs x s e ys is b) ∙ mb) ne)
 
   pub too_many : (zs : List ℕ) → zs ≡ take (n + 1) ys → AreMany w fs x n s e zs
   too_many zs at =
       subst (AreMany w fs x n s e) (sym at) (record {
-        count = length-take-le (n + 1) ys (omega (arith, o.more, same_length (below_of w) fs x s e ys is));
+        count = length-take-le (n + 1) ys (omega (arith, o.more, same_length w.first (below_of w) fs x s e ys is));
         each = All-take (IsFilledEnd w fs x s e) (n + 1) ys filled_ends;
         apart = apart_take fs (n + 1) ys filled_apart;
       })
@@ -85,7 +86,7 @@ link_more w fs x s e ends i q links new h lt link at =
 
 module _ (w : SearchContext) (fs : List (Fact ℕ)) (good : IsTable w.table) where
   abbrev asks : NumberSet → List MarkedFact → Premise → Bool
-  asks u ms = holds w.theory (trail_within w.table u ms)
+  asks u ms = holds w.theory (trail_within w.first w.table u ms)
 
   links_so : (x s e : ℕ) (links : List (ℕ × ℕ)) → All (IsLink w fs x s e) links → list_all (is_so fs) (link_facts x e links) ≡ true
   links_so x s e [] all = refl
@@ -104,7 +105,7 @@ module _ (w : SearchContext) (fs : List (Fact ℕ)) (good : IsTable w.table) whe
       list_all-append (is_so xs) (map (Apart y) ys) (apart_facts ys) ∙ ap (λ (b : Bool). b && list_all (is_so xs) (apart_facts ys)) (apart_one_so xs y ys)
       ∙ ap (λ (b : Bool). list_all (are_apart xs y) ys && b) (apart_so xs ys)
 
-  module _ (u : NumberSet) (ms : List MarkedFact) (grounded : AreGrounded ms) where
+  module _ (u : NumberSet) (ms : List MarkedFact) (grounded : AreGrounded w.first ms) where
     links_follow : (x s e : ℕ) (links : List (ℕ × ℕ)) → All (IsLink w fs x s e) links → list_all (is_so (within u ms)) (link_facts x e links) ≡ true
         → list_all (asks u ms) (filler_premises x s (tree_of w.table e) (map (λ l. l.1) links)) ≡ true
     links_follow x s e [] all h = refl
@@ -114,7 +115,7 @@ module _ (w : SearchContext) (fs : List (Fact ℕ)) (good : IsTable w.table) whe
         let on : has_edge (within u ms) (λ q. eqb q l.0) x l.1 ≡ true = all_first so (Edge l.0 x l.1) (Has l.1 e ∷ link_facts x e ls) h in
         let rest = all_rest so (Edge l.0 x l.1) (Has l.1 e ∷ link_facts x e ls) h in
         let later = filler_premises x s (tree_of w.table e) (map (λ (k : ℕ × ℕ). k.1) ls) in
-        all_cons (asks u ms) (is_node l.1) (has_edge_below s x l.1 ∷ has_concept l.1 (tree_of w.table e) ∷ later) (end_of_edge u ms grounded l.0 x l.1 on)
+        all_cons (asks u ms) (is_node l.1) (has_edge_below s x l.1 ∷ has_concept l.1 (tree_of w.table e) ∷ later) (end_of_edge w.first u ms grounded l.0 x l.1 on)
         (all_cons (asks u ms) (has_edge_below s x l.1) (has_concept l.1 (tree_of w.table e) ∷ later) (edge_follows w good u ms l.0 s x l.1 link.role_below on)
         (all_cons (asks u ms) (has_concept l.1 (tree_of w.table e)) later (concept_follows w good u ms l.1 e (all_first so (Has l.1 e) (link_facts x e ls) rest))
         (links_follow x s e ls (All-tail (IsLink w fs x s e) l ls all) (all_rest so (Has l.1 e) (link_facts x e ls) rest))))
@@ -136,7 +137,7 @@ module _ (w : SearchContext) (fs : List (Fact ℕ)) (good : IsTable w.table) whe
       → list_all (is_so xs) (link_facts x e links ++ apart_facts ys) ≡ (list_all (is_so xs) (link_facts x e links) && all_apart xs ys)
   split xs x e links ys = list_all-append (is_so xs) (link_facts x e links) (apart_facts ys) ∙ ap (λ (b : Bool). list_all (is_so xs) (link_facts x e links) && b) (apart_so xs ys)
 
-  module _ (x c n s e : ℕ) (o : IsOverrun (below_of w) w.table fs x c n s e) (ys : List ℕ) (many : AreMany w fs x n s e ys) (links : List (ℕ × ℕ)) (are : AreLinks w fs x s e ys links) where
+  module _ (x c n s e : ℕ) (o : IsOverrun w.first (below_of w) w.table fs x c n s e) (ys : List ℕ) (many : AreMany w fs x n s e ys) (links : List (ℕ × ℕ)) (are : AreLinks w fs x s e ys links) where
     pub most_serves : (gs : List (Fact ℕ)) → gs ≡ Has x c ∷ (link_facts x e links ++ apart_facts ys) → (nodes : List ℕ) → nodes ≡ ys → ServesClash w fs (most_line x c nodes) gs
     most_serves gs eq nodes same_nodes =
         let lt = is_listed w.table c (at_most n s e) o.shape (λ k. cc) in
@@ -147,7 +148,7 @@ module _ (w : SearchContext) (fs : List (Fact ℕ)) (good : IsTable w.table) whe
         subst (λ (zs : List ℕ). ServesClash w fs (most_line x c zs) gs) (sym same_nodes) (subst (ServesClash w fs (most_line x c ys)) (sym eq) (record {
           serves = record {
             are_so = all_cons (is_so fs) (Has x c) rest o.holds (all_so fs (links_so x s e links are.each) many.apart);
-            holds_by = λ number u ms same grounded hold.
+            holds_by = λ q number u ms same grounded hold.
                 let at : has (within u ms) x c ≡ true = all_first (is_so (within u ms)) (Has x c) rest hold in
                 let t = and_parts (list_all (is_so (within u ms)) (link_facts x e links)) (all_apart (within u ms) ys) (sym (split (within u ms) x e links ys) ∙ all_rest (is_so (within u ms)) (Has x c) rest hold) in
                 let fillers : list_all (asks u ms) (filler_premises x s (tree_of w.table e) ys) ≡ true =
@@ -155,8 +156,8 @@ module _ (w : SearchContext) (fs : List (Fact ℕ)) (good : IsTable w.table) whe
                 record {
                   rule = record { premises = is_node x ∷ has_concept x (tree_of w.table c) ∷ asked; children = [] };
                   holds = record {
-                    is_rule = (rules_by_shape w.theory w.table good).by_most x c n s e ys lt o.shape many.count;
-                    premises = all_cons (asks u ms) (is_node x) (has_concept x (tree_of w.table c) ∷ asked) (node_of_has u ms grounded x c (not_zero w.table good c (at_most n s e) o.shape (λ k. cc)) at)
+                    is_rule = (rules_by_shape (asked_in w q) w.table good).by_most x c n s e ys lt o.shape many.count;
+                    premises = all_cons (asks u ms) (is_node x) (has_concept x (tree_of w.table c) ∷ asked) (node_of_has w.first u ms grounded x c (not_zero w.table good c (at_most n s e) o.shape (λ k. cc)) at)
                         (all_cons (asks u ms) (has_concept x (tree_of w.table c)) asked (concept_follows w good u ms x c at)
                         (list_all-append (asks u ms) (filler_premises x s (tree_of w.table e) ys) (apart_premises ys)
                         ∙ and_from (list_all (asks u ms) (filler_premises x s (tree_of w.table e) ys)) (list_all (asks u ms) (apart_premises ys)) fillers (aparts_follow u ms grounded ys t.1)));

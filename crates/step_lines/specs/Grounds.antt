@@ -11,14 +11,14 @@ use Rattle.search_trace.specs.Trail.{MarkedFact}
 use Rattle.step_lines.specs.Serving.{HoldWithin}
 
 -- the grounds are so, and x is known by the marks by which they hold
-pub record GroundsNode (fs : List (Fact ℕ)) (x : ℕ) (grounds : List (Fact ℕ)) : Type 0 where
+pub record GroundsNode (first : ℕ) (fs : List (Fact ℕ)) (x : ℕ) (grounds : List (Fact ℕ)) : Type 0 where
   pub are_so : list_all (is_so fs) grounds ≡ true
-  pub knows : (u : NumberSet) (ms : List MarkedFact) → AreGrounded ms → HoldWithin u ms grounds → is_known_within u ms x ≡ true
+  pub knows : (u : NumberSet) (ms : List MarkedFact) → AreGrounded first ms → HoldWithin u ms grounds → is_known_within first u ms x ≡ true
 
 -- the grounds are so, and x is known by them where there are no concepts by which it is
-pub record IsFirst (fs : List (Fact ℕ)) (x : ℕ) (concepts : List ℕ) (grounds : List (Fact ℕ)) : Type 0 where
+pub record IsFirst (first : ℕ) (fs : List (Fact ℕ)) (x : ℕ) (concepts : List ℕ) (grounds : List (Fact ℕ)) : Type 0 where
   pub are_so : list_all (is_so fs) grounds ≡ true
-  pub grounds_node : concepts ≡ [] → GroundsNode fs x grounds
+  pub grounds_node : concepts ≡ [] → GroundsNode first fs x grounds
 
 -- a successor of x by a role below s has e
 pub record IsFilledEnd (w : SearchContext) (fs : List (Fact ℕ)) (x s e y : ℕ) : Type 0 where

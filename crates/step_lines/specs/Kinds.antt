@@ -4,7 +4,7 @@ use Rattle.calculus_specs.specs.Shape.{Shape, shape_of}
 use Rattle.calculus_specs.specs.Shape.Shape.{union, at_least}
 use Rattle.calculus_specs.specs.declared.facts.Fact.{Fact}
 use Rattle.calculus_specs.specs.declared.facts.Fact.TheVariants.{Has}
-use Rattle.calculus_specs.specs.State.{node_count, fresh_facts}
+use Rattle.calculus_specs.specs.State.{node_count_from, fresh_facts}
 use Rattle.calculus_specs.specs.Line.{Line}
 use Rattle.calculus_specs.specs.Line.Line.{some_line, least_line}
 use Rattle.tableau_specs.specs.Steps.{SearchContext, IsAlternative}
@@ -12,7 +12,9 @@ use Rattle.tableau_specs.specs.declared.Branch.{Branch}
 use Rattle.tableau_specs.specs.declared.Branch.TheVariants.{Or, Choose, Pair}
 use Rattle.search_trace.specs.Premises.{Added, is_single, is_branching, is_clash}
 use Rattle.search_trace.specs.Trail.{Puts}
+use Rattle.search_trace.specs.Grounded.{named}
 use Rattle.step_finders.specs.declared.make.NewNodes.{NewNodes}
+use Rattle.step_finders.specs.declared.state.Given.{Given}
 use Rattle.step_lines.specs.Serving.{Serves, branch_nodes}
 
 -- how many alternatives a branch has
@@ -35,21 +37,29 @@ module _ (w : SearchContext) (fs : List (Fact ℕ)) where
   pub record ServesAddition (x d : ℕ) (line : Line) (grounds : List (Fact ℕ)) : Type 0 where
     pub child : Added
     pub serves : Serves w fs line grounds (child ∷ []) (x ∷ [])
-    pub puts : Puts w.table child (Has x d ∷ [])
+    pub puts : Puts w.first w.table child (Has x d ∷ [])
     pub single : is_single line ≡ true
 
   -- the line makes these nodes
   pub record ServesNewNodes (m : NewNodes) (line : Line) (grounds : List (Fact ℕ)) : Type 0 where
     pub child : Added
     pub serves : Serves w fs line grounds (child ∷ []) (m.parent ∷ [])
-    pub puts : Puts w.table child (fresh_facts m.parent m.role m.filler (node_count fs) m.count)
+    pub puts : Puts w.first w.table child (fresh_facts m.parent m.role m.filler (node_count_from w.first fs) m.count)
+    pub single : is_single line ≡ true
+
+  -- the line is that of a given fact, which rests on nothing
+  pub record ServesGiven (g : Given) (line : Line) (grounds : List (Fact ℕ)) : Type 0 where
+    pub child : Added
+    pub serves : Serves w fs line grounds (child ∷ []) (named g.fact)
+    pub no_grounds : grounds ≡ []
+    pub puts : Puts w.first w.table child (g.fact ∷ [])
     pub single : is_single line ≡ true
 
   -- what the child in the place of an alternative adds
   pub record IsChild (children : List Added) (k : ℕ) (f : Fact ℕ) : Type 0 where
     pub added : Added
     pub stands : slice_get children k ≡ Some added
-    pub puts : Puts w.table added (f ∷ [])
+    pub puts : Puts w.first w.table added (f ∷ [])
 
   -- the line branches as the choice does
   pub record ServesChoice (b : Branch) (line : Line) (grounds : List (Fact ℕ)) : Type 0 where

@@ -96,7 +96,8 @@ pub fn line_of_addition<S: State, R: Rules>(
     rules: &R,
     addition: &Addition,
 ) -> Result<GroundedLine, NoMemory>
-    requires { HasReason (R.context rules.now) (S.facts state.now) (R.files rules.now) addition.now.reason addition.now.node addition.now.concept }
+    requires one_first { S.first state.now ≡ (R.context rules.now).first }
+    requires reason { HasReason (R.context rules.now) (S.facts state.now) (R.files rules.now) addition.now.reason addition.now.node addition.now.concept }
     ensures { IfOk result (λ g. ServesAddition (R.context rules.now) (S.facts state.now) addition.now.node addition.now.concept (line_of g.line) g.grounds.items) }
 {
     let node = addition.node;

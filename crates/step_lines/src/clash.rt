@@ -1,7 +1,7 @@
 // The line of a clash.
 ghost use Rattle.std.specs.Prelude.{◌≡◌, IfOk};
 ghost use Rattle.refutation_tree.specs.RuleLine.{line_of};
-ghost use Rattle.step_finders.specs.Clashing.{IsShown, HasBottom, HasBoth};
+ghost use Rattle.step_finders.specs.Clashing.{IsShown, HasBottom, HasBoth, HasDiffer};
 ghost use Rattle.step_lines.specs.Kinds.{ServesClash};
 
 use crate::grounded::{one_ground, two_grounds};
@@ -51,6 +51,25 @@ fn line_of_both<S: State, R: Rules>(
     })
 }
 
+// The line of two nodes that are one, and are apart.
+fn line_of_differ<S: State, R: Rules>(
+    alloc: Global,
+    state: &S,
+    rules: &R,
+    first: u32,
+    second: u32,
+) -> Result<GroundedLine, NoMemory>
+    requires { HasDiffer (R.context rules.now) (S.facts state.now) first second }
+    ensures { IfOk result (λ g. ServesClash (R.context rules.now) (S.facts state.now) (line_of g.line) g.grounds.items) }
+{
+    rules.is_ready();
+    let grounds = two_grounds(alloc, Fact::Apart(first, second), Fact::Same(first, second))?;
+    Ok(GroundedLine {
+        line: Line::Differ(first, second),
+        grounds,
+    })
+}
+
 /// The line that a clash is, and the facts that it rests on.
 ///
 /// # Errors
@@ -72,6 +91,7 @@ pub fn line_of_clash<S: State, R: Rules>(
             class,
             complement,
         } => line_of_both(alloc, state, rules, *node, *class, *complement),
+        Clash::Differ(first, second) => line_of_differ(alloc, state, rules, *first, *second),
         Clash::Most { node, concept } => line_of_most(alloc, state, rules, *node, *concept),
     }
 }

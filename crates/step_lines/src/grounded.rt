@@ -1,6 +1,6 @@
 // Lines with the facts that they rest on.
 ghost use Rattle.std.specs.Prelude.{◌≡◌, [], ◌∷◌, ◌<◌, IfOk};
-ghost use Rattle.calculus_specs.specs.State.{node_count};
+ghost use Rattle.calculus_specs.specs.State.{node_count_from};
 ghost use Rattle.step_lines.specs.Serving.{FactsStayGrounded, NewNodesStayGrounded, AlternativesSpeakOfNodes};
 ghost use Rattle.step_lines.specs.Grounds.{GroundsNode};
 
@@ -9,7 +9,7 @@ use calculus_specs::Fact;
 use refutation_tree::Line;
 use shq_terms::NumberList;
 use std::alloc::Global;
-use step_finders::State;
+use step_finders::{Rules, State};
 
 /// A rule line, and facts that its premises follow from.
 #[derive(Drop)]
@@ -54,14 +54,16 @@ pub fn list_of(alloc: Global, numbers: &[u32]) -> Result<NumberList, NoMemory>
     Ok(list)
 }
 
-/// Facts by which the node is known: the first edge into it, and nothing for node 0, which each branch has.
-pub fn node_grounds<S: State>(
+/// Facts by which the node is known: the first edge into it, and nothing for a first node, which each branch has.
+pub fn node_grounds<S: State, R: Rules>(
     alloc: Global,
     state: &S,
+    rules: &R,
     node: u32,
 ) -> Result<Vec<Fact<u32>>, NoMemory>
-    requires { node < node_count (S.facts state.now) }
-    ensures { IfOk result (λ v. GroundsNode (S.facts state.now) node v.items) }
+    requires one_first { S.first state.now ≡ (R.context rules.now).first }
+    requires is_node { node < node_count_from (R.context rules.now).first (S.facts state.now) }
+    ensures { IfOk result (λ v. GroundsNode (R.context rules.now).first (S.facts state.now) node v.items) }
 {
     match state.origin(node) {
         Some((role, from)) => one_ground(alloc, Fact::Edge(role, from, node)),

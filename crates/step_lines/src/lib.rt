@@ -8,6 +8,7 @@
 mod addition;
 mod choice;
 mod clash;
+mod given;
 mod grounded;
 mod most;
 mod nodes;
@@ -16,6 +17,7 @@ mod rows;
 pub use addition::line_of_addition;
 pub use choice::line_of_choice;
 pub use clash::line_of_clash;
+pub use given::line_of_given;
 pub use grounded::{
     GroundedLine, alternatives_speak_of_nodes, facts_stay_grounded, new_nodes_stay_grounded,
 };

@@ -1,7 +1,7 @@
 // The line of too many successors.
 ghost use Rattle.std.specs.Prelude.{◌≡◌, ◌∷◌, ◌<◌, ◌++◌, true, map, All, IfOk, OnOk};
 ghost use Rattle.calculus_specs.specs.declared.facts.Fact.TheVariants.{Has as has_fact, Apart as apart_fact};
-ghost use Rattle.calculus_specs.specs.State.{node_count, is_successor};
+ghost use Rattle.calculus_specs.specs.State.{node_count_from, is_successor};
 ghost use Rattle.refutation_tree.specs.RuleLine.{line_of};
 ghost use Rattle.tableau_specs.specs.Steps.{below_of};
 ghost use Rattle.tableau_specs.specs.Near.{IsOverrun};
@@ -29,7 +29,7 @@ fn many_ends<S: State, R: Rules>(
     role: u32,
     filler: u32,
 ) -> Result<Vec<u32>, NoMemory>
-    requires { let w = R.context rules.now in IsOverrun (below_of w) w.table (S.facts state.now) node concept count role filler }
+    requires { let w = R.context rules.now in IsOverrun w.first (below_of w) w.table (S.facts state.now) node concept count role filler }
     ensures { IfOk result (λ v. AreMany (R.context rules.now) (S.facts state.now) node count role filler v.items) }
 {
     let mut ends = filled_successors(alloc, state, rules, node, role, filler)?;
@@ -134,8 +134,8 @@ fn line_of_ends<S: State, R: Rules>(
     filler: u32,
     ends: &[u32],
 ) -> Result<GroundedLine, NoMemory>
-    requires is_node { node < node_count (S.facts state.now) }
-    requires overrun { let w = R.context rules.now in IsOverrun (below_of w) w.table (S.facts state.now) node concept count role filler }
+    requires is_node { node < node_count_from (R.context rules.now).first (S.facts state.now) }
+    requires overrun { let w = R.context rules.now in IsOverrun w.first (below_of w) w.table (S.facts state.now) node concept count role filler }
     requires many { AreMany (R.context rules.now) (S.facts state.now) node count role filler ends.now }
     ensures { IfOk result (λ g. ServesClash (R.context rules.now) (S.facts state.now) (line_of g.line) g.grounds.items) }
 {
@@ -160,8 +160,8 @@ fn line_of_overrun<S: State, R: Rules>(
     role: u32,
     filler: u32,
 ) -> Result<GroundedLine, NoMemory>
-    requires is_node { node < node_count (S.facts state.now) }
-    requires overrun { let w = R.context rules.now in IsOverrun (below_of w) w.table (S.facts state.now) node concept count role filler }
+    requires is_node { node < node_count_from (R.context rules.now).first (S.facts state.now) }
+    requires overrun { let w = R.context rules.now in IsOverrun w.first (below_of w) w.table (S.facts state.now) node concept count role filler }
     ensures { IfOk result (λ g. ServesClash (R.context rules.now) (S.facts state.now) (line_of g.line) g.grounds.items) }
 {
     let ends = many_ends(alloc, state, rules, node, concept, count, role, filler)?;

@@ -11,7 +11,7 @@ use calculus_specs::Fact;
 use refutation_tree::Line;
 use shq_nnf::Shape;
 use std::alloc::Global;
-use step_finders::{NewNodes, Rules, State};
+use step_finders::{NewNodes, Rules, State, count_of};
 
 // The line by which the concept makes nodes.
 fn making_line<R: Rules>(rules: &R, parent: u32, first: u32, concept: u32) -> Line
@@ -34,11 +34,12 @@ pub fn line_of_new_nodes<S: State, R: Rules>(
     rules: &R,
     new: &NewNodes,
 ) -> Result<GroundedLine, NoMemory>
-    requires { IsMaking (R.context rules.now) (S.facts state.now) new.now }
+    requires one_first { S.first state.now ≡ (R.context rules.now).first }
+    requires making { IsMaking (R.context rules.now) (S.facts state.now) new.now }
     ensures { IfOk result (λ g. ServesNewNodes (R.context rules.now) (S.facts state.now) new.now (line_of g.line) g.grounds.items) }
 {
     rules.is_ready();
     let grounds = one_ground(alloc, Fact::Has(new.parent, new.concept))?;
-    let line = making_line(rules, new.parent, state.nodes(), new.concept);
+    let line = making_line(rules, new.parent, count_of(state, rules), new.concept);
     Ok(GroundedLine { line, grounds })
 }

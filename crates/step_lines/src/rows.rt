@@ -2,7 +2,7 @@
 ghost use Rattle.std.specs.Prelude.{◌≡◌, ◌++◌, ◌<◌, true, map, IfOk, OnOk};
 ghost use Rattle.std.specs.List.{list_all};
 ghost use Rattle.calculus_specs.specs.declared.facts.Fact.TheVariants.{Has as has_fact};
-ghost use Rattle.calculus_specs.specs.State.{node_count, has as holds};
+ghost use Rattle.calculus_specs.specs.State.{node_count_from, has as holds};
 ghost use Rattle.refutation_tree.specs.RuleLine.{line_of};
 ghost use Rattle.step_finders.specs.Found.{IsNamed};
 ghost use Rattle.step_finders.specs.Reasons.{IsByNamed, IsByGeneral, IsByBegin, IsByEnd};
@@ -26,11 +26,12 @@ pub fn line_of_general<S: State, R: Rules>(
     node: u32,
     given: u32,
 ) -> Result<GroundedLine, NoMemory>
-    requires { IsByGeneral (R.context rules.now) (S.facts state.now) row node given }
+    requires one_first { S.first state.now ≡ (R.context rules.now).first }
+    requires by_row { IsByGeneral (R.context rules.now) (S.facts state.now) row node given }
     ensures { IfOk result (λ g. ServesAddition (R.context rules.now) (S.facts state.now) node given (line_of g.line) g.grounds.items) }
 {
     rules.is_ready();
-    let grounds = node_grounds(alloc, state, node)?;
+    let grounds = node_grounds(alloc, state, rules, node)?;
     Ok(GroundedLine {
         line: Line::Row(node, row.axiom, row.part, NumberList::new(alloc)),
         grounds,
@@ -82,17 +83,19 @@ pub fn line_of_end<S: State, R: Rules>(
 }
 
 // Facts by which the node is known, where there are no concepts by which it is.
-fn first_grounds<S: State>(
+fn first_grounds<S: State, R: Rules>(
     alloc: Global,
     state: &S,
+    rules: &R,
     node: u32,
     concepts: &[u32],
 ) -> Result<Vec<Fact<u32>>, NoMemory>
-    requires { node < node_count (S.facts state.now) }
-    ensures { IfOk result (λ v. IsFirst (S.facts state.now) node concepts.now v.items) }
+    requires one_first { S.first state.now ≡ (R.context rules.now).first }
+    requires is_node { node < node_count_from (R.context rules.now).first (S.facts state.now) }
+    ensures { IfOk result (λ v. IsFirst (R.context rules.now).first (S.facts state.now) node concepts.now v.items) }
 {
     if concepts.is_empty() {
-        node_grounds(alloc, state, node)
+        node_grounds(alloc, state, rules, node)
     } else {
         Ok(Vec::new(alloc))
     }
@@ -117,14 +120,15 @@ fn line_of_row<S: State, R: Rules>(
     node: u32,
     given: u32,
 ) -> Result<GroundedLine, NoMemory>
-    requires is_node { node < node_count (S.facts state.now) }
+    requires one_first { S.first state.now ≡ (R.context rules.now).first }
+    requires is_node { node < node_count_from (R.context rules.now).first (S.facts state.now) }
     requires named { IsNamed (R.context rules.now) row.now }
     requires waits { list_all (holds (S.facts state.now) node) row.now.waits ≡ true }
     requires gives { row.now.gives ≡ given }
     ensures { IfOk result (λ g. ServesAddition (R.context rules.now) (S.facts state.now) node given (line_of g.line) g.grounds.items) }
 {
     rules.is_ready();
-    let mut grounds = first_grounds(alloc, state, node, row.waits.items())?;
+    let mut grounds = first_grounds(alloc, state, rules, node, row.waits.items())?;
     push_concepts(&mut grounds, node, row.waits.items())?;
     let positions = list_of(alloc, row.positions.items())?;
     Ok(GroundedLine {
@@ -143,7 +147,8 @@ pub fn line_of_named<S: State, R: Rules>(
     node: u32,
     given: u32,
 ) -> Result<GroundedLine, NoMemory>
-    requires { IsByNamed (R.context rules.now) (S.facts state.now) (R.files rules.now) concept place node given }
+    requires one_first { S.first state.now ≡ (R.context rules.now).first }
+    requires by_row { IsByNamed (R.context rules.now) (S.facts state.now) (R.files rules.now) concept place node given }
     ensures { IfOk result (λ g. ServesAddition (R.context rules.now) (S.facts state.now) node given (line_of g.line) g.grounds.items) }
 {
     let rows = rules.named(concept);

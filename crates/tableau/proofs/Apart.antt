@@ -8,7 +8,10 @@ use Rattle.std.proofs.lemmas.List.Folds.{list_all-append}
 use Rattle.shq_terms.specs.Concept.{name}
 use Rattle.shq_terms.specs.Listed.{Listed}
 use Rattle.shq_terms.specs.Uses.{uses_listed}
-use Rattle.shq_terms.specs.declared.axioms.On.TheVariants.{Any}
+use Rattle.shq_terms.specs.declared.axioms.On.{On}
+use Rattle.shq_terms.specs.declared.axioms.On.TheVariants.{Any, Individual}
+use Rattle.calculus_specs.specs.Rules.{Question}
+use Rattle.closed_search.specs.Theory.{question_in}
 use Rattle.shq_terms.specs.declared.axioms.Query.{Query}
 use Rattle.axiom_sets.specs.Sets.{Limited, member_list}
 use Rattle.calculus_specs.specs.Shape.{Shape, shape_of}
@@ -17,18 +20,19 @@ use Rattle.calculus_specs.specs.declared.facts.Fact.{Fact}
 use Rattle.calculus_specs.specs.declared.facts.Fact.TheVariants.{Has, Edge, Apart, Same}
 use Rattle.role_box.specs.Counted.{counted_roles}
 use Rattle.role_box.specs.Simple.{all_role_axioms, is_simple, are_simple}
-use Rattle.search_rules.specs.Limits.{IsInLimit, IsWithoutIndividuals, has_enough_parts}
+use Rattle.search_rules.specs.Limits.{IsInLimit, has_enough_parts}
 use Rattle.tableau_specs.specs.declared.Item.{Item}
 use Rattle.tableau_specs.specs.Items.{facts_of}
 use Rattle.tableau_specs.specs.Reached.{start}
 use Rattle.seen_concepts.proofs.CounterModelLaws.{saturated_does_not_entail}
-use Rattle.seen_concepts.specs.Runs.{IsRun, was_ever, puts, puts_at_root, LeavesOut}
-use Rattle.seen_concepts.specs.ReuseLaws.{EndsSaturated}
+use Rattle.seen_concepts.specs.Runs.{IsRun, was_ever, puts, puts_at, LeavesOut}
+use Rattle.seen_concepts.specs.ReuseLaws.{EndsSaturated, with_sup}
 use Rattle.seen_concepts.proofs.Answering.{one_run_answers_more}
+use Rattle.seen_concepts.proofs.Unnamed.{any_is_unnamed}
 use Rattle.seen_concepts.specs.Seen.{holds, class_of, complement_of, union_parts, is_one, is_complement, has_complement, gives_class, gives_complement, has_seen}
 use Rattle.search_rules.specs.RuleLists.{AreNumbersOf}
-use Rattle.tableau.specs.SearchState.{SearchState, room_for, context_of, trail_of, IsReachedBy, HasRun}
-use Rattle.tableau.specs.Steps.{IsAtModel, LeavesClassOut, query_for, IsShownApart, AreLeftOut}
+use Rattle.tableau.specs.SearchState.{SearchState, is_any, room_for, question_of, context_of, trail_of, IsReachedBy, HasRun}
+use Rattle.tableau.specs.Steps.{IsAtModel, AsksForAny, LeavesClassOut, query_for, IsShownApart, AreLeftOut}
 
 -- the query for a listed class is within the limits
 query_in_limit : (o : Listed) (q : Query) (a : ℕ) → IsInLimit o q → a < length o.classes → IsInLimit o (record { sub = q.sub; sup = name a; on = Any })
@@ -66,83 +70,103 @@ any_at p [] x m h = absurd (omega (arith, m.1))
 any_at p (y ∷ ys) x (zero, lt, is) h = or_left (p y) (list_any p ys) (ap p is ∙ h)
 any_at p (y ∷ ys) x (suc k, lt, is) h = or_right (p y) (list_any p ys) (any_at p ys x (k, omega (arith, lt), is) h)
 
-module _ (table : List Shape) (a c : ℕ) where
-  gives_at_root : shape_of table c ≡ name_shape a → (f : Fact ℕ) → puts_at_root c f ≡ true → gives_class table a f ≡ true
-  gives_at_root sh (Has x d) h =
-      let t = and_parts (x == 0) (d == c) h in
-      and_from (x == 0) (is_one a (class_of (shape_of table d))) t.0
+module _ (at : ℕ) (table : List Shape) (a c : ℕ) where
+  gives_there : shape_of table c ≡ name_shape a → (f : Fact ℕ) → puts_at at c f ≡ true → gives_class at table a f ≡ true
+  gives_there sh (Has x d) h =
+      let t = and_parts (x == at) (d == c) h in
+      and_from (x == at) (is_one a (class_of (shape_of table d))) t.0
       (ap (λ (n : ℕ). is_one a (class_of (shape_of table n))) (eqb-true d c t.1) ∙ ap (λ (s : Shape). is_one a (class_of s)) sh ∙ eq-eqb a a refl)
-  gives_at_root sh (Edge r x y) h = h
-  gives_at_root sh (Apart y z) h = h
-  gives_at_root sh (Same y z) h = h
+  gives_there sh (Edge r x y) h = h
+  gives_there sh (Apart y z) h = h
+  gives_there sh (Same y z) h = h
 
   complement_is : shape_of table c ≡ not_name a → is_complement table a c ≡ true
   complement_is sh = ap (λ (s : Shape). is_one a (complement_of s)) sh ∙ eq-eqb a a refl
 
-  gives_anywhere : shape_of table c ≡ not_name a → (f : Fact ℕ) → puts c f ≡ true → gives_complement table a f ≡ true
+  gives_anywhere : shape_of table c ≡ not_name a → (f : Fact ℕ) → puts c f ≡ true → gives_complement at table a f ≡ true
   gives_anywhere sh (Has x d) h =
-      or_left (is_complement table a d) (x == 0 && has_complement table a (union_parts (shape_of table d))) (ap (is_complement table a) (eqb-true d c h) ∙ complement_is sh)
+      or_left (is_complement table a d) (x == at && has_complement table a (union_parts (shape_of table d))) (ap (is_complement table a) (eqb-true d c h) ∙ complement_is sh)
   gives_anywhere sh (Edge r x y) h = h
   gives_anywhere sh (Apart y z) h = h
   gives_anywhere sh (Same y z) h = h
 
-  gives_in_union : (d : ℕ) (parts : List ℕ) → shape_of table d ≡ union parts → Contains parts c → shape_of table c ≡ not_name a → (f : Fact ℕ) → puts_at_root d f ≡ true → gives_complement table a f ≡ true
+  gives_in_union : (d : ℕ) (parts : List ℕ) → shape_of table d ≡ union parts → Contains parts c → shape_of table c ≡ not_name a → (f : Fact ℕ) → puts_at at d f ≡ true → gives_complement at table a f ≡ true
   gives_in_union d parts is part sh (Has x e) h =
-      let t = and_parts (x == 0) (e == d) h in
+      let t = and_parts (x == at) (e == d) h in
       let has : has_complement table a (union_parts (shape_of table e)) ≡ true =
       ap (λ (n : ℕ). has_complement table a (union_parts (shape_of table n))) (eqb-true e d t.1)
       ∙ ap (λ (s : Shape). has_complement table a (union_parts s)) is
       ∙ any_at (is_complement table a) parts c part (complement_is sh) in
-      or_right (is_complement table a e) (x == 0 && has_complement table a (union_parts (shape_of table e)))
-      (and_from (x == 0) (has_complement table a (union_parts (shape_of table e))) t.0 has)
+      or_right (is_complement table a e) (x == at && has_complement table a (union_parts (shape_of table e)))
+      (and_from (x == at) (has_complement table a (union_parts (shape_of table e))) t.0 has)
   gives_in_union d parts is part sh (Edge r x y) h = h
   gives_in_union d parts is part sh (Apart y z) h = h
   gives_in_union d parts is part sh (Same y z) h = h
 
-left_out : (s : SearchState) (run : HasRun s) (a : ℕ) → a < length s.rules.ontology.classes → LeavesClassOut s a → LeavesOut s.rules.table (trail_of s ∷ run.earlier) a
+pub any_is : (on : On) → is_any on ≡ true → on ≡ Any
+any_is Any h = refl
+any_is (Individual a) h = cc
+
+pub asks_for_any : (s : SearchState) → s.query.on ≡ Any → s.not_sup ≡ 0 → AsksForAny s
+asks_for_any s on alone = record { on_any = on; sub_alone = alone }
+
+room_is : (count : ℕ) (s : SearchState) → AsksForAny s → room_for count s.query.on s.not_sup ≡ count
+room_is count s any = λ i. room_for count (any.on_any i) (any.sub_alone i)
+
+left_out : (s : SearchState) (run : HasRun s) (a : ℕ) → a < length s.rules.ontology.classes → LeavesClassOut s a → LeavesOut (question_of s).at s.rules.table (trail_of s ∷ run.earlier) a
 left_out s run a lt out =
+    let at = (question_of s).at in
     let table = s.rules.table in
     let count = length s.rules.ontology.classes in
     let all = trail_of s ∷ run.earlier in
-    let unseen = or_parts (holds s.seen.at_root a) (holds s.seen.complements a) out.is_unseen in
-    let whole : room_for count s.not_sup ≡ count = ap (room_for count) out.asks_for_any in
-    let root_lt : a < s.seen.at_root.limit = omega (arith, lt, whole, run.are_over.root_limit) in
+    let unseen = or_parts (holds s.seen.at_node a) (holds s.seen.complements a) out.is_unseen in
+    let whole : room_for count s.query.on s.not_sup ≡ count = room_is count s out.asks_for_any in
+    let node_lt : a < s.seen.at_node.limit = omega (arith, lt, whole, run.are_over.node_limit) in
     let complements_lt : a < s.seen.complements.limit = omega (arith, lt, whole, run.are_over.complements_limit) in
-    let no_class : was_ever (gives_class table a) all ≡ false = sym (run.are_seen.at_root a root_lt) ∙ unseen.0 in
-    let no_complement : was_ever (gives_complement table a) all ≡ false = sym (run.are_seen.complements a complements_lt) ∙ unseen.1 in
+    let no_class : was_ever (gives_class at table a) all ≡ false = sym (run.are_seen.at_node a node_lt) ∙ unseen.0 in
+    let no_complement : was_ever (gives_complement at table a) all ≡ false = sym (run.are_seen.complements a complements_lt) ∙ unseen.1 in
     record {
-      class_is_not_at_root = λ c ever sh. (let k = ever_more (puts_at_root c) (gives_class table a) (gives_at_root table a c sh) all ever in cc);
-      unions_at_root_lack_complement = λ c d parts ever is part sh.
-          (let k = ever_more (puts_at_root c) (gives_complement table a) (gives_in_union table a d c parts is part sh) all ever in cc);
-      complement_is_never_put = λ c ever sh. (let k = ever_more (puts c) (gives_complement table a) (gives_anywhere table a c sh) all ever in cc);
+      class_is_not_there = λ c ever sh. (let k = ever_more (puts_at at c) (gives_class at table a) (gives_there at table a c sh) all ever in cc);
+      unions_there_lack_complement = λ c d parts ever is part sh.
+          (let k = ever_more (puts_at at c) (gives_complement at table a) (gives_in_union at table a d c parts is part sh) all ever in cc);
+      complement_is_never_put = λ c ever sh. (let k = ever_more (puts c) (gives_complement at table a) (gives_anywhere at table a c sh) all ever in cc);
     }
 
-module _ (s : SearchState) (a : ℕ) (limit : IsInLimit s.rules.ontology s.query) (without : IsWithoutIndividuals s.rules.ontology s.query) (numbers : AreNumbersOf s.rules s.query s.sub s.not_sup) (reached : IsReachedBy s) (run : HasRun s) (at : IsAtModel s)
+-- the query for a class asks the same of the same node, and more
+asks_more : (s : SearchState) (a : ℕ) → AsksForAny s → (k : ℕ) → EndsSaturated (with_sup (question_of s) (name a)) k → EndsSaturated (question_in s.rules.ontology (member_list s.rules.set) (query_for s a)) k
+asks_more s a any k h = subst (λ (on : On). EndsSaturated (question_in s.rules.ontology (member_list s.rules.set) (record { sub = s.query.sub; sup = name a; on = on })) k) any.on_any h
+
+module _ (s : SearchState) (a : ℕ) (limit : IsInLimit s.rules.ontology s.query) (numbers : AreNumbersOf s.rules s.query s.sub s.not_sup) (reached : IsReachedBy s) (run : HasRun s) (model : IsAtModel s)
     (lt : a < length s.rules.ontology.classes) (out : LeavesClassOut s a) where
-  ends : EndsSaturated (context_of s).theory s.query.sub (name a) s.steps
+  abbrev asked : Question
+  asked = question_of s
+
+  ends : EndsSaturated (question_in s.rules.ontology (member_list s.rules.set) (query_for s a)) s.steps
   ends =
-      one_run_answers_more (context_of s).theory s.query.sub s.rules.table (context_of s).rows s.sub s.steps a (trail_of s) run.earlier reached.is_table reached.is_choice numbers.sub_listed numbers.sub_is
-      (subst (λ (n : ℕ). IsRun (context_of s) (start s.sub n) (trail_of s ∷ run.earlier)) out.asks_for_any run.is_run) run.counted at.is_saturated (left_out s run a lt out)
+      let unnamed = any_is_unnamed (length s.rules.ontology.individuals) s.rules.ontology.axioms (member_list s.rules.set) s.query out.asks_for_any.on_any in
+      asks_more s a out.asks_for_any s.steps
+      (one_run_answers_more asked s.rules.table (context_of s).rows s.sub s.steps a (trail_of s) run.earlier reached.is_table reached.is_choice reached.facts_have_numbers reached.at_first unnamed numbers.sub_listed numbers.sub_is
+      (subst (λ (n : ℕ). IsRun (context_of s) (start asked.at s.sub n) (trail_of s ∷ run.earlier)) out.asks_for_any.sub_alone run.is_run) run.counted model.is_saturated (left_out s run a lt out))
 
   shown_apart : IsShownApart s a
   shown_apart = record {
     follows_not =
         saturated_does_not_entail s.rules.ontology (member_list s.rules.set) (query_for s a) ends.table ends.rows s.steps ends.trail (query_in_limit s.rules.ontology s.query a limit lt)
-        (record { ontology = without.ontology; on_any = refl }) ends.reached ends.is_saturated;
+        ends.reached ends.is_saturated;
     cost = record { table = ends.table; rows = ends.rows; trail = ends.trail; reached = ends.reached; ends = inl ends.is_saturated };
   }
 
 -- ---- all classes at once
 
-pub left_out_classes : (s : SearchState) → IsInLimit s.rules.ontology s.query → IsWithoutIndividuals s.rules.ontology s.query → AreNumbersOf s.rules s.query s.sub s.not_sup → IsReachedBy s → (run : HasRun s) → IsAtModel s → s.not_sup ≡ 0 → (classes : Limited)
-    → classes.limit ≡ s.seen.at_root.limit → ((a : ℕ) → a < s.seen.at_root.limit → holds classes a ≡ not (has_seen s.seen a)) → AreLeftOut s classes
-left_out_classes s limit without numbers reached run at any classes limit_is are =
+pub left_out_classes : (s : SearchState) → IsInLimit s.rules.ontology s.query → AreNumbersOf s.rules s.query s.sub s.not_sup → IsReachedBy s → (run : HasRun s) → IsAtModel s → AsksForAny s → (classes : Limited)
+    → classes.limit ≡ s.seen.at_node.limit → ((a : ℕ) → a < s.seen.at_node.limit → holds classes a ≡ not (has_seen s.seen a)) → AreLeftOut s classes
+left_out_classes s limit numbers reached run model any classes limit_is are =
     let count = length s.rules.ontology.classes in
-    let whole : s.seen.at_root.limit ≡ count = run.are_over.root_limit ∙ ap (room_for count) any in
+    let whole : s.seen.at_node.limit ≡ count = run.are_over.node_limit ∙ room_is count s any in
     let out : (a : ℕ) → a < count → holds classes a ≡ true → LeavesClassOut s a =
     λ a lt h. record { asks_for_any = any; is_unseen = not-true (has_seen s.seen a) (sym (are a (omega (arith, lt, whole))) ∙ h) } in
     record {
       limit_is = limit_is ∙ whole;
       exact = λ a lt. (out a lt, λ o. are a (omega (arith, lt, whole)) ∙ ap not o.is_unseen);
-      apart = λ a lt h. shown_apart s a limit without numbers reached run at lt (out a lt h);
+      apart = λ a lt h. shown_apart s a limit numbers reached run model lt (out a lt h);
     }

@@ -1,7 +1,13 @@
 -- What a search keeps.
-use Rattle.std.proofs.Common.{◌≡◌, ℕ, suc, ◌+◌, Bool, true, false, not, List, [], ◌∷◌, length, refl, sym, ap, subst, ◌∙◌, arith}
+use Rattle.std.proofs.Common.{◌≡◌, ℕ, suc, ◌+◌, ◌<◌, Bool, true, false, cond, not, List, [], ◌∷◌, length, refl, sym, ap, subst, ◌∙◌, arith}
+use Rattle.shq_terms.specs.declared.axioms.On.{On}
+use Rattle.shq_terms.specs.declared.axioms.On.TheVariants.{Any, Individual}
 use Rattle.shq_terms.specs.declared.axioms.Query.{Query}
-use Rattle.search_rules.specs.Limits.{IsInLimit, IsWithoutIndividuals}
+use Rattle.calculus_specs.specs.Rows.{IsChoice}
+use Rattle.std.proofs.lemmas.Bool.{ltb-true}
+use Rattle.search_rules.specs.Limits.{IsInLimit, is_on_listed}
+use Rattle.calculus_specs.specs.Rules.{Question}
+use Rattle.closed_search.specs.Theory.{node_in_question, question_in}
 use Rattle.closed_search.specs.RefutationLists.{RefutationLists}
 use Rattle.tableau_specs.specs.Reached.{start, IsReached, Follows}
 use Rattle.tableau_specs.specs.Steps.{SearchContext, IsLegal, IsSaturated, HasClash}
@@ -11,8 +17,8 @@ use Rattle.completion_tree.specs.Trail.{items_of, facts_in}
 use Rattle.seen_concepts.specs.Runs.{IsRun}
 use Rattle.seen_concepts.specs.Seen.{SeenSets, AreOver, AreSeenIn}
 use Rattle.closed_search.specs.Trace.{begun}
-use Rattle.search_rules.specs.RuleLists.{RuleLists, AreNumbersOf, context_in}
-use Rattle.search_state.specs.Progress.{ProgressLists, IsStanding, IsSearching, HasMoved}
+use Rattle.search_rules.specs.RuleLists.{RuleLists, IsReady, AreNumbersOf, numbers_in, theory_in, context_in}
+use Rattle.search_state.specs.Progress.{ProgressLists, asked_of, asked_by, IsAsked, IsStanding, IsSearching, HasMoved}
 use Rattle.search_state.specs.Stepping.{HasBegun, IsClosed, IsStepped, IsRested, IsSameButBlocks, HasFollowed}
 use Rattle.search_state.specs.Followed.{AreFirstBlocks, IsCurrent}
 use Rattle.search_state.proofs.Followed.{entries_same, followed_first, still_stands, still_searches}
@@ -26,9 +32,13 @@ use Rattle.tableau.specs.declared.search.Event.{Event}
 use Rattle.tableau.specs.declared.search.Event.TheVariants.{Moved, Saturated, Closed}
 use Rattle.tableau.specs.declared.search.End.{End}
 use Rattle.tableau.specs.declared.search.End.TheVariants.{Saturated as RunSaturated, Closed as RunClosed, Spent}
-use Rattle.tableau.specs.Inside.{IsProgressOf, IsKept, HasClosed, IsAdvanced, HasNotedNew, IsNotedAfter, IsSettled, IsHalted, IsWalked, goes_on, is_spent}
+use Rattle.tableau.specs.Inside.{IsProgressOf, IsKept, IsAtQuestion, IsClosing, HasClosed, IsAdvanced, HasNotedNew, IsNotedAfter, IsSettled, IsHalted, IsWalked, goes_on, is_spent}
 use Rattle.tableau.proofs.Reached.{standing_is_reached}
 use Rattle.tableau.proofs.Seen.{over_after, seen_after}
+
+-- what is asked over the axioms of the rules' set
+abbrev asked : RuleLists → Query → Question
+asked rules query = question_in rules.ontology (numbers_in rules) query
 
 abbrev pub state : RuleLists → Query → ℕ → ℕ → ProgressLists → SeenSets → ℕ → Bool → Bool → SearchState
 state rules query sub not_sup p seen steps ended failed = record {
@@ -36,6 +46,7 @@ state rules query sub not_sup p seen steps ended failed = record {
   query = query;
   sub = sub;
   not_sup = not_sup;
+  first = p.first;
   entries = p.entries;
   prints = p.prints;
   seen = seen;
@@ -44,41 +55,96 @@ state rules query sub not_sup p seen steps ended failed = record {
   failed = failed;
 }
 
-module _ (rules : RuleLists) (query : Query) (sub not_sup : ℕ) (p : ProgressLists) (seen : SeenSets) (steps : ℕ) (query_is : p.query ≡ query) (steps_is : p.steps ≡ steps) where
+module _ (rules : RuleLists) (query : Query) (sub not_sup : ℕ) (p : ProgressLists) (seen : SeenSets) (steps : ℕ) (query_is : p.query ≡ query)
+    (at_is : p.at ≡ (asked rules query).at) (steps_is : p.steps ≡ steps) where
   pub reached_by : IsStanding (context_in rules) p → (ended failed : Bool) → IsReachedBy (state rules query sub not_sup p seen steps ended failed)
   reached_by h ended failed =
       let w = context_in rules in
-      subst (λ (q : Query). IsReached w.theory q.sub q.sup w.table w.rows steps (items_of p.entries)) query_is
-      (subst (λ (k : ℕ). IsReached w.theory p.query.sub p.query.sup w.table w.rows k (items_of p.entries)) steps_is (standing_is_reached w p h))
+      subst (λ (x : ℕ). IsReached (asked_of w query x) w.table w.rows steps (items_of p.entries)) at_is
+      (subst (λ (q : Query). IsReached (asked_of w q p.at) w.table w.rows steps (items_of p.entries)) query_is
+      (subst (λ (k : ℕ). IsReached (asked_by w p) w.table w.rows k (items_of p.entries)) steps_is (standing_is_reached w p h)))
 
-  pub searching_is_kept : IsInLimit rules.ontology query → IsWithoutIndividuals rules.ontology query → rules.set.limit ≡ length rules.ontology.axioms → AreNumbersOf rules query sub not_sup → p.sub ≡ sub → p.not_sup ≡ not_sup
+  pub searching_is_kept : IsInLimit rules.ontology query → rules.set.limit ≡ length rules.ontology.axioms → AreNumbersOf rules query sub not_sup → p.sub ≡ sub → p.not_sup ≡ not_sup
       → IsSearching (context_in rules) p → (ended failed : Bool) → HasRun (state rules query sub not_sup p seen steps ended failed) → IsKept (state rules query sub not_sup p seen steps ended failed) p
-  searching_is_kept limit without set numbers s n h ended failed run = record {
+  searching_is_kept limit set numbers s n h ended failed run = record {
     in_limit = limit;
-    without_individuals = without;
     set = set;
     numbers = numbers;
+    first_is = λ whole. h.standing.first_is;
     reached = λ whole. reached_by h.standing ended failed;
     has_run = λ whole. run;
     blocks = λ whole. h.standing.blocks;
-    progress = λ whole goes. record { query = query_is; sub = s; not_sup = n; steps = steps_is };
+    progress = λ whole goes. record { query = query_is; at = at_is; sub = s; not_sup = n; steps = steps_is };
     searching = λ whole goes. h;
   }
 
-pub begun_is_kept : (rules : RuleLists) (query : Query) (sub not_sup : ℕ) (p : ProgressLists) (seen : SeenSets) → IsInLimit rules.ontology query → IsWithoutIndividuals rules.ontology query → rules.set.limit ≡ length rules.ontology.axioms
-    → AreNumbersOf rules query sub not_sup → HasBegun (context_in rules) p → p.query ≡ query → p.sub ≡ sub → p.not_sup ≡ not_sup → AreOver (room_for (length rules.ontology.classes) not_sup) seen
-    → AreSeenIn rules.table (items_of p.entries ∷ []) seen
+-- what a search for the query needs
+pub is_asked : (rules : RuleLists) (query : Query) (sub not_sup : ℕ) → IsReady rules → IsChoice (theory_in rules) rules.table (context_in rules).rows → IsInLimit rules.ontology query → AreNumbersOf rules query sub not_sup
+    → IsAsked (context_in rules) query (asked rules query).at sub not_sup
+is_asked rules query sub not_sup ready chosen limit numbers = record {
+  is_table = ready.tabled;
+  is_choice = chosen;
+  is_closed = ready.closed;
+  facts_have_numbers = ready.have_numbers query;
+  at_first = on_first (length rules.ontology.individuals) query.on limit.on_listed;
+  sub_listed = numbers.sub_listed;
+  sub_is = numbers.sub_is;
+  not_sup_listed = numbers.not_sup_listed;
+  not_sup_is = numbers.not_sup_is;
+}
+  where
+    on_first : (k : ℕ) (on : On) → is_on_listed k on ≡ true → node_in_question k on < k + 1
+    on_first k Any h = omega arith
+    on_first k (Individual a) h =
+        let lt = ltb-true a k h in
+        subst (λ (b : Bool). cond b a (k + 1) < k + 1) (sym h) (omega (arith, lt))
+
+-- the progress asks of the node that its query asks of
+pub is_at_question : (s : SearchState) (p : ProgressLists) → IsProgressOf s p → IsAtQuestion s.rules p
+is_at_question s p is = is.at ∙ ap (λ (q : Query). node_in_question (length s.rules.ontology.individuals) q.on) (sym is.query)
+
+pub begun_is_kept : (rules : RuleLists) (query : Query) (sub not_sup : ℕ) (p : ProgressLists) (seen : SeenSets) → IsInLimit rules.ontology query → rules.set.limit ≡ length rules.ontology.axioms
+    → AreNumbersOf rules query sub not_sup → HasBegun (context_in rules) p → p.query ≡ query → p.at ≡ (asked rules query).at → p.sub ≡ sub → p.not_sup ≡ not_sup
+    → AreOver (room_for (length rules.ontology.classes) query.on not_sup) seen → AreSeenIn (asked rules query).at rules.table (items_of p.entries ∷ []) seen
     → IsKept (state rules query sub not_sup p seen 0 false false) p
-begun_is_kept rules query sub not_sup p seen limit without set numbers h q s n over seen_is =
-    let first : items_of p.entries ≡ start sub not_sup = h.trail_is ∙ (λ i. start (s i) (n i)) in
-    searching_is_kept rules query sub not_sup p seen 0 q h.no_steps limit without set numbers s n h.is_searching false false (record { earlier = []; is_run = first; counted = refl; are_over = over; are_seen = seen_is })
+begun_is_kept rules query sub not_sup p seen limit set numbers h q at_is s n over seen_is =
+    let first : items_of p.entries ≡ start (asked rules query).at sub not_sup = h.trail_is ∙ (λ i. start (at_is i) (s i) (n i)) in
+    searching_is_kept rules query sub not_sup p seen 0 q at_is h.no_steps limit set numbers s n h.is_searching false false
+    (record { earlier = []; is_run = first; counted = refl; are_over = over; are_seen = seen_is })
 
 -- ---- closing
+
+pub closing_from : (rules : RuleLists) (old mid : ProgressLists) → IsInLimit rules.ontology old.query → rules.set.limit ≡ length rules.ontology.axioms → IsAtQuestion rules old → IsSearching (context_in rules) old
+    → IsClosed (context_in rules) old mid → IsClosing rules mid
+closing_from rules old mid limit set at searching h =
+    let w = context_in rules in
+    let same = h.same in
+    record {
+      in_limit = subst (λ (q : Query). IsInLimit rules.ontology q) (sym same.query) limit;
+      set = set;
+      asked =
+          subst (λ (n : ℕ). IsAsked w mid.query mid.at mid.sub n) (sym same.not_sup)
+          (subst (λ (n : ℕ). IsAsked w mid.query mid.at n old.not_sup) (sym same.sub)
+          (subst (λ (n : ℕ). IsAsked w mid.query n old.sub old.not_sup) (sym same.at)
+          (subst (λ (q : Query). IsAsked w q old.at old.sub old.not_sup) (sym same.query) searching.standing.asked)));
+      at_is = same.at ∙ at ∙ ap (λ (q : Query). node_in_question (length rules.ontology.individuals) q.on) (sym same.query);
+      closes = h.closes;
+      fit = h.fit;
+    }
+
+pub step_closing : (rules : RuleLists) (old mid : ProgressLists) → IsInLimit rules.ontology old.query → rules.set.limit ≡ length rules.ontology.axioms → IsAtQuestion rules old → IsSearching (context_in rules) old
+    → (s : Stepped) → s ≡ StepClosed → IsStepped (context_in rules) old mid s → IsClosing rules mid
+step_closing rules old mid limit set at searching s is h = closing_from rules old mid limit set at searching (subst (IsStepped (context_in rules) old mid) is h)
+
+pub rest_closing : (rules : RuleLists) (old mid : ProgressLists) → IsInLimit rules.ontology old.query → rules.set.limit ≡ length rules.ontology.axioms → IsAtQuestion rules old → IsSearching (context_in rules) old
+    → (s : Rested) → s ≡ RestClosed → IsRested (context_in rules) old mid s → IsClosing rules mid
+rest_closing rules old mid limit set at searching s is h = closing_from rules old mid limit set at searching (subst (IsRested (context_in rules) old mid) is h)
 
 has_closed : (rules : RuleLists) (old mid new : ProgressLists) (r : RefutationLists) → IsClosed (context_in rules) old mid → new ≡ record mid { trace = begun } → Refutes rules mid.query r → HasClosed rules r old new
 has_closed rules old mid new r h left refutes =
     subst (λ (p : ProgressLists). HasClosed rules r old p) (sym left) (record {
       entries = h.entries;
+      first = h.same.first;
       blocks = h.blocks;
       steps = h.steps;
       has_clash = h.has_clash;
@@ -95,13 +161,13 @@ rest_closed rules old mid new r s is h left refutes = has_closed rules old mid n
 
 -- ---- blocks
 
-pub advanced_first : (rules : RuleLists) (old new : ProgressLists) (e : Event) → IsAdvanced rules old new e → AreFirstBlocks (facts_in new.entries) new.prints
+pub advanced_first : (rules : RuleLists) (old new : ProgressLists) (e : Event) → IsAdvanced rules old new e → AreFirstBlocks new.first (facts_in new.entries) new.prints
 advanced_first rules old new Moved h = h.1.standing.blocks
 advanced_first rules old new Saturated h = followed_first old new h.0
 advanced_first rules old new (Closed r) h = h.blocks
 
 -- a step after which the blocks of all nodes were found
-module _ (rules : RuleLists) (old mid new : ProgressLists) (h : HasFollowed mid new) (first : AreFirstBlocks (facts_in new.entries) new.prints) where
+module _ (rules : RuleLists) (old mid new : ProgressLists) (h : HasFollowed mid new) (first : AreFirstBlocks new.first (facts_in new.entries) new.prints) where
   abbrev w : SearchContext
   w = context_in rules
 
@@ -116,6 +182,8 @@ module _ (rules : RuleLists) (old mid new : ProgressLists) (h : HasFollowed mid 
     record {
       same = record {
         query = ap (λ (q : ProgressLists). q.query) h.same ∙ a.0.same.query;
+        at = ap (λ (q : ProgressLists). q.at) h.same ∙ a.0.same.at;
+        first = ap (λ (q : ProgressLists). q.first) h.same ∙ a.0.same.first;
         sub = ap (λ (q : ProgressLists). q.sub) h.same ∙ a.0.same.sub;
         not_sup = ap (λ (q : ProgressLists). q.not_sup) h.same ∙ a.0.same.not_sup;
       };
@@ -131,6 +199,7 @@ module _ (rules : RuleLists) (old mid new : ProgressLists) (h : HasFollowed mid 
   )
   followed_advanced (Closed r) a = record {
     entries = entries_are ∙ a.entries;
+    first = ap (λ (q : ProgressLists). q.first) h.same ∙ a.first;
     blocks = first;
     steps = steps_are ∙ a.steps;
     has_clash = subst (λ (es : List Entry). HasClash w (items_of es)) (sym entries_are) a.has_clash;
@@ -186,24 +255,24 @@ module _ (rules : RuleLists) (query : Query) (sub not_sup : ℕ) (p p' : Progres
         let run = kept.has_run whole in
         record {
           earlier = run.earlier;
-          is_run = subst (λ (es : List Entry). IsRun w (start sub not_sup) (items_of es ∷ run.earlier)) (sym entries) run.is_run;
+          is_run = subst (λ (es : List Entry). IsRun w (start (asked rules query).at sub not_sup) (items_of es ∷ run.earlier)) (sym entries) run.is_run;
           counted = run.counted ∙ sym steps_is;
-          are_over = subst (AreOver (room_for (length rules.ontology.classes) not_sup)) (sym seen_is) run.are_over;
-          are_seen = subst (λ (es : List Entry). AreSeenIn rules.table (items_of es ∷ run.earlier) seen') (sym entries)
-              (subst (AreSeenIn rules.table (items_of p.entries ∷ run.earlier)) (sym seen_is) run.are_seen);
+          are_over = subst (AreOver (room_for (length rules.ontology.classes) query.on not_sup)) (sym seen_is) run.are_over;
+          are_seen = subst (λ (es : List Entry). AreSeenIn (asked rules query).at rules.table (items_of es ∷ run.earlier) seen') (sym entries)
+              (subst (AreSeenIn (asked rules query).at rules.table (items_of p.entries ∷ run.earlier)) (sym seen_is) run.are_seen);
         }
 
-    stays_kept : p'.entries ≡ p.entries → AreFirstBlocks (facts_in p'.entries) p'.prints → seen' ≡ seen → steps' ≡ steps → (goes : Bool) → goes ≡ false → IsKept (now goes) p'
-    stays_kept entries first seen_is steps_is goes stops =
+    stays_kept : p'.entries ≡ p.entries → p'.first ≡ p.first → AreFirstBlocks p'.first (facts_in p'.entries) p'.prints → seen' ≡ seen → steps' ≡ steps → (goes : Bool) → goes ≡ false → IsKept (now goes) p'
+    stays_kept entries first_is first seen_is steps_is goes stops =
         let w = context_in rules in
         record {
           in_limit = kept.in_limit;
-          without_individuals = kept.without_individuals;
           set = kept.set;
           numbers = kept.numbers;
+          first_is = λ still. first_is ∙ kept.first_is whole;
           reached = λ still.
-              subst (λ (es : List Entry). IsReached w.theory query.sub query.sup w.table w.rows steps' (items_of es)) (sym entries)
-              (subst (λ (k : ℕ). IsReached w.theory query.sub query.sup w.table w.rows k (items_of p.entries)) (sym steps_is) (kept.reached whole));
+              subst (λ (es : List Entry). IsReached (asked rules query) w.table w.rows steps' (items_of es)) (sym entries)
+              (subst (λ (k : ℕ). IsReached (asked rules query) w.table w.rows k (items_of p.entries)) (sym steps_is) (kept.reached whole));
           has_run = λ still. same_run entries seen_is steps_is goes;
           blocks = λ still. first;
           progress = λ still goes_again. absurd (ended_now goes stops goes_again);
@@ -218,35 +287,38 @@ module _ (rules : RuleLists) (query : Query) (sub not_sup : ℕ) (p p' : Progres
     rested_kept : IsSameButBlocks p p' → IsSearching (context_in rules) p' → seen' ≡ seen → steps' ≡ steps → (goes : Bool) → IsKept (now goes) p'
     rested_kept same h seen_is steps_is goes =
         let is = progress_is in
-        searching_is_kept rules query sub not_sup p' seen' steps' (ap (λ (q : ProgressLists). q.query) same ∙ is.query) (ap (λ (q : ProgressLists). q.steps) same ∙ is.steps ∙ sym steps_is) kept.in_limit kept.without_individuals kept.set
+        searching_is_kept rules query sub not_sup p' seen' steps' (ap (λ (q : ProgressLists). q.query) same ∙ is.query) (ap (λ (q : ProgressLists). q.at) same ∙ is.at)
+        (ap (λ (q : ProgressLists). q.steps) same ∙ is.steps ∙ sym steps_is) kept.in_limit kept.set
         kept.numbers (ap (λ (q : ProgressLists). q.sub) same ∙ is.sub) (ap (λ (q : ProgressLists). q.not_sup) same ∙ is.not_sup) h (not goes) false
         (same_run (ap (λ (q : ProgressLists). q.entries) same) seen_is steps_is goes)
 
     -- a trail that has moved on
-    moved_kept : HasMoved (context_in rules) p p' → IsSearching (context_in rules) p' → HasNotedNew rules (length p.entries) p'.entries seen seen' → steps' ≡ p'.steps → (goes : Bool) → IsKept (now goes) p'
+    moved_kept : HasMoved (context_in rules) p p' → IsSearching (context_in rules) p' → HasNotedNew rules p.at (length p.entries) p'.entries seen seen' → steps' ≡ p'.steps → (goes : Bool) → IsKept (now goes) p'
     moved_kept moved h noted counts goes =
         let is = progress_is in
         let run = kept.has_run whole in
-        searching_is_kept rules query sub not_sup p' seen' steps' (moved.same.query ∙ is.query) (sym counts) kept.in_limit kept.without_individuals kept.set kept.numbers (moved.same.sub ∙ is.sub) (moved.same.not_sup ∙ is.not_sup) h
+        searching_is_kept rules query sub not_sup p' seen' steps' (moved.same.query ∙ is.query) (moved.same.at ∙ is.at) (sym counts) kept.in_limit kept.set kept.numbers (moved.same.sub ∙ is.sub) (moved.same.not_sup ∙ is.not_sup) h
         (not goes) false
         (record {
           earlier = items_of p.entries ∷ run.earlier;
           is_run = (moved.is_legal, run.is_run);
           counted = omega (arith, run.counted, counts, moved.counted, is.steps);
-          are_over = over_after (room_for (length rules.ontology.classes) not_sup) rules (length p.entries) p'.entries seen seen' run.are_over noted;
-          are_seen = seen_after rules p.entries p'.entries run.earlier seen seen' moved.is_legal run.are_seen noted;
+          are_over = over_after (room_for (length rules.ontology.classes) query.on not_sup) rules p.at (length p.entries) p'.entries seen seen' run.are_over noted;
+          are_seen = seen_after rules (asked rules query).at p.entries p'.entries run.earlier seen seen' moved.is_legal run.are_seen
+              (subst (λ (x : ℕ). HasNotedNew rules x (length p.entries) p'.entries seen seen') is.at noted);
         })
 
     pub stepped_kept : (e : Event) → IsAdvanced rules p p' e → IsNotedAfter rules p p' seen seen' e → steps' ≡ p'.steps → (goes : Bool) → goes ≡ goes_on e → IsKept (now goes) p'
     stepped_kept Moved h noted counts goes is = moved_kept h.0 h.1 noted counts goes
     stepped_kept Saturated h noted counts goes is =
-        stays_kept (ap (λ (q : ProgressLists). q.entries) h.0.same) (followed_first p p' h.0) noted (counts ∙ ap (λ (q : ProgressLists). q.steps) h.0.same ∙ progress_is.steps) goes is
-    stepped_kept (Closed r) h noted counts goes is = stays_kept h.entries h.blocks noted (counts ∙ h.steps ∙ progress_is.steps) goes is
+        stays_kept (ap (λ (q : ProgressLists). q.entries) h.0.same) (ap (λ (q : ProgressLists). q.first) h.0.same) (followed_first p p' h.0) noted (counts ∙ ap (λ (q : ProgressLists). q.steps) h.0.same ∙ progress_is.steps) goes is
+    stepped_kept (Closed r) h noted counts goes is = stays_kept h.entries h.first h.blocks noted (counts ∙ h.steps ∙ progress_is.steps) goes is
 
     pub settled_kept : (e : End) → IsSettled rules p p' e → seen' ≡ seen → steps' ≡ steps → (goes : Bool) → goes ≡ is_spent e → IsKept (now goes) p'
     settled_kept Spent h same counts goes is = rested_kept h.0 h.1 same counts goes
-    settled_kept RunSaturated h same counts goes is = stays_kept (ap (λ (q : ProgressLists). q.entries) h.0.same) (followed_first p p' h.0) same counts goes is
-    settled_kept (RunClosed r) h same counts goes is = stays_kept h.entries h.blocks same counts goes is
+    settled_kept RunSaturated h same counts goes is =
+        stays_kept (ap (λ (q : ProgressLists). q.entries) h.0.same) (ap (λ (q : ProgressLists). q.first) h.0.same) (followed_first p p' h.0) same counts goes is
+    settled_kept (RunClosed r) h same counts goes is = stays_kept h.entries h.first h.blocks same counts goes is
 
     -- what halts has made no step
     pub halted_steps : (e : End) → IsSettled rules p p' e → p'.steps ≡ steps
@@ -269,7 +341,7 @@ followed_end fuel a b c e h same current = subst (λ (s : SearchState). IsEnd fu
       runs h.0,
       record {
         is_saturated = h.1.is_saturated;
-        is_current = subst (λ (es : List Entry). IsCurrent (facts_in es) c.prints) (ap (λ (s : SearchState). s.entries) same) current;
+        is_current = subst (λ (s : SearchState). IsCurrent s.first (facts_in s.entries) c.prints) same current;
         ended = h.1.ended;
       },
     )

@@ -9,12 +9,14 @@ use Rattle.shq_terms.specs.Listed.{Listed}
 use Rattle.shq_terms.specs.Uses.{uses_listed}
 use Rattle.shq_terms.specs.declared.axioms.Numbered.{Numbered}
 use Rattle.calculus_specs.specs.Rows.{Theory}
+use Rattle.calculus_specs.specs.Rules.{Question}
+use Rattle.calculus_specs.specs.declared.facts.Fact.{Fact}
 use Rattle.calculus_specs.specs.Tree.{tree_of}
 use Rattle.role_box.specs.Counted.{counted_roles, counted_by}
 use Rattle.search_rules.specs.Limits.{IsOntologyInLimit}
 use Rattle.calculus_specs.specs.Line.{Line}
 use Rattle.calculus_specs.specs.Line.Line.{start_line, and_line, or_line, all_line, carry_line, row_line, range_line, some_line, least_line, choose_line, pair_line, bottom_line, clash_line, most_line, fact_line, differ_line}
-use Rattle.closed_search.specs.Theory.{theory_of}
+use Rattle.closed_search.specs.Theory.{theory_of, fact_of_axiom}
 use Rattle.closed_search.specs.RuleLine.{concept_numbers}
 use Rattle.closed_search.specs.Written.{line_is_listed}
 use Rattle.tableau_specs.specs.KeptKinds.{IsKept}
@@ -24,12 +26,12 @@ use Rattle.seen_concepts.proofs.Allowed.{IsAllowed, allowed_normal, allowed_nega
 use Rattle.seen_concepts.proofs.AllowedParts.{allowed_kept}
 use Rattle.closed_search.specs.Premises.{carry_rule, rule_of}
 use Rattle.closed_search.specs.Leaves.{leaves}
-use Rattle.closed_search.specs.Noted.{Noted, NotedLine, noted_by, noted_children, noted_start}
+use Rattle.closed_search.specs.Noted.{Noted, NotedLine, noted_by, noted_children, start_of}
 use Rattle.closed_search.specs.Finished.{is_over, are_over}
 use Rattle.closed_search.specs.Trace.{lines_in}
 use Rattle.closed_search.specs.Refuted.{concept_is_listed, uses_names}
 use Rattle.search_rules.specs.RuleLists.{RuleLists, context_in, theory_in, numbers_in}
-use Rattle.search_state.specs.Progress.{ProgressLists, IsFitLine}
+use Rattle.search_state.specs.Progress.{ProgressLists, asked_by, IsFitLine}
 use Rattle.tableau.specs.Inside.{IsClosing}
 
 -- ---- numbers of the table
@@ -63,9 +65,9 @@ module _ (o : Listed) where
   allowed : (c : Concept) → uses c ≡ true → IsAllowed (length o.classes) (length o.roles) any c
   allowed c h = (h, all_any (counted_roles c))
 
-  names_kept : (ks : List ℕ) → IsOntologyInLimit o → IsKept (theory_of o.axioms ks) (λ c. uses c ≡ true) (λ r. ltb r (length o.roles) ≡ true)
+  names_kept : (ks : List ℕ) → IsOntologyInLimit o → IsKept (theory_of o.axioms ks) (fact_of_axiom (length o.individuals) o.axioms ks) (λ c. uses c ≡ true) (λ r. ltb r (length o.roles) ≡ true)
   names_kept ks limit =
-      let k = allowed_kept (length o.classes) (length o.roles) (length o.individuals) any o.axioms ks (limit.listed, axioms_any o.axioms) in
+      let k = allowed_kept (length o.classes) (length o.roles) (length o.individuals) any (length o.individuals) o.axioms ks (limit.listed, axioms_any o.axioms) in
       record {
         top_is = k.top_is.0;
         conjunct = λ cs c h m. (k.conjunct cs c (allowed (intersection (parts_of cs)) h) m).0;
@@ -79,11 +81,13 @@ module _ (o : Listed) where
         row = λ a n q t c there is. (k.row a n q t c there is).0;
         edge_of_some = λ r c h. k.edge_of_some r c (allowed (some_of r c) h);
         edge_of_least = λ n r c h. k.edge_of_least n r c (allowed (at_least n r c) h);
+        member = λ a n x c is. (k.member a n x c is).0;
+        pair = k.pair;
       }
 
   -- ---- roles of lines
 
-  module _ (theory : Theory) (kept : IsKept theory (λ c. uses c ≡ true) (λ r. ltb r (length o.roles) ≡ true)) where
+  module _ (theory : Theory) (fact_of : ℕ → ℕ → Option (Fact Concept)) (kept : IsKept theory fact_of (λ c. uses c ≡ true) (λ r. ltb r (length o.roles) ≡ true)) where
     when_true : {A : Type 0} (b : Bool) (a : A) → ¬ (cond b (Some a) None ≡ None) → b ≡ true
     when_true true a h = refl
     when_true false a h = absurd (h refl)
@@ -108,16 +112,16 @@ module _ (o : Listed) where
   some_if true x t h = cc
   some_if false x t h = cc
 
-  module _ (rules : RuleLists) (kept : IsKept (theory_in rules) (λ c. uses c ≡ true) (λ r. ltb r (length o.roles) ≡ true)) where
-    abbrev theory : Theory
-    theory = theory_in rules
+  module _ (rules : RuleLists) (p : ProgressLists) (kept : IsKept (theory_in rules) (context_in rules).fact_of (λ c. uses c ≡ true) (λ r. ltb r (length o.roles) ≡ true)) where
+    abbrev asked : Question
+    asked = asked_by (context_in rules) p
 
     abbrev concept : ℕ → Option Concept
     concept = concept_in rules.table
 
-    line_listed : (l : Line) → ¬ (rule_of theory concept l ≡ None) → list_all (concept_is_listed o rules.table) (concept_numbers l) ≡ true → line_is_listed o l ≡ true
+    line_listed : (l : Line) → ¬ (rule_of asked concept l ≡ None) → list_all (concept_is_listed o rules.table) (concept_numbers l) ≡ true → line_is_listed o l ≡ true
     line_listed (carry_line x y t c) h u =
-        carry_listed theory kept x y t (concept c) h
+        carry_listed (theory_in rules) (context_in rules).fact_of kept x y t (concept c) h
         (λ d is. subst (λ (e : Concept). uses e ≡ true) (some_if (ltb c (length rules.table)) (tree_of rules.table c) d is) (and_parts (concept_is_listed o rules.table c) true u).0)
     line_listed start_line h u = refl
     line_listed (and_line x c) h u = refl
@@ -138,10 +142,10 @@ module _ (o : Listed) where
     -- ---- lines that close
 
     abbrev step : Noted → NotedLine → Option (List Noted)
-    step = noted_children theory concept
+    step = noted_children asked concept
 
-    has_rule : (k : Noted) (l : NotedLine) (kids : List Noted) → step k l ≡ Some kids → ¬ (rule_of theory concept l.line ≡ None)
-    has_rule k l kids h none = let e : None ≡ Some kids = sym (ap (noted_by theory concept k l) none) ∙ h in cc
+    has_rule : (k : Noted) (l : NotedLine) (kids : List Noted) → step k l ≡ Some kids → ¬ (rule_of asked concept l.line ≡ None)
+    has_rule k l kids h none = let e : None ≡ Some kids = sym (ap (noted_by asked concept k l) none) ∙ h in cc
 
     abbrev are_named : List NotedLine → Bool
     are_named ls = list_all (uses_names o rules.table) (map (λ l. l.line) ls)
@@ -174,4 +178,4 @@ closing_is_listed rules p h =
     let both = and_parts (uses_listed classes roles p.query.sub) (uses_listed classes roles p.query.sup) h.in_limit.listed in
     let sub = ap (uses_listed classes roles) h.asked.sub_is ∙ (allowed_normal classes roles any p.query.sub (allowed o p.query.sub both.0)).0 in
     let not_sup = ap (uses_listed classes roles) h.asked.not_sup_is ∙ (allowed_negated classes roles any p.query.sup (allowed o p.query.sup both.1)).0 in
-    lines_named o rules (names_kept o (numbers_in rules) h.in_limit.ontology) p.sub p.not_sup sub not_sup p.trace.lines (noted_start p.query.sub p.query.sup ∷ []) [] h.fit h.closes
+    lines_named o rules p (names_kept o (numbers_in rules) h.in_limit.ontology) p.sub p.not_sup sub not_sup p.trace.lines (start_of (asked_by (context_in rules) p) ∷ []) [] h.fit h.closes

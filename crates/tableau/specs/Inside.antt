@@ -1,6 +1,6 @@
 -- What a search keeps, and what one call on its progress comes to.
 use Rattle.std.specs.Prelude.{◌≡◌, ℕ, ◌+◌, ◌-◌, min, drop, Bool, true, false, List, [], ◌∷◌, length, Some, All}
-use Rattle.search_rules.specs.Limits.{IsInLimit, IsWithoutIndividuals}
+use Rattle.search_rules.specs.Limits.{IsInLimit}
 use Rattle.closed_search.specs.RefutationLists.{RefutationLists}
 use Rattle.tableau_specs.specs.declared.Item.{Item}
 use Rattle.tableau_specs.specs.Steps.{IsLegal, IsSaturated, HasClash}
@@ -9,13 +9,14 @@ use Rattle.completion_tree.specs.declared.tree.Entry.{Entry}
 use Rattle.completion_tree.specs.Trail.{items_of, facts_in}
 use Rattle.seen_concepts.specs.Seen.{SeenSets, HasNoted}
 use Rattle.closed_search.specs.Leaves.{leaves}
-use Rattle.closed_search.specs.Noted.{noted_start}
+use Rattle.closed_search.specs.Noted.{start_of}
 use Rattle.closed_search.specs.Back.{step_of}
-use Rattle.search_rules.specs.RuleLists.{RuleLists, AreNumbersOf, context_in, theory_in}
-use Rattle.search_state.specs.Progress.{ProgressLists, IsAsked, IsFitLine, IsSearching, HasMoved}
+use Rattle.closed_search.specs.Theory.{node_in_question}
+use Rattle.search_rules.specs.RuleLists.{RuleLists, AreNumbersOf, context_in}
+use Rattle.search_state.specs.Progress.{ProgressLists, asked_by, IsAsked, IsFitLine, IsSearching, HasMoved}
 use Rattle.search_state.specs.Stepping.{HasNext, HasFollowed, IsSameButBlocks}
 use Rattle.search_state.specs.Followed.{AreFirstBlocks}
-use Rattle.tableau.specs.SearchState.{SearchState, context_of, trail_of, IsReachedBy, HasRun}
+use Rattle.tableau.specs.SearchState.{SearchState, question_of, context_of, trail_of, IsReachedBy, HasRun}
 use Rattle.tableau.specs.Steps.{Refutes, Runs, Stays, IsAtModel, IsAtRefutation}
 use Rattle.tableau.specs.declared.search.Event.{Event}
 use Rattle.tableau.specs.declared.search.Event.TheVariants.{Moved, Saturated, Closed}
@@ -27,39 +28,46 @@ use Rattle.tableau.specs.declared.search.End.TheVariants.{Saturated as RunSatura
 -- the progress is that of the search
 pub record IsProgressOf (s : SearchState) (p : ProgressLists) : Type 0 where
   pub query : p.query ≡ s.query
+  pub at : p.at ≡ (question_of s).at
   pub sub : p.sub ≡ s.sub
   pub not_sup : p.not_sup ≡ s.not_sup
   pub steps : p.steps ≡ s.steps
 
--- the ontology and the query are within the limits and without individuals, the set is one of the ontology's axioms,
--- the numbers are the query's, and unless memory was refused the trail is reached by a run whose classes were noted,
--- the blocks that are known are those of the trail, and it can go on until the search has ended
+-- the ontology and the query are within the limits, the set is one of the ontology's axioms, the numbers are the query's,
+-- and unless memory was refused the first nodes are those of the rules, the trail is reached by a run whose classes were
+-- noted, the blocks that are known are those of the trail, and it can go on until the search has ended
 pub record IsKept (s : SearchState) (p : ProgressLists) : Type 0 where
   pub in_limit : IsInLimit s.rules.ontology s.query
-  pub without_individuals : IsWithoutIndividuals s.rules.ontology s.query
   pub set : s.rules.set.limit ≡ length s.rules.ontology.axioms
   pub numbers : AreNumbersOf s.rules s.query s.sub s.not_sup
+  pub first_is : s.failed ≡ false → s.first ≡ (context_of s).first
   pub reached : s.failed ≡ false → IsReachedBy s
   pub has_run : s.failed ≡ false → HasRun s
-  pub blocks : s.failed ≡ false → AreFirstBlocks (facts_in s.entries) s.prints
+  pub blocks : s.failed ≡ false → AreFirstBlocks s.first (facts_in s.entries) s.prints
   pub progress : s.failed ≡ false → s.ended ≡ false → IsProgressOf s p
   pub searching : s.failed ≡ false → s.ended ≡ false → IsSearching (context_of s) p
 
 -- ---- closing
 
+-- the progress asks of the node that its query asks of
+abbrev pub IsAtQuestion : RuleLists → ProgressLists → Type 0
+IsAtQuestion rules p = p.at ≡ node_in_question (length rules.ontology.individuals) p.query.on
+
 -- the lines of the trace close everything
 pub record IsClosing (rules : RuleLists) (p : ProgressLists) : Type 0 where
   pub in_limit : IsInLimit rules.ontology p.query
   pub set : rules.set.limit ≡ length rules.ontology.axioms
-  pub asked : IsAsked (context_in rules) p.query p.sub p.not_sup
-  pub closes : leaves (step_of (theory_in rules) rules.table) (noted_start p.query.sub p.query.sup ∷ []) p.trace.lines ≡ Some []
+  pub asked : IsAsked (context_in rules) p.query p.at p.sub p.not_sup
+  pub at_is : IsAtQuestion rules p
+  pub closes : leaves (step_of (asked_by (context_in rules) p) rules.table) (start_of (asked_by (context_in rules) p) ∷ []) p.trace.lines ≡ Some []
   pub fit : All (IsFitLine (context_in rules) p.sub p.not_sup) p.trace.lines
 
 -- the trail stays, it has a clash, the blocks that are known are those of the trail, and the refutation is one of the
 -- query
 pub record HasClosed (rules : RuleLists) (r : RefutationLists) (old new : ProgressLists) : Type 0 where
   pub entries : new.entries ≡ old.entries
-  pub blocks : AreFirstBlocks (facts_in new.entries) new.prints
+  pub first : new.first ≡ old.first
+  pub blocks : AreFirstBlocks new.first (facts_in new.entries) new.prints
   pub steps : new.steps ≡ old.steps
   pub has_clash : HasClash (context_in rules) (items_of new.entries)
   pub refutes : Refutes rules old.query r
@@ -77,11 +85,11 @@ IsSettled rules old new RunSaturated = HasFollowed old new × IsSaturated (conte
 IsSettled rules old new (RunClosed r) = HasClosed rules r old new
 
 -- the facts are noted that a step has put, in a trail that had so many entries before
-abbrev pub HasNotedNew : RuleLists → ℕ → List Entry → SeenSets → SeenSets → Type 0
-HasNotedNew rules before entries old new = HasNoted rules.table (facts_of (drop (min before (length entries - 1)) (items_of entries))) old new
+abbrev pub HasNotedNew : RuleLists → ℕ → ℕ → List Entry → SeenSets → SeenSets → Type 0
+HasNotedNew rules at before entries old new = HasNoted at rules.table (facts_of (drop (min before (length entries - 1)) (items_of entries))) old new
 
 abbrev pub IsNotedAfter : RuleLists → ProgressLists → ProgressLists → SeenSets → SeenSets → Event → Type 0
-IsNotedAfter rules p q old new Moved = HasNotedNew rules (length p.entries) q.entries old new
+IsNotedAfter rules p q old new Moved = HasNotedNew rules p.at (length p.entries) q.entries old new
 IsNotedAfter rules p q old new Saturated = new ≡ old
 IsNotedAfter rules p q old new (Closed r) = new ≡ old
 

@@ -1,30 +1,43 @@
 -- What is seen of a search.
-use Rattle.std.specs.Prelude.{◌≡◌, ℕ, ◌==◌, Bool, false, List, ◌∷◌, length, if◌then◌else◌}
+use Rattle.std.specs.Prelude.{◌≡◌, ℕ, ◌==◌, ◌&&◌, Bool, true, false, List, ◌∷◌, length, if◌then◌else◌}
+use Rattle.shq_terms.specs.declared.axioms.On.{On}
+use Rattle.shq_terms.specs.declared.axioms.On.TheVariants.{Any, Individual}
 use Rattle.shq_terms.specs.declared.axioms.Query.{Query}
+use Rattle.calculus_specs.specs.Rules.{Question}
+use Rattle.closed_search.specs.Theory.{question_in}
 use Rattle.tableau_specs.specs.declared.Item.{Item}
 use Rattle.tableau_specs.specs.Steps.{SearchContext}
 use Rattle.tableau_specs.specs.Reached.{start, IsReached}
 use Rattle.completion_tree.specs.declared.tree.Entry.{Entry}
-use Rattle.completion_tree.specs.Trail.{items_of, facts_in}
+use Rattle.completion_tree.specs.Trail.{TreeEntries, items_of, facts_in}
 use Rattle.search_state.specs.Followed.{Printed, IsCurrent}
-use Rattle.search_rules.specs.RuleLists.{RuleLists, context_in}
+use Rattle.search_rules.specs.RuleLists.{RuleLists, numbers_in, context_in}
 use Rattle.seen_concepts.specs.Runs.{IsRun}
 use Rattle.seen_concepts.specs.Seen.{SeenSets, AreOver, AreSeenIn}
 
--- the rules and the query, the numbers of what the query asks, the entries of the trail, what is known of blocked
--- nodes, the classes with which its run had to do, how many steps were made, whether the search has ended, and whether
+-- the rules and the query, the numbers of what the query asks, how many first nodes there are, the entries of the trail,
+-- what is known of blocked nodes, the classes with which its run had to do, how many steps were made, whether the search has ended, and whether
 -- memory was refused: then nothing more is known of it
 pub record SearchState : Type 0 where
   pub rules : RuleLists
   pub query : Query
   pub sub : ℕ
   pub not_sup : ℕ
+  pub first : ℕ
   pub entries : List Entry
   pub prints : Printed
   pub seen : SeenSets
   pub steps : ℕ
   pub ended : Bool
   pub failed : Bool
+
+-- the first nodes and the entries, as a tree has them
+abbrev pub tree_in : SearchState → TreeEntries
+tree_in s = record { first = s.first; entries = s.entries }
+
+-- what is asked over the axioms of the set
+abbrev pub question_of : SearchState → Question
+question_of s = question_in s.rules.ontology (numbers_in s.rules) s.query
 
 -- what its steps read
 abbrev pub context_of : SearchState → SearchContext
@@ -35,24 +48,29 @@ trail_of s = items_of s.entries
 
 -- its trail is reached by as many legal steps
 abbrev pub IsReachedBy : SearchState → Type 0
-IsReachedBy s = IsReached (context_of s).theory s.query.sub s.query.sup s.rules.table (context_of s).rows s.steps (trail_of s)
+IsReachedBy s = IsReached (question_of s) s.rules.table (context_of s).rows s.steps (trail_of s)
 
 -- the blocks that are known are those of all nodes of its tree
 abbrev pub HasAllBlocks : SearchState → Type 0
-HasAllBlocks s = IsCurrent (facts_in s.entries) s.prints
+HasAllBlocks s = IsCurrent s.first (facts_in s.entries) s.prints
+
+-- whether a query is on any element
+abbrev pub is_any : On → Bool
+is_any Any = true
+is_any (Individual a) = false
 
 -- of how many classes is noted what a run has to do with them: of each where the search asks whether anything is in the
 -- query's subclass, since the complement of nothing is top, which is number 0
-abbrev pub room_for : ℕ → ℕ → ℕ
-room_for count not_sup = if not_sup == 0 then count else 0
+abbrev pub room_for : ℕ → On → ℕ → ℕ
+room_for count on not_sup = if is_any on && not_sup == 0 then count else 0
 
 -- its run: all its trails, as many as steps were made and the first one, and the classes with which they had to do
 pub record HasRun (s : SearchState) : Type 0 where
   pub earlier : List (List Item)
-  pub is_run : IsRun (context_of s) (start s.sub s.not_sup) (trail_of s ∷ earlier)
+  pub is_run : IsRun (context_of s) (start (question_of s).at s.sub s.not_sup) (trail_of s ∷ earlier)
   pub counted : length earlier ≡ s.steps
-  pub are_over : AreOver (room_for (length s.rules.ontology.classes) s.not_sup) s.seen
-  pub are_seen : AreSeenIn s.rules.table (trail_of s ∷ earlier) s.seen
+  pub are_over : AreOver (room_for (length s.rules.ontology.classes) s.query.on s.not_sup) s.seen
+  pub are_seen : AreSeenIn (question_of s).at s.rules.table (trail_of s ∷ earlier) s.seen
 
 -- a search that begins
 pub record HasBegun (rules : RuleLists) (query : Query) (sub not_sup : ℕ) (s : SearchState) : Type 0 where
@@ -60,7 +78,7 @@ pub record HasBegun (rules : RuleLists) (query : Query) (sub not_sup : ℕ) (s :
   pub query_is : s.query ≡ query
   pub sub_is : s.sub ≡ sub
   pub not_sup_is : s.not_sup ≡ not_sup
-  pub trail_is : trail_of s ≡ start sub not_sup
+  pub trail_is : trail_of s ≡ start (question_of s).at sub not_sup
   pub no_steps : s.steps ≡ 0
   pub goes_on : s.ended ≡ false
   pub whole : s.failed ≡ false

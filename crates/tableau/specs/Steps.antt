@@ -7,11 +7,10 @@ use Rattle.shq_terms.specs.declared.axioms.Query.{Query}
 use Rattle.shq_meaning.specs.Truth.{Entails}
 use Rattle.lane_sieve.specs.Sets.{IsPart}
 use Rattle.axiom_sets.specs.Sets.{Limited, member_list}
-use Rattle.calculus_specs.specs.Rules.{on_any}
 use Rattle.calculus_specs.specs.Valid.{IsRefutation}
 use Rattle.closed_search.specs.RefutationLists.{RefutationLists}
 use Rattle.closed_search.specs.ReadBack.{IsWritable}
-use Rattle.closed_search.specs.Theory.{named_axioms, theory_of}
+use Rattle.closed_search.specs.Theory.{named_axioms, question_in}
 use Rattle.tableau_specs.specs.declared.Item.{Item}
 use Rattle.tableau_specs.specs.Steps.{IsLegal, IsSaturated, HasClash}
 use Rattle.tableau_specs.specs.Reached.{Follows, Costs}
@@ -28,13 +27,13 @@ use Rattle.tableau.specs.SearchState.{SearchState, context_of, trail_of}
 
 -- ---- refutations
 
--- it is a valid refutation of the query over axioms of the set, without facts of individuals, which can be written; of
--- the set it names the role axioms, and those others alone that stand in its lines
+-- it is a valid refutation of the query over axioms of the set, which can be written; of the set it names the role axioms,
+-- and those others alone that stand in its lines
 pub record Refutes (rules : RuleLists) (query : Query) (r : RefutationLists) : Type 0 where
   pub limit : r.axioms.limit ≡ length rules.ontology.axioms
   pub named : IsPart r.axioms.members rules.set.members
   pub standing : NamesAxioms rules.ontology.axioms rules.set r.lines r.axioms
-  pub refutes : IsRefutation (on_any (theory_of rules.ontology.axioms (member_list r.axioms)) query.sub query.sup) r.shapes r.lines
+  pub refutes : IsRefutation (question_in rules.ontology (member_list r.axioms) query) r.shapes r.lines
   pub writable : IsWritable rules.ontology r
 
 -- ---- where a search ends
@@ -42,7 +41,7 @@ pub record Refutes (rules : RuleLists) (query : Query) (r : RefutationLists) : T
 -- its trail is saturated, and the blocks are those of the trail
 pub record IsAtModel (s : SearchState) : Type 0 where
   pub is_saturated : IsSaturated (context_of s) (trail_of s)
-  pub is_current : IsCurrent (facts_in s.entries) s.prints
+  pub is_current : IsCurrent s.first (facts_in s.entries) s.prints
   pub ended : s.ended ≡ true
 
 -- its trail has a clash, and the refutation is one of its query
@@ -91,9 +90,14 @@ IsEnd fuel old new Spent = Runs old new × IsSpent fuel old new
 
 -- ---- other queries
 
--- the search begins with a node that is in the query's subclass and in top, and its run had nothing to do with class a
+-- the search begins with a node for any element, which is in the query's subclass and in top
+pub record AsksForAny (s : SearchState) : Type 0 where
+  pub on_any : s.query.on ≡ Any
+  pub sub_alone : s.not_sup ≡ 0
+
+-- and its run had nothing to do with class a
 pub record LeavesClassOut (s : SearchState) (a : ℕ) : Type 0 where
-  pub asks_for_any : s.not_sup ≡ 0
+  pub asks_for_any : AsksForAny s
   pub is_unseen : has_seen s.seen a ≡ false
 
 -- the query whether the search's subclass is in class a
@@ -103,7 +107,7 @@ query_for s a = record { sub = s.query.sub; sup = name a; on = Any }
 -- it does not follow from the axioms of the set, and as many legal steps as the search has made decide that
 pub record IsShownApart (s : SearchState) (a : ℕ) : Type 0 where
   pub follows_not : ¬ Entails (named_axioms s.rules.ontology.axioms (member_list s.rules.set)) (query_for s a)
-  pub cost : Costs (context_of s).theory s.query.sub (name a) (Entails (named_axioms s.rules.ontology.axioms (member_list s.rules.set)) (query_for s a)) s.steps
+  pub cost : Costs (question_in s.rules.ontology (member_list s.rules.set) (query_for s a)) (Entails (named_axioms s.rules.ontology.axioms (member_list s.rules.set)) (query_for s a)) s.steps
 
 -- a set of just those classes that were left out, each number greater by one; of each it is shown that the subclass is
 -- not in it
@@ -112,7 +116,7 @@ pub record AreLeftOut (s : SearchState) (classes : Limited) : Type 0 where
   pub exact : (a : ℕ) → a < length s.rules.ontology.classes → (set.contains classes.members (a + 1) ≡ true ↔ LeavesClassOut s a)
   pub apart : (a : ℕ) → a < length s.rules.ontology.classes → set.contains classes.members (a + 1) ≡ true → IsShownApart s a
 
--- the classes that are left out, or none where the search asks for more than its subclass
+-- the classes that are left out, or none where the search asks for more than its subclass, or of an individual
 abbrev pub ShowsApart : SearchState → Option Limited → Type 0
-ShowsApart s None = ¬ (s.not_sup ≡ 0)
+ShowsApart s None = ¬ AsksForAny s
 ShowsApart s (Some classes) = AreLeftOut s classes

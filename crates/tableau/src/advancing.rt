@@ -5,7 +5,7 @@ ghost use Rattle.completion_tree.specs.Trail.{facts_in};
 ghost use Rattle.search_rules.specs.RuleLists.{context_in};
 ghost use Rattle.search_state.specs.Followed.{IsCurrent};
 ghost use Rattle.search_state.specs.Progress.{IsSearching};
-ghost use Rattle.tableau.specs.Inside.{IsAdvanced, IsNotedAfter, HasNotedNew, IsSettled};
+ghost use Rattle.tableau.specs.Inside.{IsAtQuestion, IsAdvanced, IsNotedAfter, HasNotedNew, IsSettled};
 
 use crate::NoMemory;
 use crate::closing::refutation;
@@ -26,11 +26,12 @@ pub(crate) fn advance<A: Allocator + Copy>(
 ) -> Result<Event, NoMemory>
     requires in_limit { IsInLimit rules.now.ontology progress.old.query }
     requires set { rules.now.set.limit ≡ length rules.now.ontology.axioms }
+    requires at { IsAtQuestion rules.now progress.old }
     requires searching { IsSearching (context_in rules.now) progress.old }
     requires countable { progress.old.steps + 1 < 2 ^ 64 }
     ensures advanced { IfOk result (IsAdvanced rules.now progress.old progress.new) }
     ensures noted { IfOk result (IsNotedAfter rules.now progress.old progress.new seen.old seen.new) }
-    ensures current { OnOk result (IsTrue follows → IsCurrent (facts_in progress.new.entries) progress.new.prints) }
+    ensures current { OnOk result (IsTrue follows → IsCurrent progress.new.first (facts_in progress.new.entries) progress.new.prints) }
 {
     let event = advance_once(heap, progress, seen, rules)?;
     if !follows {
@@ -49,6 +50,7 @@ fn advance_once<A: Allocator + Copy>(
 ) -> Result<Event, NoMemory>
     requires in_limit { IsInLimit rules.now.ontology progress.old.query }
     requires set { rules.now.set.limit ≡ length rules.now.ontology.axioms }
+    requires at { IsAtQuestion rules.now progress.old }
     requires searching { IsSearching (context_in rules.now) progress.old }
     requires countable { progress.old.steps + 1 < 2 ^ 64 }
     ensures advanced { IfOk result (IsAdvanced rules.now progress.old progress.new) }
@@ -57,7 +59,7 @@ fn advance_once<A: Allocator + Copy>(
     let before = progress.tree().len();
     match progress.step(rules)? {
         Stepped::Moved => {
-            note_new(progress.tree(), seen, rules, before);
+            note_new(progress.tree(), seen, rules, progress.at(), before);
             Ok(Event::Moved)
         }
         Stepped::Saturated => Ok(Event::Saturated),
@@ -71,12 +73,13 @@ fn note_new<A: Allocator + Copy>(
     tree: &Tree<A>,
     seen: &mut SeenClasses,
     rules: &SearchRules<'_>,
+    at: u32,
     before: u32,
 )
-    ensures { HasNotedNew rules.now before tree.now seen.old seen.new }
+    ensures { HasNotedNew rules.now at before tree.now.entries seen.old seen.new }
 {
     let last = tree.len().saturating_sub(1);
-    seen.note(rules, tree, before.min(last));
+    seen.note(rules, tree, at, before.min(last));
 }
 
 /// Looks whether there is a step, and makes none.
@@ -87,6 +90,7 @@ pub(crate) fn settle<A: Allocator + Copy>(
 ) -> Result<End, NoMemory>
     requires in_limit { IsInLimit rules.now.ontology progress.old.query }
     requires set { rules.now.set.limit ≡ length rules.now.ontology.axioms }
+    requires at { IsAtQuestion rules.now progress.old }
     requires searching { IsSearching (context_in rules.now) progress.old }
     ensures { IfOk result (IsSettled rules.now progress.old progress.new) }
 {

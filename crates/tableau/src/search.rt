@@ -1,10 +1,10 @@
 // The search.
 ghost use Rattle.std.specs.Prelude.{◌≡◌, ◌+◌, ◌<◌, ◌≤◌, ◌^◌, true, false, IfOk, OnOk, OnErr, length};
-ghost use Rattle.search_rules.specs.Limits.{IsInLimit, IsWithoutIndividuals};
+ghost use Rattle.search_rules.specs.Limits.{IsInLimit};
 ghost use Rattle.search_rules.specs.RuleLists.{AreNumbersOf};
 ghost use Rattle.completion_tree.specs.Trail.{facts_in};
 ghost use Rattle.search_state.specs.Followed.{IsCurrent};
-ghost use Rattle.tableau.specs.SearchState.{IsReachedBy, HasRun, HasBegun, IsSameSearch};
+ghost use Rattle.tableau.specs.SearchState.{context_of, tree_in, IsReachedBy, HasRun, HasBegun, IsSameSearch};
 ghost use Rattle.tableau.specs.Steps.{IsEvent, IsEnd, IsAtModel, ShowsApart};
 ghost use Rattle.tableau.specs.Bounds.{HasFewSteps, HasFewMarks};
 
@@ -84,7 +84,6 @@ impl<'b, A: Allocator + Copy> Search<'b, A> {
         requires numbers { AreNumbersOf rules.now query.now sub not_sup }
         requires set { rules.now.set.limit ≡ length rules.now.ontology.axioms }
         requires in_limit { IsInLimit rules.now.ontology query.now }
-        requires without_individuals { IsWithoutIndividuals rules.now.ontology query.now }
         ensures { IfOk result (HasBegun rules.entry.now query.entry.now sub not_sup) }
     {
         Ok(Search {
@@ -147,8 +146,8 @@ impl<'b, A: Allocator + Copy> Search<'b, A> {
 
     /// The classes of the ontology, each number greater by one, of which the search, which has ended at a model, shows
     /// that the query's subclass is not part of them: by the steps that were made, which a search for that could have
-    /// made. These are the classes that the run has left out, and there are none where the query asks for more than
-    /// whether anything is in its subclass.
+    /// made. These are the classes that the run has left out, and there are none where the query is on an individual or
+    /// asks for more than whether anything is in its subclass.
     ///
     /// # Errors
     ///
@@ -175,7 +174,8 @@ impl<'b, A: Allocator + Copy> Search<'b, A> {
 
     /// The tree, whose trail is reached by as many legal steps as were made, unless memory was refused.
     pub fn tree(&self) -> &Tree<A>
-        ensures { result.now ≡ self.now.entries }
+        ensures tree { result.now ≡ tree_in self.now }
+        ensures first { self.now.failed ≡ false → result.now.first ≡ (context_of self.now).first }
     {
         self.walker.tree()
     }
@@ -183,7 +183,7 @@ impl<'b, A: Allocator + Copy> Search<'b, A> {
     /// The blocks of all nodes of the tree, unless memory was refused.
     pub fn prints(&self) -> &Blocks
         ensures blocks { result.now ≡ self.now.prints }
-        ensures current { self.now.failed ≡ false → IsCurrent (facts_in self.now.entries) self.now.prints }
+        ensures current { self.now.failed ≡ false → IsCurrent self.now.first (facts_in self.now.entries) self.now.prints }
     {
         self.walker.prints()
     }

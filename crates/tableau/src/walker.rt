@@ -1,10 +1,10 @@
 // A search within a call.
 ghost use Rattle.std.specs.Prelude.{◌≡◌, ◌+◌, ◌<◌, ◌≤◌, ◌^◌, [], ◌∷◌, true, false, IsTrue, IfOk, OnOk, OnErr, length};
-ghost use Rattle.search_rules.specs.Limits.{IsInLimit, IsWithoutIndividuals};
+ghost use Rattle.search_rules.specs.Limits.{IsInLimit};
 ghost use Rattle.search_rules.specs.RuleLists.{AreNumbersOf};
 ghost use Rattle.completion_tree.specs.Trail.{items_of};
 ghost use Rattle.seen_concepts.specs.Seen.{AreOver, AreSeenIn};
-ghost use Rattle.tableau.specs.SearchState.{room_for, IsReachedBy, HasRun, HasBegun, HasAllBlocks, IsSameSearch};
+ghost use Rattle.tableau.specs.SearchState.{is_any, room_for, context_of, tree_in, IsReachedBy, HasRun, HasBegun, HasAllBlocks, IsSameSearch};
 ghost use Rattle.tableau.specs.Steps.{IsEvent, IsEnd, IsAtModel, ShowsApart};
 ghost use Rattle.tableau.specs.Bounds.{HasFewSteps, HasFewMarks};
 ghost use Rattle.tableau.specs.Inside.{goes_on as event_goes_on, is_spent, IsHalted, IsWalked};
@@ -17,7 +17,7 @@ use completion_tree::Tree;
 use search_rules::SearchRules;
 use search_state::{Blocks, Effort, Progress};
 use seen_concepts::{Rules, SeenClasses, few_marks, few_steps_without_going_back};
-use shq_terms::Query;
+use shq_terms::{On, Query};
 use std::alloc::{Allocator, Global};
 use std::marker::Model;
 
@@ -53,6 +53,7 @@ impl<'b, A: Allocator> Model for Walker<'b, A> {
       query = s.query.now;
       sub = s.sub;
       not_sup = s.not_sup;
+      first = s.progress.first;
       entries = s.progress.entries;
       prints = s.progress.prints;
       seen = s.seen;
@@ -68,6 +69,7 @@ impl<'b, A: Allocator> Model for Walker<'b, A> {
       query = s.query.now;
       sub = s.sub;
       not_sup = s.not_sup;
+      first = s.progress.first;
       entries = s.progress.entries;
       prints = s.progress.prints;
       seen = s.seen;
@@ -90,14 +92,15 @@ impl<'b, A: Allocator + Copy> Walker<'b, A> {
         requires numbers { AreNumbersOf rules.now query.now sub not_sup }
         requires set { rules.now.set.limit ≡ length rules.now.ontology.axioms }
         requires in_limit { IsInLimit rules.now.ontology query.now }
-        requires without_individuals { IsWithoutIndividuals rules.now.ontology query.now }
         ensures begun { IfOk result (HasBegun rules.entry.now query.entry.now sub not_sup) }
         ensures current { IfOk result HasAllBlocks }
     {
         rules.is_ready();
         let _ = rules.concepts();
-        let progress = Progress::new_in(alloc, heap, rules, query, sub, not_sup)?;
-        let seen = first_seen(heap, rules, progress.tree(), not_sup)?;
+        let at = rules.node_in_question(query);
+        let progress = Progress::new_in(alloc, heap, rules, query, at, sub, not_sup)?;
+        let room = room_for(rules, query, not_sup);
+        let seen = first_seen(heap, rules, progress.tree(), at, room)?;
         Ok(Walker {
             heap,
             rules,
@@ -273,7 +276,7 @@ impl<'b, A: Allocator + Copy> Walker<'b, A> {
         requires ended { IsAtModel self.now }
         ensures { IfOk result (ShowsApart self.now) }
     {
-        if self.not_sup != 0 {
+        if self.not_sup != 0 || !is_on_any(self.query) {
             return Ok(None);
         }
         let classes = self.seen.others(self.heap)?;
@@ -294,7 +297,8 @@ impl<'b, A: Allocator + Copy> Walker<'b, A> {
 
     /// The tree, whose trail is reached by as many legal steps as were made, unless memory was refused.
     pub(crate) fn tree(&self) -> &Tree<A>
-        ensures { result.now ≡ self.now.entries }
+        ensures tree { result.now ≡ tree_in self.now }
+        ensures first { self.now.failed ≡ false → result.now.first ≡ (context_of self.now).first }
     {
         self.progress.tree()
     }
@@ -319,21 +323,29 @@ fn first_seen<A: Allocator + Copy>(
     heap: Global,
     rules: &SearchRules<'_>,
     tree: &Tree<A>,
-    not_sup: u32,
+    at: u32,
+    room: u32,
 ) -> Result<SeenClasses, NoMemory>
-    ensures over { IfOk result (AreOver (room_for (length rules.now.ontology.classes) not_sup)) }
-    ensures seen { IfOk result (AreSeenIn rules.now.table (items_of tree.now ∷ [])) }
+    ensures over { IfOk result (AreOver room) }
+    ensures seen { IfOk result (AreSeenIn at rules.now.table (items_of tree.now.entries ∷ [])) }
 {
-    let mut seen = SeenClasses::new(heap, room_for(rules, not_sup))?;
-    seen.note(rules, tree, 0);
+    let mut seen = SeenClasses::new(heap, room)?;
+    seen.note(rules, tree, at, 0);
     Ok(seen)
 }
 
-// Of how many classes is noted what a run has to do with them.
-fn room_for(rules: &SearchRules<'_>, not_sup: u32) -> u32
-    ensures { result ≡ room_for (length rules.now.ontology.classes) not_sup }
+// Whether the query is on any element.
+fn is_on_any(query: &Query) -> bool
+    ensures { result ≡ is_any query.now.on }
 {
-    if not_sup == 0 {
+    matches!(query.on, On::Any)
+}
+
+// Of how many classes is noted what a run has to do with them.
+fn room_for(rules: &SearchRules<'_>, query: &Query, not_sup: u32) -> u32
+    ensures { result ≡ room_for (length rules.now.ontology.classes) query.now.on not_sup }
+{
+    if is_on_any(query) && not_sup == 0 {
         rules.ontology().class_count()
     } else {
         0

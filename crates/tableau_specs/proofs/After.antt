@@ -6,7 +6,7 @@ use Rattle.std.proofs.Math.Bool.{or-false, or_assoc}
 use Rattle.calculus_specs.specs.declared.facts.Fact.{Fact}
 use Rattle.calculus_specs.specs.declared.facts.Fact.TheVariants.{Has, Edge, Apart, Same}
 use Rattle.calculus_specs.specs.Joins.{rep}
-use Rattle.calculus_specs.specs.State.{node_count, gives_concept, gives_edge, gives_apart, has, has_edge, is_successor, successors, are_apart, all_apart}
+use Rattle.calculus_specs.specs.State.{node_count_from, gives_concept, gives_edge, gives_apart, has, has_edge, is_successor, successors_from, are_apart, all_apart}
 use Rattle.tableau_specs.specs.Clash.{filled_successors}
 use Rattle.tableau_specs.proofs.TreeShaped.{reps-snoc}
 
@@ -28,17 +28,17 @@ filter_again p q r same (x ∷ xs) =
 -- ---- what does not change
 
 -- fs' says of joins, edges, nodes and nodes apart what fs says
-pub record IsAlike (fs fs' : List (Fact ℕ)) : Type 0 where
+pub record IsAlike (first : ℕ) (fs fs' : List (Fact ℕ)) : Type 0 where
   pub reps : rep fs' ≡ rep fs
-  pub nodes : node_count fs' ≡ node_count fs
+  pub nodes : node_count_from first fs' ≡ node_count_from first fs
   pub edges : (roles : ℕ → Bool) (x y : ℕ) → has_edge fs' roles x y ≡ has_edge fs roles x y
   pub aparts : (x y : ℕ) → are_apart fs' x y ≡ are_apart fs x y
 
-module _ (fs fs' : List (Fact ℕ)) (alike : IsAlike fs fs') where
+module _ (first : ℕ) (fs fs' : List (Fact ℕ)) (alike : IsAlike first fs fs') where
   pub successor_alike : (roles : ℕ → Bool) (x y : ℕ) → is_successor fs' roles x y ≡ is_successor fs roles x y
   successor_alike roles x y = λ i. eqb (alike.reps i y) y && alike.edges roles x y i
 
-  pub successors_alike : (roles : ℕ → Bool) (x : ℕ) → successors fs' roles x ≡ successors fs roles x
+  pub successors_alike : (roles : ℕ → Bool) (x : ℕ) → successors_from first fs' roles x ≡ successors_from first fs roles x
   successors_alike roles x = λ i. filter (λ y. successor_alike roles x y i) (range_with_len 0 (alike.nodes i))
 
   pub all_apart_alike : (ys : List ℕ) → all_apart fs' ys ≡ all_apart fs ys
@@ -47,19 +47,19 @@ module _ (fs fs' : List (Fact ℕ)) (alike : IsAlike fs fs') where
 
   -- the filled_successors successors, where successors have the filler as before
   pub filled_alike : (below : ℕ → ℕ → Bool) (x s e : ℕ) → ((y : ℕ) → is_successor fs (λ r. below r s) x y ≡ true → has fs' y e ≡ has fs y e)
-      → filled_successors below fs' x s e ≡ filled_successors below fs x s e
+      → filled_successors first below fs' x s e ≡ filled_successors first below fs x s e
   filled_alike below x s e same =
       ap (filter (λ y. has fs' y e)) (successors_alike (λ r. below r s) x)
-      ∙ filter_again (is_successor fs (λ r. below r s) x) (λ y. has fs' y e) (λ y. has fs y e) same (range_with_len 0 (node_count fs))
+      ∙ filter_again (is_successor fs (λ r. below r s) x) (λ y. has fs' y e) (λ y. has fs y e) same (range_with_len 0 (node_count_from first fs))
 
 -- ---- a concept more
 
-count-has : (fs : List (Fact ℕ)) (x c : ℕ) → node_count (fs ++ Has x c ∷ []) ≡ node_count fs
-count-has [] x c = refl
-count-has (Edge r v w ∷ fs) x c = ap (max (w + 1)) (count-has fs x c)
-count-has (Has v d ∷ fs) x c = count-has fs x c
-count-has (Apart v w ∷ fs) x c = count-has fs x c
-count-has (Same v w ∷ fs) x c = count-has fs x c
+count-has : (first : ℕ) (fs : List (Fact ℕ)) (x c : ℕ) → node_count_from first (fs ++ Has x c ∷ []) ≡ node_count_from first fs
+count-has first [] x c = refl
+count-has first (Edge r v w ∷ fs) x c = ap (max (w + 1)) (count-has first fs x c)
+count-has first (Has v d ∷ fs) x c = count-has first fs x c
+count-has first (Apart v w ∷ fs) x c = count-has first fs x c
+count-has first (Same v w ∷ fs) x c = count-has first fs x c
 
 module _ (fs : List (Fact ℕ)) (x d : ℕ) where
   abbrev after : List (Fact ℕ)
@@ -68,10 +68,10 @@ module _ (fs : List (Fact ℕ)) (x d : ℕ) where
   reps_has : rep after ≡ rep fs
   reps_has = reps-snoc fs (Has x d)
 
-  pub has_alike : IsAlike fs after
-  has_alike = record {
+  pub has_alike : (first : ℕ) → IsAlike first fs after
+  has_alike first = record {
     reps = reps_has;
-    nodes = count-has fs x d;
+    nodes = count-has first fs x d;
     edges = λ roles y z.
         ap (λ (m : ℕ → ℕ). list_any (gives_edge roles m (m y) (m z)) after) reps_has
         ∙ any-snoc (gives_edge roles (rep fs) (rep fs y) (rep fs z)) fs (Has x d)

@@ -7,8 +7,7 @@ use Rattle.std.proofs.Math.Bool.{and-false}
 use Rattle.calculus_specs.specs.declared.facts.Fact.{Fact}
 use Rattle.calculus_specs.specs.declared.facts.Fact.TheVariants.{Has, Edge, Apart, Same}
 use Rattle.calculus_specs.specs.Joins.{rep_from, rep_after, merged}
-use Rattle.calculus_specs.specs.State.{gives_concept, gives_edge}
-use Rattle.tableau_specs.specs.Near.{speaks_below}
+use Rattle.calculus_specs.specs.State.{gives_concept, gives_edge, speaks_below}
 
 -- representatives do not rise
 abbrev pub Falls : (ℕ → ℕ) → Type 0

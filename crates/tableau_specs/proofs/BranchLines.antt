@@ -13,9 +13,9 @@ use Rattle.calculus_specs.specs.Tree.{tree_of, trees_of}
 use Rattle.calculus_specs.proofs.Unique.{part_list-parts_of}
 use Rattle.calculus_specs.specs.declared.facts.Fact.{Fact}
 use Rattle.calculus_specs.specs.declared.facts.Fact.TheVariants.{Has, Apart, Same}
-use Rattle.calculus_specs.specs.State.{node_count, has, is_successor}
+use Rattle.calculus_specs.specs.State.{node_count_from, has, is_successor}
 use Rattle.calculus_specs.specs.Reading.{read_fact}
-use Rattle.calculus_specs.specs.Rules.{Known, when, with_facts, or_children, choose_children, knows}
+use Rattle.calculus_specs.specs.Rules.{Question, Known, when, with_facts, or_children, choose_children, knows}
 use Rattle.tableau_specs.specs.declared.Branch.{Branch}
 use Rattle.tableau_specs.specs.declared.Branch.TheVariants.{Or, Choose, Pair}
 use Rattle.tableau_specs.specs.Clash.{filled_successors}
@@ -97,57 +97,57 @@ module _ (table : List Shape) where
 
   -- ---- the children of a branch
 
-  module _ (fs : List (Fact ℕ)) where
+  module _ (first : ℕ) (fs : List (Fact ℕ)) where
     child_of : (b : Branch) (k : ℕ) (o : Option (Fact Concept)) (child : Known) → IsNumbered table b → slice_get (alternatives table b) k ≡ o
-        → option_map (known_with table fs) o ≡ Some child → (f : Fact ℕ) × IsAlternative table b (k + 1) f × (child ≡ known_with table fs (read f))
+        → option_map (known_with first table fs) o ≡ Some child → (f : Fact ℕ) × IsAlternative table b (k + 1) f × (child ≡ known_with first table fs (read f))
     child_of b k None child numbered at h = cc
     child_of b k (Some t) child numbered at h =
         let r = from_place b numbered k t at in
-        let e : child ≡ known_with table fs t = cc in
-        (r.fact, r.is_alternative, e ∙ ap (known_with table fs) r.is_read)
+        let e : child ≡ known_with first table fs t = cc in
+        (r.fact, r.is_alternative, e ∙ ap (known_with first table fs) r.is_read)
 
-    pub alternatives_are_children : (b : Branch) → AlternativesAreChildren table fs b
+    pub alternatives_are_children : (b : Branch) → AlternativesAreChildren first table fs b
     alternatives_are_children b = record {
-      each = λ k f alt. slice_get-map (known_with table fs) (alternatives table b) k ∙ ap (option_map (known_with table fs)) (in_place b k (k + 1) f refl alt);
+      each = λ k f alt. slice_get-map (known_with first table fs) (alternatives table b) k ∙ ap (option_map (known_with first table fs)) (in_place b k (k + 1) f refl alt);
       only = λ numbered k child h.
-          child_of b k (slice_get (alternatives table b) k) child numbered refl (sym (slice_get-map (known_with table fs) (alternatives table b) k) ∙ h);
+          child_of b k (slice_get (alternatives table b) k) child numbered refl (sym (slice_get-map (known_with first table fs) (alternatives table b) k) ∙ h);
       in_range = λ n f alt.
           let r = numbers_within b n f alt in
-          (r.0, omega (arith, r.1, length-map (alternatives table b) (known_with table fs)));
+          (r.0, omega (arith, r.1, length-map (alternatives table b) (known_with first table fs)));
     }
 
 -- ---- the line of a branch
 
-module _ (w : SearchContext) (sub sup : Concept) (fs : List (Fact ℕ)) (over : IsOver w fs) where
+module _ (w : SearchContext) (q : Question) (fs : List (Fact ℕ)) (over : IsOver w fs) where
   abbrev state : Known
-  state = known_by w.table fs
+  state = known_by w.first w.table fs
 
   union_children : (x : ℕ) (parts : List ℕ) → map {B = Known} (λ d. with_facts state (Has x d ∷ [])) (map (λ c. get_or (trees_of w.table) c top) parts)
-      ≡ map (known_with w.table fs) (map (λ d. Has x (tree_of w.table d)) parts)
+      ≡ map (known_with w.first w.table fs) (map (λ d. Has x (tree_of w.table d)) parts)
   union_children x [] = refl
-  union_children x (d ∷ ds) = ap (λ (l : List Known). known_with w.table fs (Has x (tree_of w.table d)) ∷ l) (union_children x ds)
+  union_children x (d ∷ ds) = ap (λ (l : List Known). known_with w.first w.table fs (Has x (tree_of w.table d)) ∷ l) (union_children x ds)
 
-  or_gives : (x c : ℕ) (parts : List ℕ) → x < node_count fs → has fs x c ≡ true → shape_of w.table c ≡ or_shape parts
-      → children_in w sub sup fs (line_of_branch (Or x c)) ≡ Some (children_of_branch w.table fs (Or x c))
+  or_gives : (x c : ℕ) (parts : List ℕ) → x < node_count_from w.first fs → has fs x c ≡ true → shape_of w.table c ≡ or_shape parts
+      → children_in w q fs (line_of_branch (Or x c)) ≡ Some (children_of_branch w.first w.table fs (Or x c))
   or_gives x c parts lt h sh =
-      at_shape w sub sup fs over x c (or_shape parts) (or_children state x) lt h sh (λ e. cc)
+      at_shape w q fs over x c (or_shape parts) (or_children state x) lt h sh (λ e. cc)
       ∙ ap (λ (l : List Concept). Some (map (λ d. with_facts state (Has x d ∷ [])) l)) (part_list-parts_of (map (λ c. get_or (trees_of w.table) c top) parts))
       ∙ ap (λ (l : List Known). Some l) (union_children x parts)
-      ∙ ap (λ (s : Shape). Some (map (known_with w.table fs) (map (λ d. Has x (tree_of w.table d)) (disjuncts s)))) (sym sh)
+      ∙ ap (λ (s : Shape). Some (map (known_with w.first w.table fs) (map (λ d. Has x (tree_of w.table d)) (disjuncts s)))) (sym sh)
 
-  gives : (b : Branch) → MayBranch w fs b → children_in w sub sup fs (line_of_branch b) ≡ Some (children_of_branch w.table fs b)
+  gives : (b : Branch) → MayBranch w fs b → children_in w q fs (line_of_branch b) ≡ Some (children_of_branch w.first w.table fs b)
   gives b (on_union x c parts lt h sh none) = or_gives x c parts lt h sh
   gives b (on_filler x c n s e y lt h sh next none out) =
       let et = most_listed w over.is_table c n s e sh in
-      let known = is_known w sub sup fs over y (successor_is_node fs (λ r. below_of w r s) x y next) in
-      ap (choose_children state y) (concept_reads w sub sup fs over e et) ∙ ap (λ (t : Bool). when t (Some (children_of_branch w.table fs (Choose y e)))) known
+      let known = is_known w q fs over y (successor_is_node w.first fs (λ r. below_of w r s) x y next) in
+      ap (choose_children state y) (concept_reads w q fs over e et) ∙ ap (λ (t : Bool). when t (Some (children_of_branch w.first w.table fs (Choose y e)))) known
   gives b (on_pair x c n s e y z lt h sh more cy cz ne apart) =
       let test : ℕ → Type 0 = λ v. is_successor fs (λ r. below_of w r s) x v ≡ true in
-      let all = filled_are_successors (below_of w) fs x s e in
-      let ky = is_known w sub sup fs over y (successor_is_node fs (λ r. below_of w r s) x y (All-contains test (filled_successors (below_of w) fs x s e) y all cy)) in
-      let kz = is_known w sub sup fs over z (successor_is_node fs (λ r. below_of w r s) x z (All-contains test (filled_successors (below_of w) fs x s e) z all cz)) in
-      ap (λ (t : Bool). when (t && knows state z) (Some (children_of_branch w.table fs (Pair y z)))) ky
-      ∙ ap (λ (t : Bool). when t (Some (children_of_branch w.table fs (Pair y z)))) kz
+      let all = filled_are_successors w.first (below_of w) fs x s e in
+      let ky = is_known w q fs over y (successor_is_node w.first fs (λ r. below_of w r s) x y (All-contains test (filled_successors w.first (below_of w) fs x s e) y all cy)) in
+      let kz = is_known w q fs over z (successor_is_node w.first fs (λ r. below_of w r s) x z (All-contains test (filled_successors w.first (below_of w) fs x s e) z all cz)) in
+      ap (λ (t : Bool). when (t && knows state z) (Some (children_of_branch w.first w.table fs (Pair y z)))) ky
+      ∙ ap (λ (t : Bool). when t (Some (children_of_branch w.first w.table fs (Pair y z)))) kz
 
-  pub branch_is_line : (b : Branch) → MayBranch w fs b → BranchIsLine w sub sup fs b
-  branch_is_line b may = record { children = gives b may; alternatives = alternatives_are_children w.table fs b }
+  pub branch_is_line : (b : Branch) → MayBranch w fs b → BranchIsLine w q fs b
+  branch_is_line b may = record { children = gives b may; alternatives = alternatives_are_children w.table w.first fs b }

@@ -10,12 +10,12 @@ use Rattle.calculus_specs.specs.Shape.{Shape, shape_of}
 use Rattle.calculus_specs.specs.Shape.Shape.{top, bottom, name, not_name, at_most}
 use Rattle.calculus_specs.specs.declared.facts.Fact.{Fact}
 use Rattle.calculus_specs.specs.Joins.{rep}
-use Rattle.calculus_specs.specs.State.{node_count, gives_concept, gives_edge, has, has_edge, is_successor, are_apart, all_apart, fresh_facts}
+use Rattle.calculus_specs.specs.State.{node_count_from, gives_concept, gives_edge, has, has_edge, is_successor, are_apart, all_apart, fresh_facts, speak_of_nodes}
 use Rattle.calculus_specs.proofs.Joined.{rep-le}
 use Rattle.tableau_specs.specs.Clash.{filled_successors, IsPlainClash}
-use Rattle.tableau_specs.specs.Clash.IsPlainClash.{plain_bottom, plain_names, plain_most}
+use Rattle.tableau_specs.specs.Clash.IsPlainClash.{plain_bottom, plain_names, plain_most, plain_differ}
 use Rattle.tableau_specs.proofs.PlainClash.{successor_is_node, filled_are_successors}
-use Rattle.tableau_specs.specs.Near.{speak_of_nodes, IsOverrun, ClashesByNew}
+use Rattle.tableau_specs.specs.Near.{IsOverrun, ClashesByNew}
 use Rattle.tableau_specs.specs.Near.ClashesByNew.{new_bottom, new_overrun}
 use Rattle.tableau_specs.proofs.Bare.{own_rep, no_concept, no_edge_from, no_edge_to}
 use Rattle.tableau_specs.proofs.Grown.{in_run, before_run, from_run, IsGrown, is_grown}
@@ -68,15 +68,15 @@ no_fit true false r z d h = refl
 no_fit true true false z d h = refl
 no_fit true true true z d h = h
 
-module _ (below : ℕ → ℕ → Bool) (table : List Shape) (fs : List (Fact ℕ)) (x s e n : ℕ) (begins : shape_of table 0 ≡ top) (speak : speak_of_nodes fs ≡ true) (within : x < node_count fs) where
+module _ (base : ℕ) (below : ℕ → ℕ → Bool) (table : List Shape) (fs : List (Fact ℕ)) (x s e n : ℕ) (begins : shape_of table 0 ≡ top) (speak : speak_of_nodes base fs ≡ true) (within : x < node_count_from base fs) where
   abbrev first : ℕ
-  first = node_count fs
+  first = node_count_from base fs
 
   abbrev after : List (Fact ℕ)
   after = fs ++ fresh_facts x s e first n
 
-  grown : IsGrown fs after x s e first n
-  grown = is_grown fs x s e n speak
+  grown : IsGrown base fs after x s e first n
+  grown = is_grown base fs x s e n speak
 
   alone : (z : ℕ) → first ≤ z → rep fs z ≡ z
   alone z le = own_rep (λ y. y) first z fs falls_none speak le refl
@@ -108,8 +108,8 @@ module _ (below : ℕ → ℕ → Bool) (table : List Shape) (fs : List (Fact �
   abbrev fits : List (Fact ℕ) → ℕ → ℕ → ℕ → ℕ → Bool
   fits gs y t d z = is_successor gs (λ r. below r t) y z && has gs z d
 
-  filled_is : (gs : List (Fact ℕ)) (y t d : ℕ) → filled_successors below gs y t d ≡ filter (fits gs y t d) (range_with_len 0 (node_count gs))
-  filled_is gs y t d = filter_filter (is_successor gs (λ r. below r t) y) (λ z. has gs z d) (range_with_len 0 (node_count gs))
+  filled_is : (gs : List (Fact ℕ)) (y t d : ℕ) → filled_successors base below gs y t d ≡ filter (fits gs y t d) (range_with_len 0 (node_count_from base gs))
+  filled_is gs y t d = filter_filter (is_successor gs (λ r. below r t) y) (λ z. has gs z d) (range_with_len 0 (node_count_from base gs))
 
   -- whether the new edges and the new concept may make y have more that fit
   abbrev is_near : ℕ → ℕ → ℕ → Bool
@@ -134,7 +134,7 @@ module _ (below : ℕ → ℕ → Bool) (table : List Shape) (fs : List (Fact �
       grown.holds z d ∙ ap (λ (b : Bool). b || (in_run (rep fs z) first n && eqb e d)) (top_alone z d le) in
       (λ i. (eqb (rep after z) z && edge i) && holds i) ∙ no_fit (eqb (rep after z) z) E (in_run (rep fs z) first n) (eqb d 0) (eqb e d) far
 
-  filled_before : (y t d : ℕ) → is_near y t d ≡ false → filled_successors below after y t d ≡ filled_successors below fs y t d
+  filled_before : (y t d : ℕ) → is_near y t d ≡ false → filled_successors base below after y t d ≡ filled_successors base below fs y t d
   filled_before y t d far =
       filled_is after y t d
       ∙ ap (λ (k : ℕ). filter (fits after y t d) (range_with_len 0 k)) grown.nodes
@@ -153,9 +153,9 @@ module _ (below : ℕ → ℕ → Bool) (table : List Shape) (fs : List (Fact �
   other y le = ne_eqb (rep fs x) (rep fs y) (λ k. absurd (omega (arith, k, rep-le fs x, alone y le, le, within)))
 
   -- new nodes have no successors
-  none_filled : (y t d : ℕ) → first ≤ y → filled_successors below after y t d ≡ []
+  none_filled : (y t d : ℕ) → first ≤ y → filled_successors base below after y t d ≡ []
   none_filled y t d le =
-      filled_is after y t d ∙ none_in_row (fits after y t d) 0 (node_count after) (λ z at.
+      filled_is after y t d ∙ none_in_row (fits after y t d) 0 (node_count_from base after) (λ z at.
       let edge : has_edge after (λ r. below r t) y z ≡ false =
       grown.edges (λ r. below r t) y z
       ∙ (λ i. edge_gone z t y le i || ((below s t && other y le i) && in_run (rep fs z) first n))
@@ -174,21 +174,21 @@ module _ (below : ℕ → ℕ → Bool) (table : List Shape) (fs : List (Fact �
       let tail = All-tail (λ z. z < first) y ys h in
       (λ i. all_before y ys (All-head (λ z. z < first) y ys h) tail i && all_apart_before ys tail i)
 
-  filled_old : (y t d : ℕ) → All (λ z. z < first) (filled_successors below fs y t d)
+  filled_old : (y t d : ℕ) → All (λ z. z < first) (filled_successors base below fs y t d)
   filled_old y t d =
-      All-weaker (λ z. is_successor fs (λ r. below r t) y z ≡ true) (λ z. z < first) (λ z h. successor_is_node fs (λ r. below r t) y z h) (filled_successors below fs y t d)
-      (filled_are_successors below fs y t d)
+      All-weaker (λ z. is_successor fs (λ r. below r t) y z ≡ true) (λ z. z < first) (λ z h. successor_is_node base fs (λ r. below r t) y z h) (filled_successors base below fs y t d)
+      (filled_are_successors base below fs y t d)
 
-  module _ (none : ¬ IsPlainClash below table fs) where
+  module _ (none : ¬ IsPlainClash base below table fs) where
     not_top : (c : ℕ) (sh : Shape) → c ≡ 0 → shape_of table c ≡ sh → top ≡ sh
     not_top c sh k h = sym begins ∙ ap (shape_of table) (sym k) ∙ h
 
-    near_bottom : (y c : ℕ) → shape_of table c ≡ bottom → Source y c → ClashesByNew below table after x s e
+    near_bottom : (y c : ℕ) → shape_of table c ≡ bottom → Source y c → ClashesByNew base below table after x s e
     near_bottom y c sh (is_old lt h) = absurd (none (plain_bottom y c lt h sh))
     near_bottom y c sh (is_top k) = (let t = not_top c bottom k sh in cc)
     near_bottom y c sh (is_new le k) = new_bottom (ap (shape_of table) k ∙ sh)
 
-    near_names : (y c d a : ℕ) → shape_of table c ≡ name a → shape_of table d ≡ not_name a → Source y c → Source y d → ClashesByNew below table after x s e
+    near_names : (y c d a : ℕ) → shape_of table c ≡ name a → shape_of table d ≡ not_name a → Source y c → Source y d → ClashesByNew base below table after x s e
     near_names y c d a sh th (is_old lt h) (is_old mt g) = absurd (none (plain_names y c d a lt h sh g th))
     near_names y c d a sh th (is_old lt h) (is_new le k) = absurd (omega (arith, lt, le))
     near_names y c d a sh th (is_old lt h) (is_top k) = (let t = not_top d (not_name a) k th in cc)
@@ -197,7 +197,7 @@ module _ (below : ℕ → ℕ → Bool) (table : List Shape) (fs : List (Fact �
     near_names y c d a sh th (is_new le k) (is_top l) = (let t = not_top d (not_name a) l th in cc)
     near_names y c d a sh th (is_new le k) (is_new le' l) = (let t : name a ≡ not_name a = sym sh ∙ ap (shape_of table) (sym k ∙ l) ∙ th in cc)
 
-    near_most : (y c m t d : ℕ) → IsOverrun below table after y c m t d → Source y c → ClashesByNew below table after x s e
+    near_most : (y c m t d : ℕ) → IsOverrun base below table after y c m t d → Source y c → ClashesByNew base below table after x s e
     near_most y c m t d h (is_top k) = (let l = not_top c (at_most m t d) k h.shape in cc)
     near_most y c m t d h (is_new le k) = absurd (omega (arith, subst (λ (vs : List ℕ). m < length vs) (none_filled y t d le) h.more))
     near_most y c m t d h (is_old lt old) = elim (cases_Bool (is_near y t d)) [
@@ -207,27 +207,42 @@ module _ (below : ℕ → ℕ → Bool) (table : List Shape) (fs : List (Fact �
           let same : rep after y ≡ rep after x = ap (λ (r : ℕ → ℕ). r y) grown.reps ∙ sym (eqb-true (rep fs x) (rep fs y) v.1) ∙ sym (ap (λ (r : ℕ → ℕ). r x) grown.reps) in
           new_overrun c m t d v.0
           (elim (or_cases (eqb d 0) (eqb e d) u.1) [ inl zero' ↦ inl (eqb-true d 0 zero') | inr new ↦ inr (sym (eqb-true e d new)) ])
-          (overrun_at after below table y x c m t d same h)
+          (overrun_at after base below table y x c m t d same h)
       | inr miss ↦
           let same = filled_before y t d miss in
           absurd (none (plain_most y c m t d lt old h.shape (subst (λ (vs : List ℕ). m < length vs) same h.more)
-          (sym (all_apart_before (filled_successors below fs y t d) (filled_old y t d)) ∙ subst (λ (vs : List ℕ). all_apart after vs ≡ true) same h.every)))
+          (sym (all_apart_before (filled_successors base below fs y t d) (filled_old y t d)) ∙ subst (λ (vs : List ℕ). all_apart after vs ≡ true) same h.every)))
     ]
 
-    near : IsPlainClash below table after → ClashesByNew below table after x s e
+    near : IsPlainClash base below table after → ClashesByNew base below table after x s e
     near (plain_bottom y c lt h sh) = near_bottom y c sh (source y c h)
     near (plain_names y c d a lt h sh g th) = near_names y c d a sh th (source y c h) (source y d g)
     near (plain_most y c m t d lt h sh more every) = near_most y c m t d (record { holds = h; shape = sh; more = more; every = every }) (source y c h)
+    near (plain_differ a b lt mt h k) =
+        let same : rep fs a ≡ rep fs b = sym (ap (λ (r : ℕ → ℕ). r a) grown.reps) ∙ k ∙ ap (λ (r : ℕ → ℕ). r b) grown.reps in
+        elim (cases_lt a first) [
+          | inl low ↦ elim (cases_lt b first) [
+            | inl low' ↦ absurd (none (plain_differ a b low low' (sym (grown.aparts a b low low') ∙ h) same))
+            | inr high' ↦ absurd (omega (arith, same, alone b high', rep-le fs a, low, high'))
+          ]
+          | inr high ↦ elim (cases_lt b first) [
+            | inl low' ↦ absurd (omega (arith, same, alone a high, rep-le fs b, low', high))
+            | inr high' ↦
+                let one : a ≡ b = sym (alone a high) ∙ same ∙ alone b high' in
+                let there : are_apart after a a ≡ true = ap (are_apart after a) one ∙ h in
+                (let out = grown.itself a high in cc)
+          ]
+        ]
 
-  far : x < node_count after → 0 < n → ClashesByNew below table after x s e → IsPlainClash below table after
+  far : x < node_count_from base after → 0 < n → ClashesByNew base below table after x s e → IsPlainClash base below table after
   far lt pos (new_bottom sh) =
       plain_bottom first e (omega (arith, grown.nodes, pos))
       (grown.holds first e ∙ ap (λ (a : ℕ). has fs first e || (in_run a first n && eqb e e)) (alone first (omega arith))
       ∙ or_right (has fs first e) (in_run first first n && eqb e e) (rw (in_own_run first n pos, eq-eqb e e refl) refl)) sh
   far lt pos (new_overrun c m t d b or h) = plain_most x c m t d lt h.holds h.shape h.more h.every
 
-pub block_clashes : (below : ℕ → ℕ → Bool) (table : List Shape) (fs : List (Fact ℕ)) (x s e n : ℕ) → shape_of table 0 ≡ top → speak_of_nodes fs ≡ true → x < node_count fs → 0 < n
-    → ¬ IsPlainClash below table fs
-    → IsPlainClash below table (fs ++ fresh_facts x s e (node_count fs) n) ↔ ClashesByNew below table (fs ++ fresh_facts x s e (node_count fs) n) x s e
-block_clashes below table fs x s e n begins speak lt pos none =
-    (near below table fs x s e n begins speak lt none, far below table fs x s e n begins speak lt (omega (arith, (is_grown fs x s e n speak).nodes, lt)) pos)
+pub block_clashes : (base : ℕ) (below : ℕ → ℕ → Bool) (table : List Shape) (fs : List (Fact ℕ)) (x s e n : ℕ) → shape_of table 0 ≡ top → speak_of_nodes base fs ≡ true → x < node_count_from base fs → 0 < n
+    → ¬ IsPlainClash base below table fs
+    → IsPlainClash base below table (fs ++ fresh_facts x s e (node_count_from base fs) n) ↔ ClashesByNew base below table (fs ++ fresh_facts x s e (node_count_from base fs) n) x s e
+block_clashes base below table fs x s e n begins speak lt pos none =
+    (near base below table fs x s e n begins speak lt none, far base below table fs x s e n begins speak lt (omega (arith, (is_grown base fs x s e n speak).nodes, lt)) pos)

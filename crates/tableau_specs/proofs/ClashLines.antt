@@ -1,6 +1,6 @@
 -- A clash is a rule line without children whose premises hold, and such a line is a clash, or tells that two nodes are
 -- apart and one.
-use Rattle.std.proofs.Common.{◌≡◌, ◌⊎◌, ℕ, zero, suc, ◌+◌, ◌<◌, ◌&&◌, eqb, ltb, cond, Bool, true, false, List, [], ◌∷◌, map, length, get_or, Option, Some, None, refl, ap, ◌∙◌, sym, arith, inl, inr, eq-eqb}
+use Rattle.std.proofs.Common.{◌≡◌, ℕ, zero, suc, ◌+◌, ◌<◌, ◌&&◌, eqb, ltb, cond, Bool, true, false, List, [], ◌∷◌, map, length, get_or, Option, Some, None, refl, ap, ◌∙◌, sym, arith, inl, inr, eq-eqb}
 use Rattle.std.specs.List.{list_any, range_with_len, All}
 use Rattle.std.proofs.lemmas.Bool.{cases_Bool, or_cases, eqb-true, ltb-true, and_parts, or_right}
 use Rattle.std.proofs.lemmas.List.Elements.{All-nil, All-cons}
@@ -16,19 +16,18 @@ use Rattle.calculus_specs.proofs.Unique.{tree_of_shape}
 use Rattle.calculus_specs.specs.declared.facts.Fact.{Fact}
 use Rattle.calculus_specs.specs.declared.facts.Fact.TheVariants.{Has, Edge, Apart, Same}
 use Rattle.calculus_specs.specs.Joins.{rep}
-use Rattle.calculus_specs.specs.State.{node_count, gives_concept, has, has_tree, has_edge, are_apart, all_apart}
+use Rattle.calculus_specs.specs.State.{node_count_from, gives_concept, has, has_tree, has_edge, are_apart, all_apart}
 use Rattle.calculus_specs.specs.Reading.{read_facts, are_listed}
 use Rattle.calculus_specs.proofs.Reading.{keeps_state, reps-read, has-read}
 use Rattle.calculus_specs.specs.Line.{Line}
 use Rattle.calculus_specs.specs.Line.Line.{start_line, and_line, or_line, all_line, carry_line, row_line, range_line, some_line, least_line, choose_line, pair_line, bottom_line, clash_line, most_line, fact_line, differ_line}
-use Rattle.calculus_specs.specs.Rules.{on_any, Known, knows, with_facts, when, at_concept, start_children, and_children, or_children, all_children, carry_children, row_children, range_children, some_children, least_children, choose_children, clash_children, most_children, differ_children, are_fillers}
+use Rattle.calculus_specs.specs.Rules.{Question, Known, knows, with_facts, when, at_concept, start_children, and_children, or_children, all_children, carry_children, row_children, range_children, some_children, least_children, choose_children, clash_children, most_children, fact_children, differ_children, are_fillers}
 use Rattle.tableau_specs.specs.Clash.{IsClash}
-use Rattle.tableau_specs.specs.Clash.IsClash.{of_bottom, of_names, of_most}
+use Rattle.tableau_specs.specs.Clash.IsClash.{of_bottom, of_names, of_most, of_differ}
 use Rattle.tableau_specs.specs.Steps.{SearchContext, below_of}
-use Rattle.tableau_specs.proofs.TreeShaped.{count_pos}
 use Rattle.tableau_specs.proofs.Listed.{listed, most_listed}
-use Rattle.tableau_specs.specs.Lines.{known_by, concept_in, children_in, line_of_clash}
-use Rattle.tableau_specs.specs.LineLaws.{IsOver, HasOneApart}
+use Rattle.tableau_specs.specs.Lines.{asked_in, known_by, concept_in, children_in, line_of_clash}
+use Rattle.tableau_specs.specs.LineLaws.{IsOver}
 use Rattle.tableau_specs.proofs.PlainClash.{FilledSuccessor, all_filled_parts, all_filled_from}
 use Rattle.tableau_specs.proofs.KnownFacts.{is_known, reads, holds, edge_reads, at_shape, fillers_read, all_apart_reads}
 use Rattle.tableau_specs.proofs.AddLines.{in_range_below}
@@ -116,12 +115,12 @@ number_of table t m at (Same y z ∷ fs) h g = more_number table t m at (Same y 
 
 -- ---- the lines that are a clash
 
-module _ (w : SearchContext) (sub sup : Concept) (fs : List (Fact ℕ)) (over : IsOver w fs) where
+module _ (w : SearchContext) (q : Question) (fs : List (Fact ℕ)) (over : IsOver w fs) where
   abbrev state : Known
-  state = known_by w.table fs
+  state = known_by w.first w.table fs
 
-  node_of : (x : ℕ) → knows state x ≡ true → x < node_count fs
-  node_of x h = omega (arith, in_range_below x 0 (node_count fs) h)
+  node_of : (x : ℕ) → knows state x ≡ true → x < node_count_from w.first fs
+  node_of x h = omega (arith, in_range_below x 0 (node_count_from w.first fs) h)
 
   -- the number of a concept other than top that a node has
   record HasNumber (x : ℕ) (t : Concept) : Type 0 where
@@ -141,7 +140,7 @@ module _ (w : SearchContext) (sub sup : Concept) (fs : List (Fact ℕ)) (over : 
 
   -- a line at a number whose concept the node has
   record AtNumber {A : Type 0} (x c : ℕ) (answer : Concept → Option A) (v : A) : Type 0 where
-    node : x < node_count fs
+    node : x < node_count_from w.first fs
     listed : c < length w.table
     holds : has fs x c ≡ true
     is : answer (tree_of w.table c) ≡ Some v
@@ -151,54 +150,54 @@ module _ (w : SearchContext) (sub sup : Concept) (fs : List (Fact ℕ)) (over : 
     | inl in' ↦
         let lt = ltb-true c (length w.table) in' in
         let g = ap (λ (b : Bool). at_concept state x (cond b (Some (tree_of w.table c)) None) answer) (sym in') ∙ h in
-        let q = when_some (knows state x && has_tree state.facts x (tree_of w.table c)) (answer (tree_of w.table c)) v g in
-        let t = and_parts (knows state x) (has_tree state.facts x (tree_of w.table c)) q.test in
-        record { node = node_of x t.0; listed = lt; holds = sym (has-read w.table over.is_table fs over.listed x c lt) ∙ t.1; is = q.is }
+        let p = when_some (knows state x && has_tree state.facts x (tree_of w.table c)) (answer (tree_of w.table c)) v g in
+        let t = and_parts (knows state x) (has_tree state.facts x (tree_of w.table c)) p.test in
+        record { node = node_of x t.0; listed = lt; holds = sym (has-read w.table over.is_table fs over.listed x c lt) ∙ t.1; is = p.is }
     | inr out ↦ (let g = ap (λ (b : Bool). at_concept state x (cond b (Some (tree_of w.table c)) None) answer) (sym out) ∙ h in cc)
   ]
 
-  fillers_of : (x s e : ℕ) (ys : List ℕ) → e < length w.table → are_fillers w.theory state x s (tree_of w.table e) ys ≡ true → All (FilledSuccessor (below_of w) fs x s e) ys
-  fillers_of x s e [] lt h = All-nil (FilledSuccessor (below_of w) fs x s e)
+  fillers_of : (x s e : ℕ) (ys : List ℕ) → e < length w.table → are_fillers w.theory state x s (tree_of w.table e) ys ≡ true → All (FilledSuccessor w.first (below_of w) fs x s e) ys
+  fillers_of x s e [] lt h = All-nil (FilledSuccessor w.first (below_of w) fs x s e)
   fillers_of x s e (y ∷ ys) lt h =
       let t = and_parts (knows state y && has_edge state.facts (λ r. w.theory.below r s) x y && has_tree state.facts y (tree_of w.table e)) (are_fillers w.theory state x s (tree_of w.table e) ys) h in
       let u = and_parts (knows state y && has_edge state.facts (λ r. w.theory.below r s) x y) (has_tree state.facts y (tree_of w.table e)) t.0 in
       let v = and_parts (knows state y) (has_edge state.facts (λ r. w.theory.below r s) x y) u.0 in
-      All-cons (FilledSuccessor (below_of w) fs x s e) y ys
+      All-cons (FilledSuccessor w.first (below_of w) fs x s e) y ys
       (record {
         is_node = node_of y v.0;
-        edge = sym (edge_reads w sub sup fs over (λ r. below_of w r s) x y) ∙ v.1;
+        edge = sym (edge_reads w q fs over (λ r. below_of w r s) x y) ∙ v.1;
         holds = sym (has-read w.table over.is_table fs over.listed y e lt) ∙ u.1;
       })
       (fillers_of x s e ys lt t.1)
 
   abbrev Clash : Type 0
-  Clash = IsClash (below_of w) w.table fs
+  Clash = IsClash w.first (below_of w) w.table fs
 
-  clash_names : (x c : ℕ) (t : Concept) → tree_of w.table c ≡ t → x < node_count fs → c < length w.table → has fs x c ≡ true → clash_children state x t ≡ Some [] → Clash
+  clash_names : (x c : ℕ) (t : Concept) → tree_of w.table c ≡ t → x < node_count_from w.first fs → c < length w.table → has fs x c ≡ true → clash_children state x t ≡ Some [] → Clash
   clash_names x c (name a) e lt ct h is =
-      let q = when_some (has_tree state.facts x (complement (name a))) (Some []) [] is in
-      let d = has_number x (complement (name a)) q.test in
+      let p = when_some (has_tree state.facts x (complement (name a))) (Some []) [] is in
+      let d = has_number x (complement (name a)) p.test in
       of_names x c d.number a lt h (name_from (trees_of w.table) (shape_of w.table c) a (shape_reads c ct ∙ e)) d.holds
       (not_name_from (trees_of w.table) (shape_of w.table d.number) a (shape_reads d.number d.listed ∙ d.reads))
   clash_names x c _ e lt ct h is = cc
 
-  clash_most : (x c : ℕ) (ys : List ℕ) (t : Concept) → tree_of w.table c ≡ t → x < node_count fs → c < length w.table → has fs x c ≡ true → most_children w.theory state x ys t ≡ Some [] → Clash
+  clash_most : (x c : ℕ) (ys : List ℕ) (t : Concept) → tree_of w.table c ≡ t → x < node_count_from w.first fs → c < length w.table → has fs x c ≡ true → most_children w.theory state x ys t ≡ Some [] → Clash
   clash_most x c ys (at_most n s u) e lt ct h is =
       let m = most_from (trees_of w.table) (shape_of w.table c) n s u (shape_reads c ct ∙ e) in
       let et = most_listed w over.is_table c n s m.filler m.is_shape in
-      let q = when_some (eqb (length ys) (n + 1) && are_fillers w.theory state x s u ys && all_apart state.facts ys) (Some []) [] is in
-      let a = and_parts (eqb (length ys) (n + 1) && are_fillers w.theory state x s u ys) (all_apart state.facts ys) q.test in
+      let p = when_some (eqb (length ys) (n + 1) && are_fillers w.theory state x s u ys && all_apart state.facts ys) (Some []) [] is in
+      let a = and_parts (eqb (length ys) (n + 1) && are_fillers w.theory state x s u ys) (all_apart state.facts ys) p.test in
       let b = and_parts (eqb (length ys) (n + 1)) (are_fillers w.theory state x s u ys) a.0 in
       of_most x c n s m.filler ys lt h m.is_shape (eqb-true (length ys) (n + 1) b.0)
-      (all_filled_from (below_of w) fs x s m.filler ys (fillers_of x s m.filler ys et (ap (λ (v : Concept). are_fillers w.theory state x s v ys) m.is_tree ∙ b.1)))
-      (sym (all_apart_reads w sub sup fs over ys) ∙ a.1)
+      (all_filled_from w.first (below_of w) fs x s m.filler ys (fillers_of x s m.filler ys et (ap (λ (v : Concept). are_fillers w.theory state x s v ys) m.is_tree ∙ b.1)))
+      (sym (all_apart_reads w q fs over ys) ∙ a.1)
   clash_most x c ys _ e lt ct h is = cc
 
   -- ---- the lines that have children
 
-  no_start : (n : ℕ) → 0 < n → ¬ (start_children (on_any w.theory sub sup) (range_with_len 0 n) ≡ Some [])
-  no_start zero lt h = absurd (omega arith)
-  no_start (suc n) lt h = cc
+  no_start : (n : ℕ) → ¬ (start_children (asked_in w q) (range_with_len 0 n) ≡ Some [])
+  no_start zero h = no_kids _ _ _ h
+  no_start (suc n) h = cc
 
   no_and : (x : ℕ) (t : Concept) → ¬ (and_children state x t ≡ Some [])
   no_and x (intersection cs) h = cc
@@ -241,25 +240,21 @@ module _ (w : SearchContext) (sub sup : Concept) (fs : List (Fact ℕ)) (over : 
   no_choose y None h = cc
   no_choose y (Some t) h = no_kids _ _ _ h
 
-  -- the line whose premises are that two nodes are apart and one
-  one_apart : (y z : ℕ) → differ_children state y z ≡ Some [] → HasOneApart fs
-  one_apart y z h =
-      let q = when_some (knows state y && knows state z && are_apart state.facts y z && eqb (rep state.facts y) (rep state.facts z)) (Some []) [] h in
-      let a = and_parts (knows state y && knows state z && are_apart state.facts y z) (eqb (rep state.facts y) (rep state.facts z)) q.test in
+  no_fact : (o : Option (Fact Concept)) → ¬ (fact_children state o ≡ Some [])
+  no_fact None h = cc
+  no_fact (Some f) h = no_kids _ _ _ h
+
+  clash_differ : (y z : ℕ) → differ_children state y z ≡ Some [] → Clash
+  clash_differ y z h =
+      let p = when_some (knows state y && knows state z && are_apart state.facts y z && eqb (rep state.facts y) (rep state.facts z)) (Some []) [] h in
+      let a = and_parts (knows state y && knows state z && are_apart state.facts y z) (eqb (rep state.facts y) (rep state.facts z)) p.test in
       let b = and_parts (knows state y && knows state z) (are_apart state.facts y z) a.0 in
       let c = and_parts (knows state y) (knows state z) b.0 in
       let keeps = keeps_state ℕ Concept (tree_of w.table) fs in
-      record {
-        y = y;
-        z = z;
-        y_is_node = node_of y c.0;
-        z_is_node = node_of z c.1;
-        apart = sym (keeps.aparts y z) ∙ b.1;
-        one = sym (keeps.reps y) ∙ eqb-true (rep state.facts y) (rep state.facts z) a.1 ∙ keeps.reps z;
-      }
+      of_differ y z (node_of y c.0) (node_of z c.1) (sym (keeps.aparts y z) ∙ b.1) (sym (keeps.reps y) ∙ eqb-true (rep state.facts y) (rep state.facts z) a.1 ∙ keeps.reps z)
 
-  pub line_clashes : (line : Line) → children_in w sub sup fs line ≡ Some [] → Clash ⊎ HasOneApart fs
-  line_clashes start_line h = absurd (no_start (node_count fs) (count_pos fs) h)
+  pub line_clashes : (line : Line) → children_in w q fs line ≡ Some [] → Clash
+  line_clashes start_line h = absurd (no_start (node_count_from w.first fs) h)
   line_clashes (and_line x c) h = let r = at_number x c (and_children state x) [] h in absurd (no_and x (tree_of w.table c) r.is)
   line_clashes (or_line x c) h = let r = at_number x c (or_children state x) [] h in absurd (no_or x c (tree_of w.table c) refl r.listed r.is)
   line_clashes (all_line x y c) h = let r = at_number x c (all_children w.theory state x y) [] h in absurd (no_all x y (tree_of w.table c) r.is)
@@ -271,32 +266,35 @@ module _ (w : SearchContext) (sub sup : Concept) (fs : List (Fact ℕ)) (over : 
   line_clashes (choose_line y c) h = absurd (no_choose y (concept_in w.table c) h)
   line_clashes (pair_line y z) h = absurd (no_kids _ _ _ h)
   line_clashes (bottom_line x) h =
-      let q = when_some (knows state x && has_tree state.facts x bottom) (Some []) [] h in
-      let t = and_parts (knows state x) (has_tree state.facts x bottom) q.test in
+      let p = when_some (knows state x && has_tree state.facts x bottom) (Some []) [] h in
+      let t = and_parts (knows state x) (has_tree state.facts x bottom) p.test in
       let d = has_number x bottom t.1 in
-      inl (of_bottom x d.number (node_of x t.0) d.holds (bottom_from (trees_of w.table) (shape_of w.table d.number) (shape_reads d.number d.listed ∙ d.reads)))
+      of_bottom x d.number (node_of x t.0) d.holds (bottom_from (trees_of w.table) (shape_of w.table d.number) (shape_reads d.number d.listed ∙ d.reads))
   line_clashes (clash_line x c) h =
       let r = at_number x c (clash_children state x) [] h in
-      inl (clash_names x c (tree_of w.table c) refl r.node r.listed r.holds r.is)
+      clash_names x c (tree_of w.table c) refl r.node r.listed r.holds r.is
   line_clashes (most_line x c ys) h =
       let r = at_number x c (most_children w.theory state x ys) [] h in
-      inl (clash_most x c ys (tree_of w.table c) refl r.node r.listed r.holds r.is)
-  line_clashes (fact_line a p) h = cc
-  line_clashes (differ_line y z) h = inr (one_apart y z h)
+      clash_most x c ys (tree_of w.table c) refl r.node r.listed r.holds r.is
+  line_clashes (fact_line a p) h = absurd (no_fact (w.fact_of a p) h)
+  line_clashes (differ_line y z) h = clash_differ y z h
 
   -- ---- the line of a clash
 
-  pub clash_is_line : (clash : Clash) → children_in w sub sup fs (line_of_clash (below_of w) w.table fs clash) ≡ Some []
+  pub clash_is_line : (clash : Clash) → children_in w q fs (line_of_clash w.first (below_of w) w.table fs clash) ≡ Some []
   clash_is_line (of_bottom x c lt h sh) =
       let ct = listed w.table c (λ e. (let l = sym sh ∙ e in cc)) in
-      let has_it : has_tree state.facts x bottom ≡ true = ap (has_tree state.facts x) (sym (reads w sub sup fs over c bottom_shape sh (λ e. cc))) ∙ holds w sub sup fs over x c ct h in
-      ap (λ (b : Bool). when (b && has_tree state.facts x bottom) (Some [])) (is_known w sub sup fs over x lt) ∙ ap (λ (b : Bool). when b (Some [])) has_it
+      let has_it : has_tree state.facts x bottom ≡ true = ap (has_tree state.facts x) (sym (reads w q fs over c bottom_shape sh (λ e. cc))) ∙ holds w q fs over x c ct h in
+      ap (λ (b : Bool). when (b && has_tree state.facts x bottom) (Some [])) (is_known w q fs over x lt) ∙ ap (λ (b : Bool). when b (Some [])) has_it
   clash_is_line (of_names x c d a lt h sh g th) =
       let dt = listed w.table d (λ e. (let l = sym th ∙ e in cc)) in
-      let has_it : has_tree state.facts x (complement (name a)) ≡ true = ap (has_tree state.facts x) (sym (reads w sub sup fs over d (not_name a) th (λ e. cc))) ∙ holds w sub sup fs over x d dt g in
-      at_shape w sub sup fs over x c (name_shape a) (clash_children state x) lt h sh (λ e. cc) ∙ ap (λ (b : Bool). when b (Some [])) has_it
+      let has_it : has_tree state.facts x (complement (name a)) ≡ true = ap (has_tree state.facts x) (sym (reads w q fs over d (not_name a) th (λ e. cc))) ∙ holds w q fs over x d dt g in
+      at_shape w q fs over x c (name_shape a) (clash_children state x) lt h sh (λ e. cc) ∙ ap (λ (b : Bool). when b (Some [])) has_it
   clash_is_line (of_most x c n s e ys lt h sh len all apart) =
       let et = most_listed w over.is_table c n s e sh in
-      let fillers = fillers_read w sub sup fs over x s e ys et (all_filled_parts (below_of w) fs x s e ys all) in
-      at_shape w sub sup fs over x c (most_shape n s e) (most_children w.theory state x ys) lt h sh (λ q. cc)
-      ∙ rw (eq-eqb (length ys) (n + 1) len, fillers, all_apart_reads w sub sup fs over ys ∙ apart) refl
+      let fillers = fillers_read w q fs over x s e ys et (all_filled_parts w.first (below_of w) fs x s e ys all) in
+      at_shape w q fs over x c (most_shape n s e) (most_children w.theory state x ys) lt h sh (λ p. cc)
+      ∙ rw (eq-eqb (length ys) (n + 1) len, fillers, all_apart_reads w q fs over ys ∙ apart) refl
+  clash_is_line (of_differ y z lt mt apart same) =
+      let keeps = keeps_state ℕ Concept (tree_of w.table) fs in
+      rw (is_known w q fs over y lt, is_known w q fs over z mt, keeps.aparts y z ∙ apart, eq-eqb (rep state.facts y) (rep state.facts z) (keeps.reps y ∙ same ∙ sym (keeps.reps z))) refl

@@ -9,41 +9,42 @@ use Rattle.calculus_specs.specs.Shape.Shape.{some_of as some_shape, at_least as 
 use Rattle.calculus_specs.specs.Tree.{tree_of}
 use Rattle.calculus_specs.specs.declared.facts.Fact.{Fact}
 use Rattle.calculus_specs.specs.declared.facts.Fact.TheVariants.{Has, Edge, Apart, Same}
-use Rattle.calculus_specs.specs.State.{node_count, new_nodes, apart_from, pairwise_apart, fresh_facts}
+use Rattle.calculus_specs.specs.State.{node_count_from, new_nodes, apart_from, pairwise_apart, fresh_facts}
 use Rattle.calculus_specs.specs.Reading.{read_fact, read_facts}
-use Rattle.calculus_specs.specs.Rules.{Known, knows, knows_some_from, when, with_nodes, some_children, least_children}
+use Rattle.calculus_specs.specs.Rules.{Question, Known, knows, knows_some_from, when, with_nodes, some_children, least_children}
 use Rattle.tableau_specs.specs.Steps.{SearchContext, Generates}
 use Rattle.tableau_specs.specs.Steps.Generates.{by_some, by_least}
-use Rattle.tableau_specs.proofs.TreeShaped.{count_pos}
+use Rattle.tableau_specs.proofs.TreeShaped.{first_le}
 use Rattle.tableau_specs.specs.Lines.{known_by, children_in, line_of_generate}
 use Rattle.tableau_specs.specs.LineLaws.{IsOver}
 use Rattle.tableau_specs.proofs.KnownFacts.{at_shape}
 
 -- ---- the number of nodes after new ones
 
-pub count-append : (fs gs : List (Fact ℕ)) → node_count (fs ++ gs) ≡ max (node_count fs) (node_count gs)
-count-append [] gs = omega (arith, count_pos gs)
-count-append (Has x c ∷ fs) gs = count-append fs gs
-count-append (Edge r x y ∷ fs) gs = omega (arith, count-append fs gs)
-count-append (Apart x y ∷ fs) gs = count-append fs gs
-count-append (Same x y ∷ fs) gs = count-append fs gs
+module _ (base : ℕ) where
+  pub count-append : (fs gs : List (Fact ℕ)) → node_count_from base (fs ++ gs) ≡ max (node_count_from base fs) (node_count_from base gs)
+  count-append [] gs = omega (arith, first_le base gs)
+  count-append (Has x c ∷ fs) gs = count-append fs gs
+  count-append (Edge r x y ∷ fs) gs = omega (arith, count-append fs gs)
+  count-append (Apart x y ∷ fs) gs = count-append fs gs
+  count-append (Same x y ∷ fs) gs = count-append fs gs
 
-count-aparts : (y z n : ℕ) (rest : List (Fact ℕ)) → node_count (apart_from y z n ++ rest) ≡ node_count rest
-count-aparts y z zero rest = refl
-count-aparts y z (suc n) rest = count-aparts y (z + 1) n rest
+  count-aparts : (y z n : ℕ) (rest : List (Fact ℕ)) → node_count_from base (apart_from y z n ++ rest) ≡ node_count_from base rest
+  count-aparts y z zero rest = refl
+  count-aparts y z (suc n) rest = count-aparts y (z + 1) n rest
 
-count-pairs : (first n : ℕ) → node_count {C = ℕ} (pairwise_apart first n) ≡ 1
-count-pairs first zero = refl
-count-pairs first (suc n) = count-aparts first (first + 1) n (pairwise_apart (first + 1) n) ∙ count-pairs (first + 1) n
+  count-pairs : (first n : ℕ) → node_count_from {C = ℕ} base (pairwise_apart first n) ≡ base
+  count-pairs first zero = refl
+  count-pairs first (suc n) = count-aparts first (first + 1) n (pairwise_apart (first + 1) n) ∙ count-pairs (first + 1) n
 
-count-nodes : (x s e first n : ℕ) (rest : List (Fact ℕ)) → node_count rest ≡ 1 → 0 < first → max first (node_count (new_nodes x s e first n ++ rest)) ≡ first + n
-count-nodes x s e first zero rest one pos = omega (arith, one, pos)
-count-nodes x s e first (suc n) rest one pos = omega (arith, count-nodes x s e (first + 1) n rest one (omega arith))
+  count-nodes : (x s e first n : ℕ) (rest : List (Fact ℕ)) → node_count_from base rest ≡ base → base ≤ first → max first (node_count_from base (new_nodes x s e first n ++ rest)) ≡ first + n
+  count-nodes x s e first zero rest one le = omega (arith, one, le)
+  count-nodes x s e first (suc n) rest one le = omega (arith, count-nodes x s e (first + 1) n rest one (omega arith))
 
-pub count-fresh : (fs : List (Fact ℕ)) (x s e n : ℕ) → node_count (fs ++ fresh_facts x s e (node_count fs) n) ≡ node_count fs + n
-count-fresh fs x s e n =
-    count-append fs (fresh_facts x s e (node_count fs) n)
-    ∙ count-nodes x s e (node_count fs) n (pairwise_apart (node_count fs) n) (count-pairs (node_count fs) n) (count_pos fs)
+  pub count-fresh : (fs : List (Fact ℕ)) (x s e n : ℕ) → node_count_from base (fs ++ fresh_facts x s e (node_count_from base fs) n) ≡ node_count_from base fs + n
+  count-fresh fs x s e n =
+      count-append fs (fresh_facts x s e (node_count_from base fs) n)
+      ∙ count-nodes x s e (node_count_from base fs) n (pairwise_apart (node_count_from base fs) n) (count-pairs (node_count_from base fs) n) (first_le base fs)
 
 range-append : (a n m : ℕ) → range_with_len a (n + m) ≡ range_with_len a n ++ range_with_len (a + n) m
 range-append a zero m =
@@ -95,33 +96,33 @@ none_from z n a (suc m) le = rw (not_yet z a (omega arith)) (none_from z n (a + 
 
 -- ---- the lines
 
-module _ (w : SearchContext) (sub sup : Concept) (fs : List (Fact ℕ)) (over : IsOver w fs) where
+module _ (w : SearchContext) (q : Question) (fs : List (Fact ℕ)) (over : IsOver w fs) where
   abbrev state : Known
-  state = known_by w.table fs
+  state = known_by w.first w.table fs
 
-  state_with : (x s e n : ℕ) → with_nodes state x s (tree_of w.table e) (node_count fs) n ≡ known_by w.table (fs ++ fresh_facts x s e (node_count fs) n)
+  state_with : (x s e n : ℕ) → with_nodes state x s (tree_of w.table e) (node_count_from w.first fs) n ≡ known_by w.first w.table (fs ++ fresh_facts x s e (node_count_from w.first fs) n)
   state_with x s e n =
-      let count = count-fresh fs x s e n in
-      let nodes : range_with_len 0 (node_count fs) ++ range_with_len (node_count fs) n ≡ range_with_len 0 (node_count (fs ++ fresh_facts x s e (node_count fs) n)) =
-      ap (λ (b : ℕ). range_with_len 0 (node_count fs) ++ range_with_len b n) (omega arith) ∙ sym (range-append 0 (node_count fs) n) ∙ ap (range_with_len 0) (sym count) in
-      let facts : state.facts ++ fresh_facts x s (tree_of w.table e) (node_count fs) n ≡ read_facts (tree_of w.table) (fs ++ fresh_facts x s e (node_count fs) n) =
-      ap (λ (l : List (Fact Concept)). state.facts ++ l) (sym (fresh-read (tree_of w.table) x s e (node_count fs) n))
-      ∙ sym (map-append (read_fact (tree_of w.table)) fs (fresh_facts x s e (node_count fs) n)) in
+      let count = count-fresh w.first fs x s e n in
+      let nodes : range_with_len 0 (node_count_from w.first fs) ++ range_with_len (node_count_from w.first fs) n ≡ range_with_len 0 (node_count_from w.first (fs ++ fresh_facts x s e (node_count_from w.first fs) n)) =
+      ap (λ (b : ℕ). range_with_len 0 (node_count_from w.first fs) ++ range_with_len b n) (omega arith) ∙ sym (range-append 0 (node_count_from w.first fs) n) ∙ ap (range_with_len 0) (sym count) in
+      let facts : state.facts ++ fresh_facts x s (tree_of w.table e) (node_count_from w.first fs) n ≡ read_facts (tree_of w.table) (fs ++ fresh_facts x s e (node_count_from w.first fs) n) =
+      ap (λ (l : List (Fact Concept)). state.facts ++ l) (sym (fresh-read (tree_of w.table) x s e (node_count_from w.first fs) n))
+      ∙ sym (map-append (read_fact (tree_of w.table)) fs (fresh_facts x s e (node_count_from w.first fs) n)) in
       λ i. record { nodes = nodes i; facts = facts i }
 
-  pub generate_is_line : (new : List (Fact ℕ)) (generates : Generates w fs new) → node_count (fs ++ new) ≤ 2 ^ 32
-      → children_in w sub sup fs (line_of_generate w fs new generates) ≡ Some (known_by w.table (fs ++ new) ∷ [])
+  pub generate_is_line : (new : List (Fact ℕ)) (generates : Generates w fs new) → node_count_from w.first (fs ++ new) ≤ 2 ^ 32
+      → children_in w q fs (line_of_generate w fs new generates) ≡ Some (known_by w.first w.table (fs ++ new) ∷ [])
   generate_is_line new (by_some x c s e at h sh none) room =
-      let y : ℕ = node_count fs in
+      let y : ℕ = node_count_from w.first fs in
       let out : knows state y ≡ false = fresh_below y 0 y (omega arith) in
-      at_shape w sub sup fs over x c (some_shape s e) (some_children state x y) at.is_node h sh (λ k. cc)
+      at_shape w q fs over x c (some_shape s e) (some_children state x y) at.is_node h sh (λ k. cc)
       ∙ ap (λ (b : Bool). when (not b) (Some (with_nodes state x s (tree_of w.table e) y 1 ∷ []))) out
       ∙ ap (λ (k : Known). Some (k ∷ [])) (state_with x s e 1)
   generate_is_line new (by_least x c n s e at h sh none) room =
-      let y : ℕ = node_count fs in
+      let y : ℕ = node_count_from w.first fs in
       let out : knows_some_from state y n ≡ false = none_from y n 0 y (omega arith) in
-      let fits : leb (y + n) (2 ^ 32) ≡ true = le_test (y + n) (2 ^ 32) (omega (arith, room, count-fresh fs x s e n)) in
-      at_shape w sub sup fs over x c (least_shape n s e) (least_children state x y) at.is_node h sh (λ k. cc)
+      let fits : leb (y + n) (2 ^ 32) ≡ true = le_test (y + n) (2 ^ 32) (omega (arith, room, count-fresh w.first fs x s e n)) in
+      at_shape w q fs over x c (least_shape n s e) (least_children state x y) at.is_node h sh (λ k. cc)
       ∙ ap (λ (b : Bool). when (b && not (knows_some_from state y n)) (Some (with_nodes state x s (tree_of w.table e) y n ∷ []))) fits
       ∙ ap (λ (b : Bool). when (not b) (Some (with_nodes state x s (tree_of w.table e) y n ∷ []))) out
       ∙ ap (λ (k : Known). Some (k ∷ [])) (state_with x s e n)

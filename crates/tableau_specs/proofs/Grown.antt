@@ -2,16 +2,16 @@
 use Rattle.std.proofs.Common.{◌≡◌, ℕ, zero, suc, ◌+◌, ◌<◌, ◌≤◌, ◌&&◌, ◌||◌, max, eqb, Bool, true, false, List, [], ◌∷◌, ◌++◌, refl, ap, ◌∙◌, sym, arith, inl, inr}
 use Rattle.std.specs.List.{list_any}
 use Rattle.std.proofs.lemmas.List.Folds.{list_any-append}
-use Rattle.std.proofs.lemmas.Bool.{ne_eqb, eqb-true, or_cases}
+use Rattle.std.proofs.lemmas.Bool.{ne_eqb, eqb-true, or_cases, cases_Bool}
 use Rattle.std.proofs.Math.Bool.{or-false, or_assoc, and-false, and-or_distrib_right, and-or_distrib_left}
 use Rattle.calculus_specs.specs.declared.facts.Fact.{Fact}
 use Rattle.calculus_specs.specs.declared.facts.Fact.TheVariants.{Has, Edge, Apart, Same}
 use Rattle.calculus_specs.specs.Joins.{rep, rep_from, rep_after}
-use Rattle.calculus_specs.specs.State.{node_count, gives_concept, gives_edge, gives_apart, has, has_edge, are_apart, new_nodes, apart_from, pairwise_apart, fresh_facts}
+use Rattle.calculus_specs.specs.State.{node_count_from, gives_concept, gives_edge, gives_apart, has, has_edge, are_apart, new_nodes, apart_from, pairwise_apart, fresh_facts, speak_of_nodes}
 use Rattle.calculus_specs.proofs.Joined.{rep-le}
-use Rattle.tableau_specs.proofs.TreeShaped.{count_pos}
-use Rattle.tableau_specs.specs.Near.{speak_of_nodes}
+use Rattle.tableau_specs.proofs.TreeShaped.{first_le, apart_are_nodes}
 use Rattle.tableau_specs.proofs.Bare.{own_rep}
+use Rattle.std.proofs.lemmas.Bool.Decides.{nat_tests}
 
 -- whether a is one of the n nodes from `first` on
 abbrev pub in_run : ℕ → ℕ → ℕ → Bool
@@ -56,24 +56,24 @@ reps_fresh m x s e first n =
 
 -- ---- nodes
 
-count-append : (fs gs : List (Fact ℕ)) → node_count (fs ++ gs) ≡ max (node_count fs) (node_count gs)
-count-append [] gs = omega (arith, count_pos gs)
-count-append (Has v c ∷ fs) gs = count-append fs gs
-count-append (Edge r v w ∷ fs) gs = omega (arith, count-append fs gs)
-count-append (Apart v w ∷ fs) gs = count-append fs gs
-count-append (Same v w ∷ fs) gs = count-append fs gs
+count-append : (base : ℕ) (fs gs : List (Fact ℕ)) → node_count_from base (fs ++ gs) ≡ max (node_count_from base fs) (node_count_from base gs)
+count-append base [] gs = omega (arith, first_le base gs)
+count-append base (Has v c ∷ fs) gs = count-append base fs gs
+count-append base (Edge r v w ∷ fs) gs = omega (arith, count-append base fs gs)
+count-append base (Apart v w ∷ fs) gs = count-append base fs gs
+count-append base (Same v w ∷ fs) gs = count-append base fs gs
 
-count_nodes : (x s e first n : ℕ) → 1 ≤ first → max first (node_count (new_nodes x s e first n)) ≡ first + n
-count_nodes x s e first zero le = omega (arith, le)
-count_nodes x s e first (suc n) le = omega (arith, le, count_nodes x s e (first + 1) n (omega arith))
+count_nodes : (base x s e first n : ℕ) → base ≤ first → max first (node_count_from base (new_nodes x s e first n)) ≡ first + n
+count_nodes base x s e first zero le = omega (arith, le)
+count_nodes base x s e first (suc n) le = omega (arith, le, count_nodes base x s e (first + 1) n (omega arith))
 
-count_apart : (y z n : ℕ) → node_count {C = ℕ} (apart_from y z n) ≡ 1
-count_apart y z zero = refl
-count_apart y z (suc n) = count_apart y (z + 1) n
+count_apart : (base y z n : ℕ) → node_count_from {C = ℕ} base (apart_from y z n) ≡ base
+count_apart base y z zero = refl
+count_apart base y z (suc n) = count_apart base y (z + 1) n
 
-count_pairs : (first n : ℕ) → node_count {C = ℕ} (pairwise_apart first n) ≡ 1
-count_pairs first zero = refl
-count_pairs first (suc n) = omega (arith, count-append (apart_from first (first + 1) n) (pairwise_apart (first + 1) n), count_apart first (first + 1) n, count_pairs (first + 1) n)
+count_pairs : (base first n : ℕ) → node_count_from {C = ℕ} base (pairwise_apart first n) ≡ base
+count_pairs base first zero = refl
+count_pairs base first (suc n) = omega (arith, count-append base (apart_from first (first + 1) n) (pairwise_apart (first + 1) n), count_apart base first (first + 1) n, count_pairs base (first + 1) n)
 
 -- ---- what the new facts give
 
@@ -91,6 +91,9 @@ without_pairs : (p : Fact ℕ → Bool) → ((y z : ℕ) → p (Apart y z) ≡ f
 without_pairs p none x s e first n =
     list_any-append p (new_nodes x s e first n) (pairwise_apart first n)
     ∙ ap (λ (b : Bool). list_any p (new_nodes x s e first n) || b) (nothing_in_pairs p none first n) ∙ or-false (list_any p (new_nodes x s e first n))
+
+not_both : (a y z : ℕ) → y < z → ((eqb y a && eqb z a) || (eqb y a && eqb z a)) ≡ false
+not_both a y z lt = grind (arith, nat_tests)
 
 -- nodes from `low` on are alone
 module _ (m : ℕ → ℕ) (low : ℕ) (alone : (z : ℕ) → low ≤ z → m z ≡ z) where
@@ -120,6 +123,17 @@ module _ (m : ℕ → ℕ) (low : ℕ) (alone : (z : ℕ) → low ≤ z → m z 
       list_any-append (gives_apart {C = ℕ} m a b) (apart_from first (first + 1) n) (pairwise_apart (first + 1) n)
       ∙ rw (older_apart a b first (first + 1) n la lb le (omega (arith, le))) (older_pairs a b (first + 1) n la lb (omega (arith, le)))
 
+  -- and no node becomes apart from itself
+  none_apart : (a y z n : ℕ) → low ≤ y → y < z → list_any (gives_apart {C = ℕ} m a a) (apart_from y z n) ≡ false
+  none_apart a y z zero le lt = refl
+  none_apart a y z (suc n) le lt = rw (alone y le, alone z (omega (arith, le, lt)), not_both a y z lt) (none_apart a y (z + 1) n le (omega (arith, lt)))
+
+  none_pairs : (a first n : ℕ) → low ≤ first → list_any (gives_apart {C = ℕ} m a a) (pairwise_apart first n) ≡ false
+  none_pairs a first zero le = refl
+  none_pairs a first (suc n) le =
+      list_any-append (gives_apart {C = ℕ} m a a) (apart_from first (first + 1) n) (pairwise_apart (first + 1) n)
+      ∙ rw (none_apart a first (first + 1) n le (omega arith)) (none_pairs a (first + 1) n (omega (arith, le)))
+
   nodes_not_apart : (a b x s e first n : ℕ) → list_any (gives_apart {C = ℕ} m a b) (new_nodes x s e first n) ≡ false
   nodes_not_apart a b x s e first zero = refl
   nodes_not_apart a b x s e first (suc n) = nodes_not_apart a b x s e (first + 1) n
@@ -127,26 +141,27 @@ module _ (m : ℕ → ℕ) (low : ℕ) (alone : (z : ℕ) → low ≤ z → m z 
 -- ---- once the nodes are made
 
 -- what fs' says, which is fs with n new nodes from `first` on, that have e, at the ends of edges of s from x
-pub record IsGrown (fs fs' : List (Fact ℕ)) (x s e first n : ℕ) : Type 0 where
+pub record IsGrown (base : ℕ) (fs fs' : List (Fact ℕ)) (x s e first n : ℕ) : Type 0 where
   pub reps : rep fs' ≡ rep fs
-  pub nodes : node_count fs' ≡ first + n
+  pub nodes : node_count_from base fs' ≡ first + n
   pub holds : (y c : ℕ) → has fs' y c ≡ (has fs y c || (in_run (rep fs y) first n && eqb e c))
   pub edges : (roles : ℕ → Bool) (y z : ℕ) → has_edge fs' roles y z ≡ (has_edge fs roles y z || ((roles s && eqb (rep fs x) (rep fs y)) && in_run (rep fs z) first n))
   pub aparts : (y z : ℕ) → y < first → z < first → are_apart fs' y z ≡ are_apart fs y z
+  pub itself : (y : ℕ) → first ≤ y → are_apart fs' y y ≡ false
 
 falls_none : (y : ℕ) → y ≤ y
 falls_none y = omega arith
 
-pub is_grown : (fs : List (Fact ℕ)) (x s e n : ℕ) → speak_of_nodes fs ≡ true → IsGrown fs (fs ++ fresh_facts x s e (node_count fs) n) x s e (node_count fs) n
-is_grown fs x s e n h =
-    let first = node_count fs in
+pub is_grown : (base : ℕ) (fs : List (Fact ℕ)) (x s e n : ℕ) → speak_of_nodes base fs ≡ true → IsGrown base fs (fs ++ fresh_facts x s e (node_count_from base fs) n) x s e (node_count_from base fs) n
+is_grown base fs x s e n h =
+    let first = node_count_from base fs in
     let new = fresh_facts x s e first n in
     let m = rep fs in
     let alone : (z : ℕ) → first ≤ z → m z ≡ z = λ z le. own_rep (λ y. y) first z fs falls_none h le refl in
     let reps : rep (fs ++ new) ≡ m = rep_from-append (λ y. y) fs new ∙ reps_fresh m x s e first n in
     record {
       reps = reps;
-      nodes = omega (arith, count-append fs new, count-append (new_nodes x s e first n) (pairwise_apart first n), count_pairs first n, count_nodes x s e first n (omega (arith, count_pos fs)), count_pos (new_nodes x s e first n));
+      nodes = omega (arith, count-append base fs new, count-append base (new_nodes x s e first n) (pairwise_apart first n), count_pairs base first n, count_nodes base x s e first n (first_le base fs), first_le base (new_nodes x s e first n));
       holds = λ y c.
           let kind = λ (d : ℕ). eqb d c in
           ap (λ (k : ℕ → ℕ). eqb c 0 || list_any (gives_concept kind k (k y)) (fs ++ new)) reps
@@ -169,4 +184,15 @@ is_grown fs x s e n h =
           ∙ ap (λ (b : Bool). b || list_any (gives_apart {C = ℕ} m (m y) (m z)) (pairwise_apart first n)) (nodes_not_apart m first alone (m y) (m z) x s e first n)
           ∙ older_pairs m first alone (m y) (m z) first n la lb (omega arith))
           ∙ or-false (are_apart fs y z);
+      itself = λ y le.
+          let old : list_any (gives_apart m (m y) (m y)) fs ≡ false = elim (cases_Bool (list_any (gives_apart m (m y) (m y)) fs)) [
+            | inr out ↦ out
+            | inl held ↦ absurd (omega (arith, (apart_are_nodes m first (m y) (m y) fs (rep-le fs) h held).0, alone y le, le))
+          ] in
+          ap (λ (k : ℕ → ℕ). list_any (gives_apart k (k y) (k y)) (fs ++ new)) reps
+          ∙ list_any-append (gives_apart m (m y) (m y)) fs new
+          ∙ ap (λ (b : Bool). b || list_any (gives_apart m (m y) (m y)) new) old
+          ∙ list_any-append (gives_apart m (m y) (m y)) (new_nodes x s e first n) (pairwise_apart first n)
+          ∙ ap (λ (b : Bool). b || list_any (gives_apart {C = ℕ} m (m y) (m y)) (pairwise_apart first n)) (nodes_not_apart m first alone (m y) (m y) x s e first n)
+          ∙ none_pairs m first alone (m y) first n (omega arith);
     }

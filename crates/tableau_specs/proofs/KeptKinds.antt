@@ -1,5 +1,5 @@
 -- What the rules keep of concepts and of the roles of edges, holds of each concept and edge of a reached trail.
-use Rattle.std.proofs.Common.{◌≡◌, ℕ, zero, suc, ◌+◌, ◌&&◌, eqb, Bool, true, List, [], ◌∷◌, ◌++◌, map, take, ap, ◌∙◌, sym, subst, arith, inl, inr}
+use Rattle.std.proofs.Common.{◌≡◌, ℕ, zero, suc, ◌+◌, ◌&&◌, eqb, Bool, true, Some, List, [], ◌∷◌, ◌++◌, map, take, ap, ◌∙◌, sym, subst, arith, inl, inr}
 use Rattle.std.specs.List.{list_any, All, Contains}
 use Rattle.std.proofs.lemmas.List.Elements.{All-nil, All-cons, All-head, All-tail, All-append, All-push, All-take, All-contains, All-get_or}
 use Rattle.std.proofs.lemmas.Bool.{and_parts, or_cases, eqb-true}
@@ -9,37 +9,39 @@ use Rattle.calculus_specs.specs.Normal.{negated_form}
 use Rattle.calculus_specs.specs.Shape.{Shape, shape_of, IsTable}
 use Rattle.calculus_specs.specs.Shape.Shape.{top as top_shape, intersection as intersection_shape, union as union_shape, some_of as some_shape, all_of as all_shape, at_least as least_shape, at_most as most_shape}
 use Rattle.calculus_specs.specs.Tree.{tree_over, trees_of, tree_of}
-use Rattle.calculus_specs.specs.Rows.{Theory, Row, IsRowOf, IsChoice}
+use Rattle.calculus_specs.specs.Rows.{Row, IsRowOf, IsChoice}
 use Rattle.calculus_specs.proofs.Unique.{tree_of_shape}
 use Rattle.calculus_specs.specs.declared.facts.Fact.{Fact}
 use Rattle.calculus_specs.specs.declared.facts.Fact.TheVariants.{Has, Edge, Apart, Same}
 use Rattle.calculus_specs.specs.Joins.{rep}
-use Rattle.calculus_specs.specs.State.{node_count, gives_concept, has, gives_edge, has_edge, new_nodes, apart_from, pairwise_apart, fresh_facts}
+use Rattle.calculus_specs.specs.State.{node_count_from, gives_concept, has, gives_edge, has_edge, new_nodes, apart_from, pairwise_apart, fresh_facts}
 use Rattle.tableau_specs.specs.declared.Branch.{Branch}
 use Rattle.tableau_specs.specs.declared.Branch.TheVariants.{Or, Choose, Pair}
 use Rattle.tableau_specs.specs.declared.Choice.{Choice}
 use Rattle.tableau_specs.specs.declared.Item.{Item}
 use Rattle.tableau_specs.specs.declared.Item.TheVariants.{Fact as Says, Mark}
 use Rattle.tableau_specs.specs.Items.{facts_of, says}
-use Rattle.tableau_specs.specs.Steps.{SearchContext, Adds, Generates, MayBranch, IsAlternative, IsLegal, next_choice}
+use Rattle.tableau_specs.specs.Steps.{SearchContext, IsGiven, Adds, Generates, MayBranch, IsAlternative, IsLegal, next_choice}
 use Rattle.tableau_specs.specs.Steps.Adds.{by_and, by_all, by_carry, by_row}
 use Rattle.tableau_specs.specs.Steps.Generates.{by_some, by_least}
 use Rattle.tableau_specs.specs.Steps.MayBranch.{on_union, on_filler, on_pair}
 use Rattle.tableau_specs.specs.Steps.IsAlternative.{of_union, of_filler, of_complement, of_joining, of_parting}
-use Rattle.tableau_specs.specs.Steps.IsLegal.{add, generate, choose, back}
-use Rattle.tableau_specs.specs.Reached.{start, Follows}
+use Rattle.tableau_specs.specs.Steps.IsLegal.{add, give, generate, choose, back}
+use Rattle.tableau_specs.specs.Reached.{start, Follows, context_of}
 use Rattle.tableau_specs.proofs.Listed.{listed}
 use Rattle.tableau_specs.specs.KeptKinds.{IsKept}
 use Rattle.tableau_specs.specs.StepLaws.{KeptKindsStay}
+use Rattle.calculus_specs.specs.Rules.{Question}
+use Rattle.calculus_specs.specs.Reading.{read_fact}
 
 contains_map : (f : ℕ → Concept) (ds : List ℕ) (d : ℕ) → Contains ds d → Contains (map f ds) (f d)
 contains_map f [] d k = absurd (omega (arith, k.1))
 contains_map f (e ∷ ds) d (zero, lt, is) = (0, omega arith, ap f is)
 contains_map f (e ∷ ds) d (suc k, lt, is) = let r = contains_map f ds d (k, omega arith, is) in (suc r.0, omega (arith, r.1), r.2)
 
-module _ (P : Concept → Type 0) (E : ℕ → Type 0) (theory : Theory) (table : List Shape) (rows : List Row) (good : IsTable table) (choice : IsChoice theory table rows) (kept : IsKept theory P E) where
+module _ (P : Concept → Type 0) (E : ℕ → Type 0) (q : Question) (table : List Shape) (rows : List Row) (good : IsTable table) (choice : IsChoice q.theory table rows) (kept : IsKept q.theory q.fact_of P E) where
   abbrev context : SearchContext
-  context = record { theory = theory; table = table; rows = rows }
+  context = context_of q table rows
 
   -- the concept of the number is one of the kind
   abbrev Right : ℕ → Type 0
@@ -135,16 +137,26 @@ module _ (P : Concept → Type 0) (E : ℕ → Type 0) (theory : Theory) (table 
       from_shape d (all_shape t e) sh (λ k. cc)
       (kept.carried s t (tree_of table e) (as_shape c (all_shape s e) carried.shape (λ k. cc) (has_right fs r x' c carried.holds)) carried.transitive carried.role_below)
   adds_right fs r x d (by_row x' row lt m used) =
-      let fits = All-contains (IsRowOf theory table) rows row choice.rows_fit m in
+      let fits = All-contains (IsRowOf q.theory table) rows row choice.rows_fit m in
       kept.row row.axiom_number row.part_number fits.part row.trigger (tree_of table row.concept) fits.is_there fits.is_right
+
+  -- what an axiom gives is right
+  fact_right : (a p : ℕ) (f : Fact ℕ) → q.fact_of a p ≡ Some (read_fact (tree_of table) f) → RightFact f
+  fact_right a p (Has x c) h = kept.member a p x (tree_of table c) h
+  fact_right a p (Edge r x y) h = kept.pair a p r x y h
+  fact_right a p (Apart x y) h = tt
+  fact_right a p (Same x y) h = tt
+
+  fact_is_right : (f : Fact ℕ) → IsGiven context f → RightFact f
+  fact_is_right f h = fact_right h.axiom_number h.place f h.is_there
 
   generates_right : (fs new : List (Fact ℕ)) → RightFacts fs → Generates context fs new → RightFacts new
   generates_right fs new r (by_some x c s e at h sh none) =
       let k = as_shape c (some_shape s e) sh (λ k. cc) (has_right fs r x c h) in
-      fresh_right x s e (node_count fs) 1 (kept.edge_of_some s (tree_of table e) k) (kept.filler_of_some s (tree_of table e) k)
+      fresh_right x s e (node_count_from q.first fs) 1 (kept.edge_of_some s (tree_of table e) k) (kept.filler_of_some s (tree_of table e) k)
   generates_right fs new r (by_least x c n s e at h sh none) =
       let k = as_shape c (least_shape n s e) sh (λ k. cc) (has_right fs r x c h) in
-      fresh_right x s e (node_count fs) n (kept.edge_of_least n s (tree_of table e) k) (kept.filler_of_least n s (tree_of table e) k)
+      fresh_right x s e (node_count_from q.first fs) n (kept.edge_of_least n s (tree_of table e) k) (kept.filler_of_least n s (tree_of table e) k)
 
   branch_right : (fs : List (Fact ℕ)) (b : Branch) → RightFacts fs → MayBranch context fs b → RightBranch b
   branch_right fs b r (on_union x c parts lt h sh none) = has_right fs r x c h
@@ -167,6 +179,7 @@ module _ (P : Concept → Type 0) (E : ℕ → Type 0) (theory : Theory) (table 
 
   legal_right : (old new : List Item) → All RightItem old → IsLegal context old new → All RightItem new
   legal_right old new h (add x d nc adds out) = All-push RightItem old (Says (Has x d)) h (adds_right (facts_of old) (facts_right old h) x d adds)
+  legal_right old new h (give f nc given' out) = All-push RightItem old (Says f) h (fact_is_right f given')
   legal_right old new h (generate fs nc makes) = All-append RightItem old (says fs) h (says_right fs (generates_right (facts_of old) fs (facts_right old h) makes))
   legal_right old new h (choose c f nc may one alt) = branched_right old c 1 f h (branch_right (facts_of old) c.branch (facts_right old h) may) alt
   legal_right old new h (back place c f clash read alt) =
@@ -178,13 +191,13 @@ module _ (P : Concept → Type 0) (E : ℕ → Type 0) (theory : Theory) (table 
   follows_right first zero trail h r = subst (All RightItem) (sym r) h
   follows_right first (suc k) trail h r = legal_right r.0 trail (follows_right first k r.0 h r.1) r.2
 
-  trail_right : (a b k : ℕ) (trail : List Item) → Right a → Right b → Follows context (start a b) k trail → RightFacts (facts_of trail)
-  trail_right a b k trail ra rb r =
-      facts_right trail (follows_right (start a b) k trail
-      (All-cons RightItem (Says (Has 0 a)) (Says (Has 0 b) ∷ []) ra (All-cons RightItem (Says (Has 0 b)) [] rb (All-nil RightItem))) r)
+  trail_right : (at a b k : ℕ) (trail : List Item) → Right a → Right b → Follows context (start at a b) k trail → RightFacts (facts_of trail)
+  trail_right at a b k trail ra rb r =
+      facts_right trail (follows_right (start at a b) k trail
+      (All-cons RightItem (Says (Has at a)) (Says (Has at b) ∷ []) ra (All-cons RightItem (Says (Has at b)) [] rb (All-nil RightItem))) r)
 
-  pub concepts_right : (a b k : ℕ) (trail : List Item) → Right a → Right b → Follows context (start a b) k trail → (x c : ℕ) → has (facts_of trail) x c ≡ true → P (tree_of table c)
-  concepts_right a b k trail ra rb r x c h = has_right (facts_of trail) (trail_right a b k trail ra rb r) x c h
+  pub concepts_right : (at a b k : ℕ) (trail : List Item) → Right a → Right b → Follows context (start at a b) k trail → (x c : ℕ) → has (facts_of trail) x c ≡ true → P (tree_of table c)
+  concepts_right at a b k trail ra rb r x c h = has_right (facts_of trail) (trail_right at a b k trail ra rb r) x c h
 
   edge_right : (roles : ℕ → Bool) (m : ℕ → ℕ) (u v : ℕ) (fs : List (Fact ℕ)) → RightFacts fs → list_any (gives_edge roles m u v) fs ≡ true → (r : ℕ) × (roles r ≡ true) × E r
   edge_right roles m u v [] h g = cc
@@ -196,18 +209,18 @@ module _ (P : Concept → Type 0) (E : ℕ → Type 0) (theory : Theory) (table 
   edge_right roles m u v (Apart y z ∷ fs) h g = edge_right roles m u v fs h.1 g
   edge_right roles m u v (Same y z ∷ fs) h g = edge_right roles m u v fs h.1 g
 
-  pub edges_right : (a b k : ℕ) (trail : List Item) → Right a → Right b → Follows context (start a b) k trail → (roles : ℕ → Bool) (x y : ℕ) → has_edge (facts_of trail) roles x y ≡ true → (r : ℕ) × (roles r ≡ true) × E r
-  edges_right a b k trail ra rb r roles x y h = edge_right roles (rep (facts_of trail)) (rep (facts_of trail) x) (rep (facts_of trail) y) (facts_of trail) (trail_right a b k trail ra rb r) h
+  pub edges_right : (at a b k : ℕ) (trail : List Item) → Right a → Right b → Follows context (start at a b) k trail → (roles : ℕ → Bool) (x y : ℕ) → has_edge (facts_of trail) roles x y ≡ true → (r : ℕ) × (roles r ≡ true) × E r
+  edges_right at a b k trail ra rb r roles x y h = edge_right roles (rep (facts_of trail)) (rep (facts_of trail) x) (rep (facts_of trail) y) (facts_of trail) (trail_right at a b k trail ra rb r) h
 
 -- ---- the law
 
 pub kept_kinds_stay : KeptKindsStay
-kept_kinds_stay theory sub sup table rows k trail reached p e kept in_sub in_sup =
+kept_kinds_stay q table rows k trail reached p e kept in_sub in_sup =
     let P : Concept → Type 0 = λ c. p c ≡ true in
     let E : ℕ → Type 0 = λ r. e r ≡ true in
     let first = subst P (sym reached.sub_reads) in_sub in
     let second = subst P (sym reached.not_sup_reads) in_sup in
     record {
-      concepts = concepts_right P E theory table rows reached.is_table reached.is_choice kept reached.sub_number reached.not_sup_number k trail first second reached.follows;
-      edges = edges_right P E theory table rows reached.is_table reached.is_choice kept reached.sub_number reached.not_sup_number k trail first second reached.follows;
+      concepts = concepts_right P E q table rows reached.is_table reached.is_choice kept q.at reached.sub_number reached.not_sup_number k trail first second reached.follows;
+      edges = edges_right P E q table rows reached.is_table reached.is_choice kept q.at reached.sub_number reached.not_sup_number k trail first second reached.follows;
     }

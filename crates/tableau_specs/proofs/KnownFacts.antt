@@ -10,9 +10,9 @@ use Rattle.calculus_specs.specs.Shape.Shape.{top as top_shape}
 use Rattle.calculus_specs.specs.Tree.{tree_of, trees_of, tree_over}
 use Rattle.calculus_specs.proofs.Unique.{tree_of_shape}
 use Rattle.calculus_specs.specs.declared.facts.Fact.{Fact}
-use Rattle.calculus_specs.specs.State.{node_count, has, has_tree, has_edge, are_apart, all_apart}
+use Rattle.calculus_specs.specs.State.{node_count_from, has, has_tree, has_edge, are_apart, all_apart}
 use Rattle.calculus_specs.proofs.Reading.{keeps_state, has-read}
-use Rattle.calculus_specs.specs.Rules.{Known, knows, when, at_concept, are_fillers}
+use Rattle.calculus_specs.specs.Rules.{Question, Known, knows, when, at_concept, are_fillers}
 use Rattle.tableau_specs.specs.Steps.{SearchContext, below_of}
 use Rattle.tableau_specs.proofs.Listed.{listed}
 use Rattle.tableau_specs.specs.Lines.{known_by, concept_in}
@@ -22,19 +22,19 @@ use Rattle.tableau_specs.proofs.PlainClash.{FilledSuccessor}
 past : (x a : ℕ) → a ≤ x → eqb a x ≡ false → a + 1 ≤ x
 past x a le miss = grind (arith, nat_tests)
 
-known_in : (x a n : ℕ) → a ≤ x → x < a + n → list_any (λ y. eqb y x) (range_with_len a n) ≡ true
+pub known_in : (x a n : ℕ) → a ≤ x → x < a + n → list_any (λ y. eqb y x) (range_with_len a n) ≡ true
 known_in x a zero le lt = absurd (omega arith)
 known_in x a (suc n) le lt = elim (cases_Bool (eqb a x)) [
   | inl hit ↦ rw hit refl
   | inr miss ↦ rw miss (known_in x (a + 1) n (past x a le miss) (omega arith))
 ]
 
-module _ (w : SearchContext) (sub sup : Concept) (fs : List (Fact ℕ)) (over : IsOver w fs) where
+module _ (w : SearchContext) (q : Question) (fs : List (Fact ℕ)) (over : IsOver w fs) where
   abbrev pub k : Known
-  k = known_by w.table fs
+  k = known_by w.first w.table fs
 
-  pub is_known : (x : ℕ) → x < node_count fs → knows k x ≡ true
-  is_known x lt = known_in x 0 (node_count fs) (omega arith) (omega arith)
+  pub is_known : (x : ℕ) → x < node_count_from w.first fs → knows k x ≡ true
+  is_known x lt = known_in x 0 (node_count_from w.first fs) (omega arith) (omega arith)
 
   pub reads : (c : ℕ) (s : Shape) → shape_of w.table c ≡ s → ¬ (s ≡ top_shape) → tree_of w.table c ≡ tree_over (trees_of w.table) s
   reads c s sh ne =
@@ -51,7 +51,7 @@ module _ (w : SearchContext) (sub sup : Concept) (fs : List (Fact ℕ)) (over : 
   concept_reads c lt = rw (lt-ltb c (length w.table) lt) refl
 
   -- a line whose concept has a shape other than top, at a node that has it
-  pub at_shape : (x c : ℕ) (s : Shape) (answer : Concept → Option (List Known)) → x < node_count fs → has fs x c ≡ true → shape_of w.table c ≡ s → ¬ (s ≡ top_shape)
+  pub at_shape : (x c : ℕ) (s : Shape) (answer : Concept → Option (List Known)) → x < node_count_from w.first fs → has fs x c ≡ true → shape_of w.table c ≡ s → ¬ (s ≡ top_shape)
       → at_concept k x (concept_in w.table c) answer ≡ answer (tree_over (trees_of w.table) s)
   at_shape x c s answer lt h sh ne =
       let mt = listed w.table c (λ e. ne (sym sh ∙ e)) in
@@ -62,12 +62,12 @@ module _ (w : SearchContext) (sub sup : Concept) (fs : List (Fact ℕ)) (over : 
 
   -- ---- successors with the filler, and nodes that are apart
 
-  pub fillers_read : (x s e : ℕ) (ys : List ℕ) → e < length w.table → All (FilledSuccessor (below_of w) fs x s e) ys → are_fillers w.theory k x s (tree_of w.table e) ys ≡ true
+  pub fillers_read : (x s e : ℕ) (ys : List ℕ) → e < length w.table → All (FilledSuccessor w.first (below_of w) fs x s e) ys → are_fillers w.theory k x s (tree_of w.table e) ys ≡ true
   fillers_read x s e [] lt all = refl
   fillers_read x s e (y ∷ ys) lt all =
-      let f = All-head (FilledSuccessor (below_of w) fs x s e) y ys all in
+      let f = All-head (FilledSuccessor w.first (below_of w) fs x s e) y ys all in
       rw (is_known y f.is_node, edge_reads (λ r. below_of w r s) x y ∙ f.edge, holds y e lt f.holds)
-      (fillers_read x s e ys lt (All-tail (FilledSuccessor (below_of w) fs x s e) y ys all))
+      (fillers_read x s e ys lt (All-tail (FilledSuccessor w.first (below_of w) fs x s e) y ys all))
 
   each_apart_reads : (y : ℕ) (ys : List ℕ) → list_all (are_apart k.facts y) ys ≡ list_all (are_apart fs y) ys
   each_apart_reads y [] = refl

@@ -22,6 +22,8 @@ pub mod Concept
 pub mod Bare
 pub mod Grown
 pub mod ClashBlock
+pub mod Edge
+pub mod Itself
 pub mod Parted
 pub mod Marks
 pub mod Merged

@@ -5,13 +5,12 @@ use Rattle.std.proofs.lemmas.List.{get_or_past}
 use Rattle.std.proofs.lemmas.List.Elements.{All-nil, All-cons, All-head, All-tail, All-append, All-push, All-take, All-contains, All-get_or}
 use Rattle.std.proofs.lemmas.Bool.{cases_lt, ltb-true, lt-ltb, and_parts}
 use Rattle.std.proofs.lemmas.Option.{slice_get_within, get_or_from_slice_get}
-use Rattle.calculus_specs.specs.Concept.{Concept}
 use Rattle.calculus_specs.specs.Shape.{Shape, shape_of, has_parts_below, IsTable}
 use Rattle.calculus_specs.specs.Shape.Shape.{top, intersection, union, some_of, all_of, at_least, at_most}
-use Rattle.calculus_specs.specs.Rows.{Theory, Row, IsRowOf, IsChoice}
+use Rattle.calculus_specs.specs.Rows.{Row, IsRowOf, IsChoice}
 use Rattle.calculus_specs.specs.declared.facts.Fact.{Fact}
 use Rattle.calculus_specs.specs.declared.facts.Fact.TheVariants.{Has}
-use Rattle.calculus_specs.specs.State.{new_nodes, apart_from, pairwise_apart, fresh_facts, node_count}
+use Rattle.calculus_specs.specs.State.{new_nodes, apart_from, pairwise_apart, fresh_facts, node_count_from}
 use Rattle.calculus_specs.specs.Reading.{is_fact_listed, are_listed}
 use Rattle.tableau_specs.specs.declared.Branch.{Branch}
 use Rattle.tableau_specs.specs.declared.Branch.TheVariants.{Or, Choose, Pair}
@@ -19,13 +18,14 @@ use Rattle.tableau_specs.specs.declared.Choice.{Choice}
 use Rattle.tableau_specs.specs.declared.Item.{Item}
 use Rattle.tableau_specs.specs.declared.Item.TheVariants.{Fact as Says, Mark}
 use Rattle.tableau_specs.specs.Items.{facts_of, says}
-use Rattle.tableau_specs.specs.Steps.{SearchContext, Adds, Generates, MayBranch, IsAlternative, IsLegal, next_choice}
+use Rattle.tableau_specs.specs.Steps.{SearchContext, IsGiven, Adds, Generates, MayBranch, IsAlternative, IsLegal, next_choice}
 use Rattle.tableau_specs.specs.Steps.Adds.{by_and, by_all, by_carry, by_row}
 use Rattle.tableau_specs.specs.Steps.Generates.{by_some, by_least}
 use Rattle.tableau_specs.specs.Steps.MayBranch.{on_union, on_filler, on_pair}
 use Rattle.tableau_specs.specs.Steps.IsAlternative.{of_union, of_filler, of_complement, of_joining, of_parting}
-use Rattle.tableau_specs.specs.Steps.IsLegal.{add, generate, choose, back}
-use Rattle.tableau_specs.specs.Reached.{start, Follows, IsReached}
+use Rattle.tableau_specs.specs.Steps.IsLegal.{add, give, generate, choose, back}
+use Rattle.tableau_specs.specs.Reached.{start, Follows, context_of, IsReached}
+use Rattle.calculus_specs.specs.Rules.{Question}
 
 -- ---- numbers of a table
 
@@ -102,19 +102,22 @@ fresh_listed n x s e first k lt = nodes_listed n x s e first k (pairwise_apart f
 
 -- ---- steps
 
-module _ (theory : Theory) (table : List Shape) (rows : List Row) (good : IsTable table) (fits : IsChoice theory table rows) where
+module _ (q : Question) (table : List Shape) (rows : List Row) (good : IsTable table) (fits : IsChoice q.theory table rows) where
   abbrev context : SearchContext
-  context = record { theory = theory; table = table; rows = rows }
+  context = context_of q table rows
 
   adds_listed : (fs : List (Fact ℕ)) (x d : ℕ) → Adds context fs x d → d < length table
   adds_listed fs x d (by_and x' c d' parts lt h sh m) = part_listed context good c d parts sh m
   adds_listed fs x d (by_all x' y c s e lt mt h sh edge) = all_listed context good c s d sh
   adds_listed fs x d (by_carry x' y c s t e d' carried sh) = listed table d (λ k. (let l = sym sh ∙ k in cc))
-  adds_listed fs x d (by_row x' row lt m used) = (All-contains (IsRowOf theory table) rows row fits.rows_fit m).listed
+  adds_listed fs x d (by_row x' row lt m used) = (All-contains (IsRowOf q.theory table) rows row fits.rows_fit m).listed
+
+  given_listed : (f : Fact ℕ) → IsGiven context f → is_fact_listed (length table) f ≡ true
+  given_listed f h = h.listed
 
   generates_listed : (fs new : List (Fact ℕ)) → Generates context fs new → are_listed (length table) new ≡ true
-  generates_listed fs new (by_some x c s e at h sh none) = fresh_listed (length table) x s e (node_count fs) 1 (some_listed context good c s e sh)
-  generates_listed fs new (by_least x c n s e at h sh none) = fresh_listed (length table) x s e (node_count fs) n (least_listed context good c n s e sh)
+  generates_listed fs new (by_some x c s e at h sh none) = fresh_listed (length table) x s e (node_count_from q.first fs) 1 (some_listed context good c s e sh)
+  generates_listed fs new (by_least x c n s e at h sh none) = fresh_listed (length table) x s e (node_count_from q.first fs) n (least_listed context good c n s e sh)
 
   pub branch_listed : (fs : List (Fact ℕ)) (b : Branch) → MayBranch context fs b → BranchListed (length table) b
   branch_listed fs b (on_union x c parts lt h sh none) = tt
@@ -139,6 +142,7 @@ module _ (theory : Theory) (table : List Shape) (rows : List Row) (good : IsTabl
 
   legal_listed : (old new : List Item) → All (ItemListed (length table)) old → IsLegal context old new → All (ItemListed (length table)) new
   legal_listed old new h (add x d nc adds out) = All-push (ItemListed (length table)) old (Says (Has x d)) h (lt-ltb d (length table) (adds_listed (facts_of old) x d adds))
+  legal_listed old new h (give f nc given' out) = All-push (ItemListed (length table)) old (Says f) h (given_listed f given')
   legal_listed old new h (generate fs nc makes) = All-append (ItemListed (length table)) old (says fs) h (says_listed (length table) fs (generates_listed (facts_of old) fs makes))
   legal_listed old new h (choose c f nc may one alt) = branched_listed old c 1 f h (branch_listed (facts_of old) c.branch may) alt
   legal_listed old new h (back place c f clash read alt) =
@@ -150,16 +154,16 @@ module _ (theory : Theory) (table : List Shape) (rows : List Row) (good : IsTabl
   follows_listed first zero trail h r = subst (All (ItemListed (length table))) (sym r) h
   follows_listed first (suc k) trail h r = legal_listed r.0 trail (follows_listed first k r.0 h r.1) r.2
 
-pub start_listed : (n a b : ℕ) → a < n → b < n → All (ItemListed n) (start a b)
-start_listed n a b lt mt =
-    All-cons (ItemListed n) (Says (Has 0 a)) (Says (Has 0 b) ∷ []) (lt-ltb a n lt) (All-cons (ItemListed n) (Says (Has 0 b)) [] (lt-ltb b n mt) (All-nil (ItemListed n)))
+pub start_listed : (n at a b : ℕ) → a < n → b < n → All (ItemListed n) (start at a b)
+start_listed n at a b lt mt =
+    All-cons (ItemListed n) (Says (Has at a)) (Says (Has at b) ∷ []) (lt-ltb a n lt) (All-cons (ItemListed n) (Says (Has at b)) [] (lt-ltb b n mt) (All-nil (ItemListed n)))
 
-pub reached_items_listed : (theory : Theory) (sub sup : Concept) (table : List Shape) (rows : List Row) (k : ℕ) (trail : List Item)
-    → IsReached theory sub sup table rows k trail → All (ItemListed (length table)) trail
-reached_items_listed theory sub sup table rows k trail r =
-    follows_listed theory table rows r.is_table r.is_choice (start r.sub_number r.not_sup_number) k trail
-    (start_listed (length table) r.sub_number r.not_sup_number r.sub_listed r.not_sup_listed) r.follows
+pub reached_items_listed : (q : Question) (table : List Shape) (rows : List Row) (k : ℕ) (trail : List Item)
+    → IsReached q table rows k trail → All (ItemListed (length table)) trail
+reached_items_listed q table rows k trail r =
+    follows_listed q table rows r.is_table r.is_choice (start q.at r.sub_number r.not_sup_number) k trail
+    (start_listed (length table) q.at r.sub_number r.not_sup_number r.sub_listed r.not_sup_listed) r.follows
 
-pub reached_listed : (theory : Theory) (sub sup : Concept) (table : List Shape) (rows : List Row) (k : ℕ) (trail : List Item)
-    → IsReached theory sub sup table rows k trail → are_listed (length table) (facts_of trail) ≡ true
-reached_listed theory sub sup table rows k trail r = facts_listed (length table) trail (reached_items_listed theory sub sup table rows k trail r)
+pub reached_listed : (q : Question) (table : List Shape) (rows : List Row) (k : ℕ) (trail : List Item)
+    → IsReached q table rows k trail → are_listed (length table) (facts_of trail) ≡ true
+reached_listed q table rows k trail r = facts_listed (length table) trail (reached_items_listed q table rows k trail r)

@@ -1,55 +1,20 @@
 -- Trails that a search reaches: what they speak of, and what stands before their marks.
-use Rattle.std.proofs.Common.{◌≡◌, ℕ, zero, suc, ◌+◌, ◌<◌, ◌≤◌, ◌&&◌, ltb, true, List, [], ◌∷◌, ◌++◌, length, take, Some, refl, ◌∙◌, sym, subst, arith}
+use Rattle.std.proofs.Common.{◌≡◌, ℕ, zero, suc, ◌+◌, ◌<◌, true, List, [], ◌∷◌, ◌++◌, length, take, Some, sym, subst, arith}
 use Rattle.std.specs.Prelude.{slice_get}
-use Rattle.std.specs.List.{list_all}
-use Rattle.std.proofs.lemmas.Bool.{ltb-true, lt-ltb, and_parts}
 use Rattle.std.proofs.lemmas.List.{take_at, take-take, take-append-le}
-use Rattle.std.proofs.lemmas.List.Folds.{list_all-append}
 use Rattle.calculus_specs.specs.declared.facts.Fact.{Fact}
-use Rattle.calculus_specs.specs.declared.facts.Fact.TheVariants.{Has, Edge, Apart, Same}
-use Rattle.calculus_specs.specs.State.{node_count}
+use Rattle.calculus_specs.specs.declared.facts.Fact.TheVariants.{Has}
+use Rattle.calculus_specs.specs.State.{speak_of_nodes}
 use Rattle.tableau_specs.specs.declared.Choice.{Choice}
 use Rattle.tableau_specs.specs.declared.Item.{Item}
 use Rattle.tableau_specs.specs.declared.Item.TheVariants.{Fact as Says, Mark}
 use Rattle.tableau_specs.specs.Items.{facts_of, says}
-use Rattle.tableau_specs.specs.Steps.{SearchContext, IsLegal, HasPlainClash, next_choice}
-use Rattle.tableau_specs.specs.Steps.IsLegal.{add, generate, choose, back}
+use Rattle.tableau_specs.specs.Steps.{SearchContext, IsGiven, IsLegal, HasPlainClash, next_choice}
+use Rattle.tableau_specs.specs.Steps.IsLegal.{add, give, generate, choose, back}
 use Rattle.tableau_specs.specs.Reached.{start, Follows}
 use Rattle.tableau_specs.proofs.Reached.{reached_built}
-use Rattle.tableau_specs.proofs.Built.{Supports, IsBuilt, built_facts}
-use Rattle.tableau_specs.proofs.TreeShaped.{count_le, sibling_nodes, count-edge}
-use Rattle.tableau_specs.specs.Near.{speaks_below, speak_of_nodes}
-
--- ---- facts speak of their nodes
-
-two : (y z n : ℕ) → y < n → z < n → (ltb y n && ltb z n) ≡ true
-two y z n lt mt = rw (lt-ltb y n lt, lt-ltb z n mt) refl
-
-more_below : (n k : ℕ) → n ≤ k → (f : Fact ℕ) → speaks_below n f ≡ true → speaks_below k f ≡ true
-more_below n k le (Has x c) h = lt-ltb x k (omega (arith, ltb-true x n h, le))
-more_below n k le (Edge r x y) h = let t = and_parts (ltb x n) (ltb y n) h in two x y k (omega (arith, ltb-true x n t.0, le)) (omega (arith, ltb-true y n t.1, le))
-more_below n k le (Apart x y) h = let t = and_parts (ltb x n) (ltb y n) h in two x y k (omega (arith, ltb-true x n t.0, le)) (omega (arith, ltb-true y n t.1, le))
-more_below n k le (Same x y) h = let t = and_parts (ltb x n) (ltb y n) h in two x y k (omega (arith, ltb-true x n t.0, le)) (omega (arith, ltb-true y n t.1, le))
-
-all_more_below : (n k : ℕ) → n ≤ k → (fs : List (Fact ℕ)) → list_all (speaks_below n) fs ≡ true → list_all (speaks_below k) fs ≡ true
-all_more_below n k le [] h = refl
-all_more_below n k le (f ∷ fs) h = let t = and_parts (speaks_below n f) (list_all (speaks_below n) fs) h in rw (more_below n k le f t.0) (all_more_below n k le fs t.1)
-
-supported_below : (fs : List (Fact ℕ)) (f : Fact ℕ) → Supports fs (Says f) → speaks_below (node_count (fs ++ f ∷ [])) f ≡ true
-supported_below fs (Has x c) s = lt-ltb x (node_count (fs ++ Has x c ∷ [])) (omega (arith, s, count_le fs (Has x c)))
-supported_below fs (Edge r x y) s = two x y (node_count (fs ++ Edge r x y ∷ [])) (omega (arith, s.0, count_le fs (Edge r x y))) (omega (arith, count-edge fs r x y))
-supported_below fs (Apart y z) s = two y z (node_count (fs ++ Apart y z ∷ [])) (omega (arith, s.0, count_le fs (Apart y z))) (omega (arith, s.1, count_le fs (Apart y z)))
-supported_below fs (Same y z) s =
-    let n = sibling_nodes fs y z s in
-    two y z (node_count (fs ++ Same y z ∷ [])) (omega (arith, n.0, count_le fs (Same y z))) (omega (arith, n.1, count_le fs (Same y z)))
-
-speak_more : (fs : List (Fact ℕ)) (f : Fact ℕ) → Supports fs (Says f) → speak_of_nodes fs ≡ true → speak_of_nodes (fs ++ f ∷ []) ≡ true
-speak_more fs f s h =
-    let n = node_count (fs ++ f ∷ []) in
-    list_all-append (speaks_below n) fs (f ∷ []) ∙ rw (all_more_below (node_count fs) n (count_le fs f) fs h, supported_below fs f s) refl
-
-pub built_speak : (is : List Item) → IsBuilt is → speak_of_nodes (facts_of is) ≡ true
-built_speak = built_facts (λ fs. speak_of_nodes fs ≡ true) refl speak_more
+use Rattle.tableau_specs.proofs.TreeShaped.{built_speak}
+use Rattle.tableau_specs.proofs.Legal.{given_on_first}
 
 -- ---- marks
 
@@ -110,20 +75,21 @@ module _ (w : SearchContext) where
 
   legal_before : (old new : List Item) → AreBefore old → IsLegal w old new → AreBefore new
   legal_before old new h (add x d nc adds out) = said_more old (Has x d ∷ []) h
+  legal_before old new h (give f nc given out) = said_more old (f ∷ []) h
   legal_before old new h (generate fs nc makes) = said_more old fs h
   legal_before old new h (choose c f nc may one alt) = marked_more old c f h nc
   legal_before old new h (back place c f clash read alt) = marked_more (take place old) (next_choice w c) f (taken old place h) (h place c read)
 
-  start_before : (a b : ℕ) → AreBefore (start a b)
-  start_before a b place c k = absurd (no_mark_said (Has 0 a ∷ Has 0 b ∷ []) place c k)
+  start_before : (at a b : ℕ) → AreBefore (start at a b)
+  start_before at a b place c k = absurd (no_mark_said (Has at a ∷ Has at b ∷ []) place c k)
 
-  pub follows_before : (a b k : ℕ) (trail : List Item) → Follows w (start a b) k trail → AreBefore trail
-  follows_before a b zero trail r = subst AreBefore (sym r) (start_before a b)
-  follows_before a b (suc k) trail r = legal_before r.0 trail (follows_before a b k r.0 r.1) r.2
+  pub follows_before : (at a b k : ℕ) (trail : List Item) → Follows w (start at a b) k trail → AreBefore trail
+  follows_before at a b zero trail r = subst AreBefore (sym r) (start_before at a b)
+  follows_before at a b (suc k) trail r = legal_before r.0 trail (follows_before at a b k r.0 r.1) r.2
 
-pub reached_before : (w : SearchContext) (sub not_sup k : ℕ) (trail : List Item) → Follows w (start sub not_sup) k trail
+pub reached_before : (w : SearchContext) (at sub not_sup k : ℕ) (trail : List Item) → at < w.first → Follows w (start at sub not_sup) k trail
     → (place : ℕ) (c : Choice) → slice_get trail place ≡ Some (Mark c) → ¬ HasPlainClash w (take place trail)
-reached_before w sub not_sup k trail r = follows_before w sub not_sup k trail r
+reached_before w at sub not_sup k trail lt r = follows_before w at sub not_sup k trail r
 
-pub reached_speak : (w : SearchContext) (sub not_sup k : ℕ) (trail : List Item) → Follows w (start sub not_sup) k trail → speak_of_nodes (facts_of trail) ≡ true
-reached_speak w sub not_sup k trail r = built_speak trail (reached_built w sub not_sup k trail r)
+pub reached_speak : (w : SearchContext) (at sub not_sup k : ℕ) (trail : List Item) → at < w.first → Follows w (start at sub not_sup) k trail → speak_of_nodes w.first (facts_of trail) ≡ true
+reached_speak w at sub not_sup k trail lt r = built_speak w.first (IsGiven w) (given_on_first w) trail (reached_built w at sub not_sup k trail lt r)

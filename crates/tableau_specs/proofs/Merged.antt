@@ -8,7 +8,7 @@ use Rattle.calculus_specs.proofs.Bools.{or_exchange}
 use Rattle.calculus_specs.specs.declared.facts.Fact.{Fact}
 use Rattle.calculus_specs.specs.declared.facts.Fact.TheVariants.{Has, Edge, Apart, Same}
 use Rattle.calculus_specs.specs.Joins.{rep, merged}
-use Rattle.calculus_specs.specs.State.{node_count, gives_concept, gives_edge, gives_apart, has, has_edge, are_apart}
+use Rattle.calculus_specs.specs.State.{node_count_from, gives_concept, gives_edge, gives_apart, has, has_edge, are_apart}
 use Rattle.tableau_specs.proofs.TreeShaped.{reps-snoc}
 use Rattle.tableau_specs.proofs.After.{any-snoc}
 
@@ -49,12 +49,12 @@ any_split p q r imp (x ∷ xs) h = or_exchange (q x) (list_any q xs) (r x) (list
 
 -- ---- two nodes become one
 
-count : (gs : List (Fact ℕ)) (y z : ℕ) → node_count (gs ++ Same y z ∷ []) ≡ node_count gs
-count [] y z = refl
-count (Edge r v w ∷ gs) y z = ap (max (w + 1)) (count gs y z)
-count (Has v d ∷ gs) y z = count gs y z
-count (Apart v w ∷ gs) y z = count gs y z
-count (Same v w ∷ gs) y z = count gs y z
+count : (first : ℕ) (gs : List (Fact ℕ)) (y z : ℕ) → node_count_from first (gs ++ Same y z ∷ []) ≡ node_count_from first gs
+count first [] y z = refl
+count first (Edge r v w ∷ gs) y z = ap (max (w + 1)) (count first gs y z)
+count first (Has v d ∷ gs) y z = count first gs y z
+count first (Apart v w ∷ gs) y z = count first gs y z
+count first (Same v w ∷ gs) y z = count first gs y z
 
 module _ (fs : List (Fact ℕ)) (y z : ℕ) where
   abbrev joined : List (Fact ℕ)
@@ -72,8 +72,8 @@ module _ (fs : List (Fact ℕ)) (y z : ℕ) where
   reps : rep joined ≡ M
   reps = reps-snoc fs (Same y z)
 
-  pub count-join : node_count joined ≡ node_count fs
-  count-join = count fs y z
+  pub count-join : (first : ℕ) → node_count_from first joined ≡ node_count_from first fs
+  count-join first = count first fs y z
 
   joined_has : (v e : ℕ) → has joined v e ≡ (eqb e 0 || list_any (gives_concept (λ d. eqb d e) M (M v)) fs)
   joined_has v e =

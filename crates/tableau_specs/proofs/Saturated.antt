@@ -13,21 +13,20 @@ use Rattle.std.proofs.lemmas.Map.Views.{any-filter_same}
 use Rattle.calculus_specs.specs.declared.facts.Fact.{Fact}
 use Rattle.calculus_specs.specs.declared.facts.Fact.TheVariants.{Same}
 use Rattle.calculus_specs.specs.Joins.{rep}
-use Rattle.calculus_specs.specs.State.{node_count, gives_concept, gives_edge, gives_apart, has, has_edge, is_successor, successors, are_apart, all_apart}
+use Rattle.calculus_specs.specs.State.{node_count_from, gives_concept, gives_edge, gives_apart, has, has_edge, is_successor, successors_from, are_apart, all_apart}
 use Rattle.calculus_specs.proofs.Joined.{rep-le, rep-joined, joined-rep}
 use Rattle.tableau_specs.specs.declared.Branch.TheVariants.{Pair}
 use Rattle.tableau_specs.specs.declared.Item.{Item}
 use Rattle.tableau_specs.specs.Items.{facts_of}
 use Rattle.tableau_specs.specs.Clash.{filled_successors}
-use Rattle.tableau_specs.specs.Clash.IsClash.{of_bottom, of_names, of_most}
-use Rattle.tableau_specs.specs.Clash.IsPlainClash.{plain_bottom, plain_names, plain_most}
+use Rattle.tableau_specs.specs.Clash.IsClash.{of_bottom, of_names, of_most, of_differ}
+use Rattle.tableau_specs.specs.Clash.IsPlainClash.{plain_bottom, plain_names, plain_most, plain_differ}
 use Rattle.tableau_specs.proofs.PlainClash.{FilledSuccessor, all_filled_parts}
 use Rattle.tableau_specs.specs.Steps.{SearchContext, below_of, IsSaturated, HasClash}
 use Rattle.tableau_specs.specs.Steps.MayBranch.{on_pair}
 use Rattle.tableau_specs.specs.Steps.IsAlternative.{of_joining}
 use Rattle.tableau_specs.specs.Reached.{start, Follows}
-use Rattle.tableau_specs.proofs.TreeShaped.{IsTreeShaped}
-use Rattle.tableau_specs.proofs.Reached.{reached_tree_shaped}
+use Rattle.tableau_specs.proofs.Reached.{not_apart_itself}
 
 -- ---- the representatives of nodes that are pairwise apart are different
 
@@ -35,17 +34,21 @@ all_false : (p : ℕ → Bool) (m : ℕ → ℕ) (a : ℕ) (ys : List ℕ) → (
 all_false p m a [] imp h = tt
 all_false p m a (y ∷ ys) imp h = let t = and_parts (p y) (list_all p ys) h in (imp y t.0, all_false p m a ys imp t.1)
 
-reps_differ : (fs : List (Fact ℕ)) → IsTreeShaped fs → (y z : ℕ) → are_apart fs y z ≡ true → eqb (rep fs y) (rep fs z) ≡ false
+-- no node is apart from itself
+abbrev NoneApartFromItself : List (Fact ℕ) → Type 0
+NoneApartFromItself fs = (x : ℕ) → are_apart fs x x ≡ false
+
+reps_differ : (fs : List (Fact ℕ)) → NoneApartFromItself fs → (y z : ℕ) → are_apart fs y z ≡ true → eqb (rep fs y) (rep fs z) ≡ false
 reps_differ fs g y z h = elim (cases_Bool (eqb (rep fs y) (rep fs z))) [
   | inr ne ↦ ne
   | inl eq ↦
       let e = eqb-true (rep fs y) (rep fs z) eq in
-      let same : list_any (gives_apart (rep fs) (rep fs y) (rep fs y)) fs ≡ true = ap (λ (a : ℕ). list_any (gives_apart (rep fs) (rep fs y) a) fs) e ∙ h in
-      let none = g.not_apart (rep fs y) in
+      let same : are_apart fs y y ≡ true = ap (λ (a : ℕ). list_any (gives_apart (rep fs) (rep fs y) a) fs) e ∙ h in
+      let none = g y in
       cc
 ]
 
-distinct_reps : (fs : List (Fact ℕ)) → IsTreeShaped fs → (ys : List ℕ) → all_apart fs ys ≡ true → IsDistinct eqb (map (rep fs) ys)
+distinct_reps : (fs : List (Fact ℕ)) → NoneApartFromItself fs → (ys : List ℕ) → all_apart fs ys ≡ true → IsDistinct eqb (map (rep fs) ys)
 unfolding IsDistinct
 distinct_reps fs g [] h = tt
 distinct_reps fs g (y ∷ ys) h =
@@ -76,39 +79,39 @@ in_filter p z xs h there = any-filter_same (eqb z) p true (λ k e. ap p (sym (eq
 
 module _ (w : SearchContext) (fs : List (Fact ℕ)) (x s e : ℕ) where
   abbrev counts : List ℕ
-  counts = filled_successors (below_of w) fs x s e
+  counts = filled_successors w.first (below_of w) fs x s e
 
-  pub filled_is_counted : (y : ℕ) → FilledSuccessor (below_of w) fs x s e y → list_any (eqb (rep fs y)) counts ≡ true
+  pub filled_is_counted : (y : ℕ) → FilledSuccessor w.first (below_of w) fs x s e y → list_any (eqb (rep fs y)) counts ≡ true
   filled_is_counted y f =
       let z = rep fs y in
       let roles : ℕ → Bool = λ r. below_of w r s in
       let edge : has_edge fs roles x z ≡ true = ap (λ (a : ℕ). list_any (gives_edge roles (rep fs) (rep fs x) a) fs) (rep-rep fs y) ∙ f.edge in
       let next : is_successor fs roles x z ≡ true = rw (eq-eqb (rep fs z) z (rep-rep fs y)) edge in
       let holds : has fs z e ≡ true = ap (λ (a : ℕ). eqb e 0 || list_any (gives_concept (λ d. eqb d e) (rep fs) a) fs) (rep-rep fs y) ∙ f.holds in
-      in_filter (λ v. has fs v e) z (successors fs roles x) holds
-      (in_filter (is_successor fs roles x) z (range_with_len 0 (node_count fs)) next (in_range z 0 (node_count fs) (omega arith) (omega (arith, rep-le fs y, f.is_node))))
+      in_filter (λ v. has fs v e) z (successors_from w.first fs roles x) holds
+      (in_filter (is_successor fs roles x) z (range_with_len 0 (node_count_from w.first fs)) next (in_range z 0 (node_count_from w.first fs) (omega arith) (omega (arith, rep-le fs y, f.is_node))))
 
-  filled_are_counted : (q : ℕ) (ys : List ℕ) → All (FilledSuccessor (below_of w) fs x s e) ys → list_any (eqb q) (map (rep fs) ys) ≡ true → list_any (eqb q) counts ≡ true
+  filled_are_counted : (q : ℕ) (ys : List ℕ) → All (FilledSuccessor w.first (below_of w) fs x s e) ys → list_any (eqb q) (map (rep fs) ys) ≡ true → list_any (eqb q) counts ≡ true
   filled_are_counted q [] all h = cc
   filled_are_counted q (y ∷ ys) all h =
       elim (or_cases (eqb q (rep fs y)) (list_any (eqb q) (map (rep fs) ys)) h) [
         | inl here ↦
             subst (λ (a : ℕ). list_any (eqb a) counts ≡ true) (sym (eqb-true q (rep fs y) here))
-            (filled_is_counted y (All-head (FilledSuccessor (below_of w) fs x s e) y ys all))
-        | inr later ↦ filled_are_counted q ys (All-tail (FilledSuccessor (below_of w) fs x s e) y ys all) later
+            (filled_is_counted y (All-head (FilledSuccessor w.first (below_of w) fs x s e) y ys all))
+        | inr later ↦ filled_are_counted q ys (All-tail (FilledSuccessor w.first (below_of w) fs x s e) y ys all) later
       ]
 
   -- as many are counted as a rule line may name
-  pub counted : IsTreeShaped fs → (ys : List ℕ) → All (FilledSuccessor (below_of w) fs x s e) ys → all_apart fs ys ≡ true → length ys ≤ length counts
+  pub counted : NoneApartFromItself fs → (ys : List ℕ) → All (FilledSuccessor w.first (below_of w) fs x s e) ys → all_apart fs ys ≡ true → length ys ≤ length counts
   counted g ys all apart =
       omega (arith, length-map ys (rep fs), length-le_from_is_member nat_eq_equiv (map (rep fs) ys) counts (distinct_reps fs g ys apart) (λ q h. filled_are_counted q ys all h))
 
-  -- ---- the successors that are counted are ascending
+  -- ---- the successors_from w.first that are counted are ascending
 
   ascending : AllPairs (λ y z. y < z) counts
   ascending =
-      AllPairs-filter (λ y z. y < z) (λ v. has fs v e) (successors fs (λ r. below_of w r s) x)
-      (AllPairs-filter (λ y z. y < z) (is_successor fs (λ r. below_of w r s) x) (range_with_len 0 (node_count fs)) (range_ascending (node_count fs)))
+      AllPairs-filter (λ y z. y < z) (λ v. has fs v e) (successors_from w.first fs (λ r. below_of w r s) x)
+      (AllPairs-filter (λ y z. y < z) (is_successor fs (λ r. below_of w r s) x) (range_with_len 0 (node_count_from w.first fs)) (range_ascending (node_count_from w.first fs)))
 
 -- ---- two that are not apart
 
@@ -154,20 +157,21 @@ unapart fs (y ∷ ys) h f = elim (cases_Bool (list_all (are_apart fs y) ys)) [
 
 -- ---- the law
 
-clear : (w : SearchContext) (trail : List Item) → IsTreeShaped (facts_of trail) → IsSaturated w trail → ¬ HasClash w trail
+clear : (w : SearchContext) (trail : List Item) → NoneApartFromItself (facts_of trail) → IsSaturated w trail → ¬ HasClash w trail
 clear w trail g sat (of_bottom x c lt h sh) = sat.no_clash (plain_bottom x c lt h sh)
 clear w trail g sat (of_names x c d a lt h sh k th) = sat.no_clash (plain_names x c d a lt h sh k th)
+clear w trail g sat (of_differ y z lt mt apart same) = sat.no_clash (plain_differ y z lt mt apart same)
 clear w trail g sat (of_most x c n s e ys lt h sh len all apart) =
     let fs = facts_of trail in
-    let more : n < length (filled_successors (below_of w) fs x s e) = omega (arith, len, counted w fs x s e g ys (all_filled_parts (below_of w) fs x s e ys all) apart) in
-    elim (cases_Bool (all_apart fs (filled_successors (below_of w) fs x s e))) [
+    let more : n < length (filled_successors w.first (below_of w) fs x s e) = omega (arith, len, counted w fs x s e g ys (all_filled_parts w.first (below_of w) fs x s e ys all) apart) in
+    elim (cases_Bool (all_apart fs (filled_successors w.first (below_of w) fs x s e))) [
       | inl every ↦ sat.no_clash (plain_most x c n s e lt h sh more every)
       | inr some ↦
-          let r = unapart fs (filled_successors (below_of w) fs x s e) (ascending w fs x s e) some in
+          let r = unapart fs (filled_successors w.first (below_of w) fs x s e) (ascending w fs x s e) some in
           sat.no_choose (Pair r.one r.other) (Same r.one r.other)
           (on_pair x c n s e r.one r.other lt h sh more r.has_one r.has_other (λ k. absurd (omega (arith, k, r.less))) r.not_apart)
           (of_joining r.one r.other)
     ]
 
-pub saturated_clear : (w : SearchContext) (sub not_sup k : ℕ) (trail : List Item) → Follows w (start sub not_sup) k trail → IsSaturated w trail → ¬ HasClash w trail
-saturated_clear w sub not_sup k trail r sat = clear w trail (reached_tree_shaped w sub not_sup k trail r) sat
+pub saturated_clear : (w : SearchContext) (at sub not_sup k : ℕ) (trail : List Item) → at < w.first → Follows w (start at sub not_sup) k trail → IsSaturated w trail → ¬ HasClash w trail
+saturated_clear w at sub not_sup k trail lt r sat = clear w trail (not_apart_itself w at sub not_sup k trail lt r (inl sat.no_clash)) sat

@@ -1,8 +1,8 @@
--- Which representatives are blocked, by recursion on the number of the node.
-use Rattle.std.specs.Prelude.{ℕ, zero, suc, ◌+◌, ◌==◌, ◌&&◌, Bool, true, false, List, [], ◌∷◌, ◌++◌, Option, Some, None, if◌then◌else◌, slice_index_or}
+-- Which representatives are blocked, by recursion on the number of the node. Each of the `first` first nodes is clear.
+use Rattle.std.specs.Prelude.{ℕ, zero, suc, ◌+◌, ◌==◌, nat_lt, ◌&&◌, Bool, true, false, List, [], ◌∷◌, ◌++◌, Option, Some, None, if◌then◌else◌, slice_index_or}
 use Rattle.calculus_specs.specs.declared.facts.Fact.{Fact}
 use Rattle.calculus_specs.specs.Joins.{rep}
-use Rattle.calculus_specs.specs.State.{parent, is_label_part}
+use Rattle.calculus_specs.specs.State.{parent_from, is_label_part}
 use Rattle.tableau_specs.specs.declared.Block.{Block}
 use Rattle.tableau_specs.specs.declared.Block.TheVariants.{Clear, By, Under}
 
@@ -26,15 +26,15 @@ blocked_from fs blocks x z zero = Clear
 blocked_from fs blocks x z (suc n) = if may_block fs blocks x z then By z else blocked_from fs blocks x (z + 1) n
 
 -- the block of node x, where `blocks` are those of the nodes below it
-abbrev pub block_at : List (Fact ℕ) → List Block → ℕ → Block
-block_at fs blocks x =
-    if x == 0 then Clear else (if is_parent_clear fs blocks (parent fs x) then blocked_from fs blocks x 0 x else Under)
+abbrev pub block_at : ℕ → List (Fact ℕ) → List Block → ℕ → Block
+block_at first fs blocks x =
+    if nat_lt x first then Clear else (if is_parent_clear fs blocks (parent_from first fs x) then blocked_from fs blocks x 0 x else Under)
 
 -- the blocks of the first n nodes
-abbrev pub blocks_to : List (Fact ℕ) → ℕ → List Block
-blocks_to fs zero = []
-blocks_to fs (suc n) = blocks_to fs n ++ block_at fs (blocks_to fs n) n ∷ []
+abbrev pub blocks_to : ℕ → List (Fact ℕ) → ℕ → List Block
+blocks_to first fs zero = []
+blocks_to first fs (suc n) = blocks_to first fs n ++ block_at first fs (blocks_to first fs n) n ∷ []
 
 -- the block of a representative
-abbrev pub block_of : List (Fact ℕ) → ℕ → Block
-block_of fs x = block_at fs (blocks_to fs x) x
+abbrev pub block_of : ℕ → List (Fact ℕ) → ℕ → Block
+block_of first fs x = block_at first fs (blocks_to first fs x) x

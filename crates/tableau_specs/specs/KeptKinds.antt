@@ -1,12 +1,15 @@
 -- Kinds of concepts and of roles that the rules of a search keep: from concepts of the kind they make such concepts
 -- alone, and edges by such roles.
-use Rattle.std.specs.Prelude.{◌≡◌, ℕ, true, List, Some, Contains}
+use Rattle.std.specs.Prelude.{◌≡◌, ℕ, true, List, Option, Some, Contains}
 use Rattle.calculus_specs.specs.Concept.{Concept, top, intersection, union, some_of, all_of, at_least, at_most, parts_of}
 use Rattle.calculus_specs.specs.Normal.{negated_form}
 use Rattle.calculus_specs.specs.Rows.{Part, Theory, part_at, row_of, Trigger}
+use Rattle.calculus_specs.specs.declared.facts.Fact.{Fact}
+use Rattle.calculus_specs.specs.declared.facts.Fact.TheVariants.{Has, Edge}
 
--- each rule that has a concept of the kind gives concepts of the kind, and edges by the roles; so does each row
-pub record IsKept (theory : Theory) (P : Concept → Type 0) (E : ℕ → Type 0) : Type 0 where
+-- each rule that has a concept of the kind gives concepts of the kind, and edges by the roles; so does each row, and
+-- each fact that an axiom gives
+pub record IsKept (theory : Theory) (fact_of : ℕ → ℕ → Option (Fact Concept)) (P : Concept → Type 0) (E : ℕ → Type 0) : Type 0 where
   pub top_is : P top
   pub conjunct : (cs : List Concept) (c : Concept) → P (intersection (parts_of cs)) → Contains cs c → P c
   pub disjunct : (cs : List Concept) (c : Concept) → P (union (parts_of cs)) → Contains cs c → P c
@@ -19,3 +22,5 @@ pub record IsKept (theory : Theory) (P : Concept → Type 0) (E : ℕ → Type 0
   pub row : (a p : ℕ) (q : Part) (t : Trigger) (c : Concept) → part_at theory a p ≡ Some q → row_of q t ≡ Some c → P c
   pub edge_of_some : (r : ℕ) (c : Concept) → P (some_of r c) → E r
   pub edge_of_least : (n r : ℕ) (c : Concept) → P (at_least n r c) → E r
+  pub member : (a p x : ℕ) (c : Concept) → fact_of a p ≡ Some (Has x c) → P c
+  pub pair : (a p r x y : ℕ) → fact_of a p ≡ Some (Edge r x y) → E r

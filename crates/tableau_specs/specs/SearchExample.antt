@@ -1,6 +1,6 @@
 -- A worked search: whether class 10 is in class 11, by the one axiom that says so. Its row is used at nodes that have
 -- class 10. The table's numbers are: 0 top, 1 class 10, 2 class 11, 3 the complement of class 11.
-use Rattle.std.specs.Prelude.{◌≡◌, ℕ, zero, suc, ◌<◌, true, false, ◌==◌, List, [], ◌∷◌, ◌++◌, if◌then◌else◌, refl}
+use Rattle.std.specs.Prelude.{◌≡◌, ℕ, zero, suc, ◌<◌, true, false, ◌==◌, List, [], ◌∷◌, ◌++◌, None, if◌then◌else◌, refl}
 use Rattle.std.proofs.Common.{lit<, ap, sym, subst, ◌∙◌, arith, inr}
 use Rattle.std.specs.List.{count_by}
 use Rattle.std.proofs.lemmas.List.Elements.{All-nil, All-cons}
@@ -15,12 +15,13 @@ use Rattle.tableau_specs.specs.declared.Item.{Item}
 use Rattle.tableau_specs.specs.declared.Item.TheVariants.{Fact as Says}
 use Rattle.tableau_specs.specs.Items.{facts_of}
 use Rattle.tableau_specs.specs.Clash.IsClash.{of_names}
-use Rattle.tableau_specs.specs.Clash.IsPlainClash.{plain_bottom, plain_names, plain_most}
+use Rattle.tableau_specs.specs.Clash.IsPlainClash.{plain_bottom, plain_names, plain_most, plain_differ}
 use Rattle.tableau_specs.specs.Steps.{SearchContext, IsLegal, HasClash, HasPlainClash}
 use Rattle.tableau_specs.specs.Steps.Adds.{by_row}
 use Rattle.tableau_specs.specs.Steps.IsLegal.{add}
 use Rattle.tableau_specs.specs.StepExamples.{IsPlain}
 use Rattle.tableau_specs.specs.Reached.{start, IsReached, Costs}
+use Rattle.calculus_specs.specs.Rules.{on_any}
 
 abbrev table : List Shape
 table = top ∷ name_shape 10 ∷ name_shape 11 ∷ not_name 11 ∷ []
@@ -36,7 +37,7 @@ abbrev row : Row
 row = record { axiom_number = 1; part_number = 1; trigger = names (1 ∷ []); concept = 2 }
 
 abbrev context : SearchContext
-context = record { theory = theory; table = table; rows = row ∷ [] }
+context = record { theory = theory; table = table; rows = row ∷ []; first = 1; fact_of = λ a p. None }
 
 -- ---- the table and the row are what they are to be
 
@@ -87,7 +88,7 @@ is_choice = record {
 -- ---- the search
 
 abbrev first : List Item
-first = start 1 3
+first = start 0 1 3
 
 -- the row gives node 0 class 11
 abbrev second : List Item
@@ -127,15 +128,18 @@ no_plain_clash (plain_names x c d a lt h sh g th) =
     let z : x ≡ 0 = omega (arith, lt) in
     let f : has (facts_of first) 0 2 ≡ true = ap (λ (y : ℕ). has (facts_of first) y 2) (sym z) ∙ ap (has (facts_of first) x) (sym k) ∙ h in
     cc
+no_plain_clash (plain_differ y z lt mt apart same) = cc
 no_plain_clash (plain_most x c n s e lt h sh more every) = subst IsPlain sh (plain_each c)
 
 pub row_is_used : IsLegal context first second
 row_is_used = add 0 2 no_plain_clash (by_row 0 row (lit< tt) (0, lit< tt, refl) refl) refl
 
-pub reached : IsReached theory (name 10) (name 11) table (row ∷ []) 1 second
+pub reached : IsReached (on_any theory (name 10) (name 11)) table (row ∷ []) 1 second
 reached = record {
   is_table = is_table;
   is_choice = is_choice;
+  facts_have_numbers = λ a p f e. cc;
+  at_first = lit< tt;
   sub_number = 1;
   sub_listed = lit< tt;
   sub_reads = refl;
@@ -149,5 +153,5 @@ pub clashes : HasClash context second
 clashes = of_names 0 2 3 11 (lit< tt) refl refl refl refl
 
 -- one step decides, where the answer is yes
-pub one_step : (IsEntailed : Type 0) → IsEntailed → Costs theory (name 10) (name 11) IsEntailed 1
+pub one_step : (IsEntailed : Type 0) → IsEntailed → Costs (on_any theory (name 10) (name 11)) IsEntailed 1
 one_step IsEntailed yes' = record { table = table; rows = row ∷ []; trail = second; reached = reached; ends = inr (clashes, yes') }

@@ -4,14 +4,15 @@ use Rattle.std.specs.List.{list_any, list_all, range_with_len}
 use Rattle.calculus_specs.specs.Concept.{Concept, name}
 use Rattle.calculus_specs.specs.Shape.{Shape, shape_of}
 use Rattle.calculus_specs.specs.Shape.Shape.{name as name_shape, intersection, union, some_of, all_of, at_least, at_most}
-use Rattle.calculus_specs.specs.Tree.{IsComplement}
+use Rattle.calculus_specs.specs.Tree.{tree_of, IsComplement}
 use Rattle.calculus_specs.specs.Rows.{Part, Theory, part_at, conjunct_at, Trigger, Row}
 use Rattle.calculus_specs.specs.Rows.Part.{inclusion}
 use Rattle.calculus_specs.specs.Rows.Trigger.{always, names, edge, end_of}
 use Rattle.calculus_specs.specs.declared.facts.Fact.{Fact}
 use Rattle.calculus_specs.specs.declared.facts.Fact.TheVariants.{Has, Apart, Same}
 use Rattle.calculus_specs.specs.Joins.{rep}
-use Rattle.calculus_specs.specs.State.{node_count, has, label, has_edge, is_successor, are_apart, all_apart, fresh_facts}
+use Rattle.calculus_specs.specs.State.{node_count_from, has, label, has_edge, is_successor, are_apart, all_apart, fresh_facts, is_so, speaks_below}
+use Rattle.calculus_specs.specs.Reading.{read_fact, is_fact_listed}
 use Rattle.tableau_specs.specs.declared.Branch.{Branch}
 use Rattle.tableau_specs.specs.declared.Branch.TheVariants.{Or, Choose, Pair}
 use Rattle.tableau_specs.specs.declared.Choice.{Choice}
@@ -23,11 +24,14 @@ use Rattle.tableau_specs.specs.Blocked.{block_of}
 use Rattle.tableau_specs.specs.Clash.{is_filled_successor, filled_successors, IsClash, IsPlainClash}
 
 -- what the steps of a search read besides its trail: the parts and roles of its axioms, the concepts of its numbers,
--- and the rows that it has chosen
+-- the rows that it has chosen, how many first nodes there are, and the facts that the axioms give, by the number of the
+-- axiom and the fact's place among its own, from 1
 pub record SearchContext : Type 0 where
   pub theory : Theory
   pub table : List Shape
   pub rows : List Row
+  pub first : ℕ
+  pub fact_of : ℕ → ℕ → Option (Fact Concept)
 
 abbrev pub below_of : SearchContext → ℕ → ℕ → Bool
 below_of w = w.theory.below
@@ -50,11 +54,11 @@ has_names w fs x positions _ = false
 
 -- whether some node is the end of an edge below s from x
 abbrev pub begins_edge : SearchContext → List (Fact ℕ) → ℕ → ℕ → Bool
-begins_edge w fs s x = list_any (λ y. has_edge fs (λ r. below_of w r s) x y) (range_with_len 0 (node_count fs))
+begins_edge w fs s x = list_any (λ y. has_edge fs (λ r. below_of w r s) x y) (range_with_len 0 (node_count_from w.first fs))
 
 -- whether x is the end of an edge below s
 abbrev pub ends_edge : SearchContext → List (Fact ℕ) → ℕ → ℕ → Bool
-ends_edge w fs s x = list_any (λ z. has_edge fs (λ r. below_of w r s) z x) (range_with_len 0 (node_count fs))
+ends_edge w fs s x = list_any (λ z. has_edge fs (λ r. below_of w r s) z x) (range_with_len 0 (node_count_from w.first fs))
 
 abbrev pub is_triggered : SearchContext → List (Fact ℕ) → ℕ → Option Part → Trigger → Bool
 is_triggered w fs x part always = true
@@ -71,15 +75,25 @@ is_used_at w fs row x = is_triggered w fs x (part_at w.theory row.axiom_number r
 -- whether the n nodes from y on are successors of x with the filler e, and pairwise apart. None need be a
 -- representative: nodes that were made for 'at least n' stay such a run, whatever they are joined to later
 abbrev pub is_run : SearchContext → List (Fact ℕ) → ℕ → ℕ → ℕ → ℕ → ℕ → Bool
-is_run w fs x s e n y = list_all (is_filled_successor (below_of w) fs x s e) (range_with_len y n) && all_apart fs (range_with_len y n)
+is_run w fs x s e n y = list_all (is_filled_successor w.first (below_of w) fs x s e) (range_with_len y n) && all_apart fs (range_with_len y n)
+
+-- ---- given facts
+
+-- an axiom gives the fact, whose concept has a number in the table, and which speaks of first nodes alone
+pub record IsGiven (w : SearchContext) (f : Fact ℕ) : Type 0 where
+  pub axiom_number : ℕ
+  pub place : ℕ
+  pub is_there : w.fact_of axiom_number place ≡ Some (read_fact (tree_of w.table) f)
+  pub listed : is_fact_listed (length w.table) f ≡ true
+  pub on_first : speaks_below w.first f ≡ true
 
 module _ (w : SearchContext) (fs : List (Fact ℕ)) where
   -- ---- Add
 
   -- y, at the end of an edge from x below a transitive role t below s, is to have 'all t e', since x has 'all s e'
   pub record IsCarried (x y c s t e : ℕ) : Type 0 where
-    pub begin_is_node : x < node_count fs
-    pub end_is_node : y < node_count fs
+    pub begin_is_node : x < node_count_from w.first fs
+    pub end_is_node : y < node_count_from w.first fs
     pub holds : has fs x c ≡ true
     pub shape : shape_of w.table c ≡ all_of s e
     pub transitive : w.theory.is_transitive t ≡ true
@@ -88,38 +102,38 @@ module _ (w : SearchContext) (fs : List (Fact ℕ)) where
 
   -- a rule that makes no branch gives node x the concept d
   pub data Adds : ℕ → ℕ → Type 0 where
-    by_and : (x c d : ℕ) (parts : List ℕ) → x < node_count fs → has fs x c ≡ true → shape_of w.table c ≡ intersection parts → Contains parts d → Adds x d
-    by_all : (x y c s e : ℕ) → x < node_count fs → y < node_count fs → has fs x c ≡ true → shape_of w.table c ≡ all_of s e
+    by_and : (x c d : ℕ) (parts : List ℕ) → x < node_count_from w.first fs → has fs x c ≡ true → shape_of w.table c ≡ intersection parts → Contains parts d → Adds x d
+    by_all : (x y c s e : ℕ) → x < node_count_from w.first fs → y < node_count_from w.first fs → has fs x c ≡ true → shape_of w.table c ≡ all_of s e
         → has_edge fs (λ r. below_of w r s) x y ≡ true → Adds y e
     by_carry : (x y c s t e d : ℕ) → IsCarried x y c s t e → shape_of w.table d ≡ all_of t e → Adds y d
-    by_row : (x : ℕ) (row : Row) → x < node_count fs → Contains w.rows row → is_used_at w fs row x ≡ true → Adds x row.concept
+    by_row : (x : ℕ) (row : Row) → x < node_count_from w.first fs → Contains w.rows row → is_used_at w fs row x ≡ true → Adds x row.concept
 
   -- ---- Generate
 
   -- x is a node at which nodes may be made: a clear representative
   pub record IsOpen (x : ℕ) : Type 0 where
-    pub is_node : x < node_count fs
+    pub is_node : x < node_count_from w.first fs
     pub is_rep : rep fs x ≡ x
-    pub is_clear : block_of fs x ≡ Clear
+    pub is_clear : block_of w.first fs x ≡ Clear
 
   -- a rule makes new nodes with these facts
   pub data Generates : List (Fact ℕ) → Type 0 where
-    by_some : (x c s e : ℕ) → IsOpen x → has fs x c ≡ true → shape_of w.table c ≡ some_of s e → filled_successors (below_of w) fs x s e ≡ []
-        → Generates (fresh_facts x s e (node_count fs) 1)
+    by_some : (x c s e : ℕ) → IsOpen x → has fs x c ≡ true → shape_of w.table c ≡ some_of s e → filled_successors w.first (below_of w) fs x s e ≡ []
+        → Generates (fresh_facts x s e (node_count_from w.first fs) 1)
     by_least : (x c n s e : ℕ) → IsOpen x → has fs x c ≡ true → shape_of w.table c ≡ at_least n s e
-        → ((y : ℕ) → is_run w fs x s e n y ≡ false) → Generates (fresh_facts x s e (node_count fs) n)
+        → ((y : ℕ) → is_run w fs x s e n y ≡ false) → Generates (fresh_facts x s e (node_count_from w.first fs) n)
 
   -- ---- Choose
 
   -- there is something to choose
   pub data MayBranch : Branch → Type 0 where
-    on_union : (x c : ℕ) (parts : List ℕ) → x < node_count fs → has fs x c ≡ true → shape_of w.table c ≡ union parts
+    on_union : (x c : ℕ) (parts : List ℕ) → x < node_count_from w.first fs → has fs x c ≡ true → shape_of w.table c ≡ union parts
         → All (λ d. has fs x d ≡ false) parts → MayBranch (Or x c)
-    on_filler : (x c n s e y : ℕ) → x < node_count fs → has fs x c ≡ true → shape_of w.table c ≡ at_most n s e
+    on_filler : (x c n s e y : ℕ) → x < node_count_from w.first fs → has fs x c ≡ true → shape_of w.table c ≡ at_most n s e
         → is_successor fs (λ r. below_of w r s) x y ≡ true → has fs y e ≡ false → ((d : ℕ) → IsComplement w.table e d → has fs y d ≡ false)
         → MayBranch (Choose y e)
-    on_pair : (x c n s e y z : ℕ) → x < node_count fs → has fs x c ≡ true → shape_of w.table c ≡ at_most n s e
-        → n < length (filled_successors (below_of w) fs x s e) → Contains (filled_successors (below_of w) fs x s e) y → Contains (filled_successors (below_of w) fs x s e) z
+    on_pair : (x c n s e y z : ℕ) → x < node_count_from w.first fs → has fs x c ≡ true → shape_of w.table c ≡ at_most n s e
+        → n < length (filled_successors w.first (below_of w) fs x s e) → Contains (filled_successors w.first (below_of w) fs x s e) y → Contains (filled_successors w.first (below_of w) fs x s e) z
         → ¬ (y ≡ z) → are_apart fs y z ≡ false → MayBranch (Pair y z)
 
 -- the fact of an alternative, from 1, of a branch
@@ -132,10 +146,10 @@ pub data IsAlternative (table : List Shape) : Branch → ℕ → Fact ℕ → Ty
 
 module _ (w : SearchContext) where
   abbrev pub HasClash : List Item → Type 0
-  HasClash trail = IsClash (below_of w) w.table (facts_of trail)
+  HasClash trail = IsClash w.first (below_of w) w.table (facts_of trail)
 
   abbrev pub HasPlainClash : List Item → Type 0
-  HasPlainClash trail = IsPlainClash (below_of w) w.table (facts_of trail)
+  HasPlainClash trail = IsPlainClash w.first (below_of w) w.table (facts_of trail)
 
   -- the mark of a choice at its next alternative
   abbrev pub next_choice : Choice → Choice
@@ -145,6 +159,8 @@ module _ (w : SearchContext) where
   pub data IsLegal (old : List Item) : List Item → Type 0 where
     add : (x d : ℕ) → ¬ HasPlainClash old → Adds w (facts_of old) x d → has (facts_of old) x d ≡ false
         → IsLegal old (old ++ Says (Has x d) ∷ [])
+    give : (f : Fact ℕ) → ¬ HasPlainClash old → IsGiven w f → is_so (facts_of old) f ≡ false
+        → IsLegal old (old ++ Says f ∷ [])
     generate : (new : List (Fact ℕ)) → ¬ HasPlainClash old → Generates w (facts_of old) new
         → IsLegal old (old ++ says new)
     choose : (c : Choice) (f : Fact ℕ) → ¬ HasPlainClash old → MayBranch w (facts_of old) c.branch → c.alternative ≡ 1 → IsAlternative w.table c.branch 1 f
@@ -152,11 +168,12 @@ module _ (w : SearchContext) where
     back : (place : ℕ) (c : Choice) (f : Fact ℕ) → HasClash old → slice_get old place ≡ Some (Mark c) → IsAlternative w.table c.branch (c.alternative + 1) f
         → IsLegal old (take place old ++ Mark (next_choice c) ∷ Says f ∷ [])
 
-  -- there is no plain clash, and nothing to add, to make or to choose; a concept that is to be carried and has no
-  -- number in the table would be something to add
+  -- there is no plain clash, and nothing to add, to make or to choose, and each given fact is so; a concept that is to
+  -- be carried and has no number in the table would be something to add
   pub record IsSaturated (trail : List Item) : Type 0 where
     pub no_clash : ¬ HasPlainClash trail
     pub no_add : (x d : ℕ) → Adds w (facts_of trail) x d → has (facts_of trail) x d ≡ true
+    pub no_give : (f : Fact ℕ) → IsGiven w f → is_so (facts_of trail) f ≡ true
     pub no_carry : (x y c s t e : ℕ) → IsCarried w (facts_of trail) x y c s t e
         → (d : ℕ) × (shape_of w.table d ≡ all_of t e) × (has (facts_of trail) y d ≡ true)
     pub no_generate : (new : List (Fact ℕ)) → ¬ Generates w (facts_of trail) new

@@ -5,7 +5,7 @@
 //! blocking by earlier nodes; F. Baader, M. Buchheit and B. Hollunder, *Cardinality Restrictions on Concepts*,
 //! Artificial Intelligence 88, 1996). So a new fact leaves the blocks of all nodes below those of which it says
 //! something new.
-ghost use Rattle.tableau_specs.specs.BlockLaws.{BlocksFollowWhatStandsBelow, OneFactLeavesBlocksBelow, FactsLeaveBlocksBelow, FactsLeaveNodesBelow, NewNodesLeaveBlocks};
+ghost use Rattle.tableau_specs.specs.BlockLaws.{BlocksFollowWhatStandsBelow, OneFactLeavesBlocksBelow, FactsLeaveBlocksBelow, FactsLeaveNodesBelow, NewNodesLeaveBlocks, EdgesToFirstLeaveBlocks};
 
 /// Where two lists of facts agree on the nodes below a bound, these nodes have the same blocks by both.
 pub fn blocks_follow_what_stands_below()
@@ -30,4 +30,9 @@ pub fn facts_leave_nodes_below()
 /// New nodes, with their edges, their concept and that they are apart, leave the blocks of the nodes before them.
 pub fn new_nodes_leave_blocks()
     ensures { NewNodesLeaveBlocks }
+{}
+
+/// An edge to a first node leaves all blocks.
+pub fn edges_to_first_nodes_leave_blocks()
+    ensures { EdgesToFirstLeaveBlocks }
 {}

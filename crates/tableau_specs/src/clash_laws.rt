@@ -1,5 +1,5 @@
 //! Where a step of a search can make a plain clash: laws by which a search looks near what has changed alone.
-ghost use Rattle.tableau_specs.specs.ClashLaws.{ConceptClashesThere, NewNodesClashThere, ApartClashesThere, JoinClashesThere, ReachedSpeakOfNodes, NoClashBeforeMarks};
+ghost use Rattle.tableau_specs.specs.ClashLaws.{ConceptClashesThere, NewNodesClashThere, ApartClashesThere, JoinClashesThere, JoinedAreApartAsBefore, EdgeClashesThere, ReachedSpeakOfNodes, NoClashBeforeMarks};
 
 /// Where there is no plain clash, a concept more makes one exactly where it clashes at its node.
 pub fn a_concept_clashes_at_its_node()
@@ -12,7 +12,7 @@ pub fn new_nodes_clash_below_their_parent()
     ensures { NewNodesClashThere }
 {}
 
-/// Where there is no plain clash, two nodes that are apart make one exactly where both are counted.
+/// Where there is no plain clash, two nodes that are apart make one exactly where both are counted, or are one.
 pub fn nodes_apart_clash_where_both_are_counted()
     ensures { ApartClashesThere }
 {}
@@ -20,6 +20,16 @@ pub fn nodes_apart_clash_where_both_are_counted()
 /// Where there is no plain clash, two nodes that are one make one exactly at this node, or above it.
 pub fn joined_nodes_clash_there_or_above()
     ensures { JoinClashesThere }
+{}
+
+/// Where there is no plain clash, two nodes that become one are apart from themselves exactly where they were apart.
+pub fn joined_nodes_are_apart_as_before()
+    ensures { JoinedAreApartAsBefore }
+{}
+
+/// Where there is no plain clash, an edge between nodes makes one exactly at its beginning.
+pub fn edges_clash_where_they_begin()
+    ensures { EdgeClashesThere }
 {}
 
 /// The facts of a reached trail speak of its nodes alone.

@@ -31,14 +31,15 @@ pub mod state_laws;
 pub mod step_laws;
 
 pub use block_laws::{
-    blocks_follow_what_stands_below, facts_leave_blocks_below, facts_leave_nodes_below,
-    new_nodes_leave_blocks, one_fact_leaves_blocks_below,
+    blocks_follow_what_stands_below, edges_to_first_nodes_leave_blocks, facts_leave_blocks_below,
+    facts_leave_nodes_below, new_nodes_leave_blocks, one_fact_leaves_blocks_below,
 };
 use calculus_specs::Fact;
 pub use clash_laws::{
-    a_concept_clashes_at_its_node, joined_nodes_clash_there_or_above,
-    new_nodes_clash_below_their_parent, no_plain_clash_stands_before_a_mark,
-    nodes_apart_clash_where_both_are_counted, reached_facts_speak_of_nodes,
+    a_concept_clashes_at_its_node, edges_clash_where_they_begin, joined_nodes_are_apart_as_before,
+    joined_nodes_clash_there_or_above, new_nodes_clash_below_their_parent,
+    no_plain_clash_stands_before_a_mark, nodes_apart_clash_where_both_are_counted,
+    reached_facts_speak_of_nodes,
 };
 
 /// What a mark chooses between.

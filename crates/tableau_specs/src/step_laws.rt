@@ -6,17 +6,19 @@ pub fn nodes_stand_before_they_are_spoken_of()
     ensures { NodesStandBefore }
 {}
 
-/// In a reached trail no node is apart from itself, so that nodes that are apart are never joined.
+/// In a reached trail no node is apart from itself where nothing is given, and where something is, unless there is a
+/// plain clash.
 pub fn no_node_is_apart_from_itself()
     ensures { NoneIsApartFromItself }
 {}
 
-/// Each join of a reached trail is of two successors of one node that are not apart.
+/// Each join of a reached trail is of two successors of one node that are not apart, or is given.
 pub fn joins_are_of_siblings()
     ensures { JoinsAreOfSiblings }
 {}
 
-/// In a reached trail each successor of a node is a child of it, read through joins: the nodes are a tree.
+/// In a reached trail each edge is by a given one between first nodes, or leads to a child, read through joins: below
+/// the first nodes the nodes are trees.
 pub fn successors_are_children()
     ensures { SuccessorsAreChildren }
 {}

@@ -14,6 +14,7 @@ use Rattle.ofn_expressions.specs.Counts.{Counts}
 use Rattle.ofn_expressions.specs.Walk.{Test, shape, numbered, parts, walked}
 use Rattle.ofn_expressions.specs.Names.{Prefix, iri_of, full_iri}
 use Rattle.ofn_expressions.specs.Classes.{item_count, is_thing, is_nothing, role_tests, roles_tests, joined, class_tests, each_class, class_name_tests, or_zero, class_named, role_of, roles_of, cardinality_of, concept_of, concepts_of}
+use Rattle.ofn_expressions.specs.Individuals.{individual_tests, individuals_tests, individual_of, individuals_of}
 use Rattle.ofn_expressions.specs.declared.refusal.Refusal.{Refusal}
 use Rattle.ofn_expressions.proofs.Walks.{goes_on}
 use Rattle.ofn_reader.specs.Groups.{is_annotation, without_annotations}
@@ -23,10 +24,10 @@ use Rattle.text_laws.specs.WritingLaws.{KnowsOwl}
 use Rattle.text_laws.proofs.Whole.{is_whole, are_whole, has_whole_items, has_item_count, is_whole_axiom, counted_parts}
 use Rattle.text_laws.proofs.Checks.{le_true, true_lt, true_le, no_more}
 use Rattle.text_laws.proofs.Phrases.{item_of, all_items}
-use Rattle.text_laws.proofs.Terms.{role_phrase, two, concept_phrase, part_phrases, role_phrases, axiom_phrase, decimal_number, named_alone}
+use Rattle.text_laws.proofs.Terms.{role_phrase, individual_phrase, individual_phrases, two, concept_phrase, part_phrases, role_phrases, axiom_phrase, decimal_number, named_alone}
 use Rattle.text_laws.proofs.Keywords as keywords
 use Rattle.text_laws.proofs.Keywords.{axiom_group_tests}
-use Rattle.text_laws.proofs.Walks.{step, alone, AreKnown, counted, role_walk, count_parts, concept_walk, parts_walk, roles_walk}
+use Rattle.text_laws.proofs.Walks.{step, alone, AreKnown, counted, role_walk, individual_walk, individuals_walk, count_parts, concept_walk, parts_walk, roles_walk}
 
 -- ---- no annotation stands in front
 
@@ -58,6 +59,14 @@ module _ (o : Listed) (n : ℕ) where
   count_roles : (rs : List ℕ) → item_count (all_items n (role_phrases o rs)) ≡ length rs
   count_roles [] = refl
   count_roles (r ∷ rs) = omega (arith, count_roles rs)
+
+  plain_individuals : (as_ : List ℕ) → without_annotations (all_items n (individual_phrases o as_)) ≡ all_items n (individual_phrases o as_)
+  plain_individuals [] = refl
+  plain_individuals (a ∷ as_) = refl
+
+  count_individuals : (as_ : List ℕ) → item_count (all_items n (individual_phrases o as_)) ≡ length as_
+  count_individuals [] = refl
+  count_individuals (a ∷ as_) = omega (arith, count_individuals as_)
 
 list_of_parts : (cs : List Concept) → part_list (parts_of cs) ≡ cs
 list_of_parts [] = refl
@@ -121,6 +130,43 @@ module _ (ps : List Prefix) (knows : KnowsOwl ps) (o : Listed) (names : AreKnown
       head_walk x p n line all enough k (roles_tests ps (all_items line (role_phrases o rs))) is h few few_parts
       ∙ roles_walk ps knows o names (x + 1) (p + k) n line rs known
       ∙ same_nodes (x + 1) (p + k) n (n + 0) (no_more n)
+
+  -- individuals
+  all_individuals_walk : (x p n line : ℕ) (as_ : List ℕ) (all : List Test) (enough : Bool) (k : ℕ) → all ≡ axiom_group_tests line enough k (individuals_tests ps (all_items line (individual_phrases o as_)))
+      → list_all (λ a. nat_lt a (length o.individuals)) as_ ≡ true → enough ≡ true → x + 1 ≤ 20000 → p + k ≤ 500000 → walked (counted o x p n) all ≡ Ok (counted o (x + 1) (p + k) (n + 0))
+  all_individuals_walk x p n line as_ all enough k is known h few few_parts =
+      head_walk x p n line all enough k (individuals_tests ps (all_items line (individual_phrases o as_))) is h few few_parts
+      ∙ individuals_walk ps knows o names (x + 1) (p + k) n line as_ known
+      ∙ same_nodes (x + 1) (p + k) n (n + 0) (no_more n)
+
+  member_walk : (x p n line : ℕ) (c : Concept) (a : ℕ) → (listed c && nat_lt a (length o.individuals)) ≡ true → is_whole c ≡ true → x + 1 ≤ 20000 → p + 1 ≤ 500000 → n + expressions c ≤ 262144 → Walks x p n line (Member c a)
+  member_walk x p n line c a known whole few few_parts few_nodes =
+      let both = and_parts (listed c) (nat_lt a (length o.individuals)) known in
+      let first : Item = item_of line (concept_phrase o c) in
+      let second : Item = item_of line (individual_phrase o a) in
+      let is : Items = item first (item second no_items) in
+      let ts : List Test = class_tests ps first in
+      let us : List Test = individual_tests ps second in
+      let s : Counts = counted o (x + 1) (p + 1) n in
+      let mid : Counts = counted o (x + 1) (p + 1) (n + expressions c) in
+      head_walk x p n line (axiom_tests ps (item_of line (axiom_phrase o (Member c a)))) true 1 (ts ++ (us ++ [])) (keywords.member_tests ps line is is (plain_first o line c (item second no_items))) refl few few_parts
+      ∙ goes_on s mid ts (us ++ []) (concept_walk ps knows o names (x + 1) (p + 1) n line c both.0 whole few_nodes)
+      ∙ alone mid mid us (individual_walk ps knows o names (x + 1) (p + 1) (n + expressions c) line a (true_lt a (length o.individuals) both.1))
+
+  pair_walk : (x p n line r a b : ℕ) → (known_role r && (nat_lt a (length o.individuals) && nat_lt b (length o.individuals))) ≡ true → x + 1 ≤ 20000 → p + 1 ≤ 500000 → Walks x p n line (Pair r a b)
+  pair_walk x p n line r a b known few few_parts =
+      let outer = and_parts (known_role r) (nat_lt a (length o.individuals) && nat_lt b (length o.individuals)) known in
+      let inner = and_parts (nat_lt a (length o.individuals)) (nat_lt b (length o.individuals)) outer.1 in
+      let first : Item = item_of line (role_phrase o r) in
+      let others : Items = all_items line (individual_phrases o (a ∷ b ∷ [])) in
+      let rs : List Test = role_tests ps first in
+      let us : List Test = individuals_tests ps others in
+      let s : Counts = counted o (x + 1) (p + 1) n in
+      let both_known : list_all (λ i. nat_lt i (length o.individuals)) (a ∷ b ∷ []) ≡ true = λ i. inner.0 i && (inner.1 i && true) in
+      head_walk x p n line (axiom_tests ps (item_of line (axiom_phrase o (Pair r a b)))) true 1 (rs ++ us) (keywords.pair_tests ps line (item first others) (item first others) refl) refl few few_parts
+      ∙ goes_on s s rs us (role_walk ps knows o names (x + 1) (p + 1) n line r (true_lt r (length o.roles) outer.0))
+      ∙ individuals_walk ps knows o names (x + 1) (p + 1) n line (a ∷ b ∷ []) both_known
+      ∙ same_nodes (x + 1) (p + 1) n (n + 0) (no_more n)
 
   one_role : (r : ℕ) → known_role r ≡ true → list_all (λ s. nat_lt s (length o.roles)) (r ∷ []) ≡ true
   one_role r known = ap (λ b. b && true) known
@@ -221,10 +267,18 @@ module _ (ps : List Prefix) (knows : KnowsOwl ps) (o : Listed) (names : AreKnown
   axiom_walk_by x p n line (Transitive r) known enough whole few few_parts few_nodes =
       let items : Items = all_items line (role_phrases o (r ∷ [])) in
       all_roles_walk x p n line (r ∷ []) (axiom_tests ps (item_of line (axiom_phrase o (Transitive r)))) true 0 (keywords.transitive_tests ps line items items refl) (one_role r known) refl few few_parts
-  axiom_walk_by x p n line (Member c a) known enough whole few few_parts few_nodes = cc
-  axiom_walk_by x p n line (Pair r a b) known enough whole few few_parts few_nodes = cc
-  axiom_walk_by x p n line (SameAll as_) known enough whole few few_parts few_nodes = cc
-  axiom_walk_by x p n line (Different as_) known enough whole few few_parts few_nodes = cc
+  axiom_walk_by x p n line (Member c a) known enough whole few few_parts few_nodes = member_walk x p n line c a known whole few few_parts few_nodes
+  axiom_walk_by x p n line (Pair r a b) known enough whole few few_parts few_nodes = pair_walk x p n line r a b known few few_parts
+  axiom_walk_by x p n line (SameAll as_) known enough whole few few_parts few_nodes =
+      let items : Items = all_items line (individual_phrases o as_) in
+      let count : item_count items ≡ length as_ = count_individuals o line as_ in
+      all_individuals_walk x p n line as_ (axiom_tests ps (item_of line (axiom_phrase o (SameAll as_)))) (nat_le 2 (item_count items)) (length as_ - 1)
+      (keywords.same_tests ps line items items (plain_individuals o line as_) ∙ ap (λ k. axiom_group_tests line (nat_le 2 (item_count items)) (k - 1) (individuals_tests ps items)) count) known (ap (nat_le 2) count ∙ enough) few few_parts
+  axiom_walk_by x p n line (Different as_) known enough whole few few_parts few_nodes =
+      let items : Items = all_items line (individual_phrases o as_) in
+      let count : item_count items ≡ length as_ = count_individuals o line as_ in
+      all_individuals_walk x p n line as_ (axiom_tests ps (item_of line (axiom_phrase o (Different as_)))) (nat_le 2 (item_count items)) (pair_count (length as_))
+      (keywords.different_tests ps line items items (plain_individuals o line as_) ∙ ap (λ k. axiom_group_tests line (nat_le 2 (item_count items)) (pair_count k) (individuals_tests ps items)) count) known (ap (nat_le 2) count ∙ enough) few few_parts
 
   pub axiom_walk : (x p n line : ℕ) (a : Axiom) → axiom_uses_listed (length o.classes) (length o.roles) (length o.individuals) a ≡ true → is_whole_axiom a ≡ true → x + 1 ≤ 20000 → p + counted_parts a ≤ 500000 → n + axiom_expressions a ≤ 262144 → Walks x p n line a
   axiom_walk x p n line a known whole few few_parts few_nodes =
@@ -238,6 +292,18 @@ module _ (ps : List Prefix) (knows : KnowsOwl ps) (o : Listed) (names : AreKnown
 
     role_value : (line r : ℕ) → known_role r ≡ true → role_of ps s (item_of line (role_phrase o r)) ≡ r
     role_value line r known = ap or_zero (names.role_place r (true_lt r (length o.roles) known))
+
+    pub individual_value : (line a : ℕ) → nat_lt a (length o.individuals) ≡ true → individual_of ps s (item_of line (individual_phrase o a)) ≡ a
+    individual_value line a known = ap or_zero (names.individual_place a (true_lt a (length o.individuals) known))
+
+    individuals_value : (line : ℕ) (as_ : List ℕ) → list_all (λ a. nat_lt a (length o.individuals)) as_ ≡ true → individuals_of ps s (all_items line (individual_phrases o as_)) ≡ as_
+    individuals_value line [] known = refl
+    individuals_value line (a ∷ as_) known =
+        let here : Bool = nat_lt a (length o.individuals) in
+        let others : Bool = list_all (λ b. nat_lt b (length o.individuals)) as_ in
+        let first : individual_of ps s (item_of line (individual_phrase o a)) ≡ a = individual_value line a (and_parts here others known).0 in
+        let rest : individuals_of ps s (all_items line (individual_phrases o as_)) ≡ as_ = individuals_value line as_ (and_parts here others known).1 in
+        λ i. first i ∷ rest i
 
     class_value : (line c : ℕ) → nat_lt c (length o.classes) ≡ true → class_named s (slice_index_or o.classes c []) ≡ name c
     class_value line c known =
@@ -368,10 +434,26 @@ module _ (ps : List Prefix) (knows : KnowsOwl ps) (o : Listed) (names : AreKnown
     axiom_value_by line (Transitive r) known whole =
         let is : Items = all_items line (role_phrases o (r ∷ [])) in
         keywords.transitive_value ps line is is refl s ∙ ap (λ k. one_axiom line (Transitive k)) (role_value line r known)
-    axiom_value_by line (Member c a) known whole = cc
-    axiom_value_by line (Pair r a b) known whole = cc
-    axiom_value_by line (SameAll as_) known whole = cc
-    axiom_value_by line (Different as_) known whole = cc
+    axiom_value_by line (Member c a) known whole =
+        let both = and_parts (listed c) (nat_lt a (length o.individuals)) known in
+        let is : Items = item (item_of line (concept_phrase o c)) (item (item_of line (individual_phrase o a)) no_items) in
+        let first : concept_of ps s (item_of line (concept_phrase o c)) ≡ c = concept_value line c both.0 whole in
+        let second : individual_of ps s (item_of line (individual_phrase o a)) ≡ a = individual_value line a both.1 in
+        keywords.member_value ps line is is (plain_first o line c (item (item_of line (individual_phrase o a)) no_items)) s ∙ (λ i. one_axiom line (Member (first i) (second i)))
+    axiom_value_by line (Pair r a b) known whole =
+        let outer = and_parts (known_role r) (nat_lt a (length o.individuals) && nat_lt b (length o.individuals)) known in
+        let inner = and_parts (nat_lt a (length o.individuals)) (nat_lt b (length o.individuals)) outer.1 in
+        let is : Items = item (item_of line (role_phrase o r)) (all_items line (individual_phrases o (a ∷ b ∷ []))) in
+        let role : role_of ps s (item_of line (role_phrase o r)) ≡ r = role_value line r outer.0 in
+        let first : individual_of ps s (item_of line (individual_phrase o a)) ≡ a = individual_value line a inner.0 in
+        let second : individual_of ps s (item_of line (individual_phrase o b)) ≡ b = individual_value line b inner.1 in
+        keywords.pair_value ps line is is refl s ∙ (λ i. one_axiom line (Pair (role i) (first i) (second i)))
+    axiom_value_by line (SameAll as_) known whole =
+        let is : Items = all_items line (individual_phrases o as_) in
+        keywords.same_value ps line is is (plain_individuals o line as_) s ∙ ap (λ bs. one_axiom line (SameAll bs)) (individuals_value line as_ known)
+    axiom_value_by line (Different as_) known whole =
+        let is : Items = all_items line (individual_phrases o as_) in
+        keywords.different_value ps line is is (plain_individuals o line as_) s ∙ ap (λ bs. one_axiom line (Different bs)) (individuals_value line as_ known)
 
     pub axiom_value : (line : ℕ) (a : Axiom) → axiom_uses_listed (length o.classes) (length o.roles) (length o.individuals) a ≡ true → is_whole_axiom a ≡ true → axiom_in ps s (item_of line (axiom_phrase o a)) ≡ one_axiom line a
     axiom_value line a known whole = axiom_value_by line a known (and_parts (has_item_count a) (has_whole_items a) whole).1

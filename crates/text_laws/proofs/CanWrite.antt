@@ -1,14 +1,10 @@
 -- What a document says can be written.
-use Rattle.std.proofs.Common.{◌≡◌, ℕ, zero, suc, ◌≤◌, Bool, true, false, not, cond, List, [], ◌∷◌, length, drop, Ok, refl, ap, sym, ◌∙◌, subst, arith, codes}
+use Rattle.std.proofs.Common.{◌≡◌, ℕ, zero, suc, ◌≤◌, Bool, true, false, cond, List, [], ◌∷◌, drop, Ok, refl, ap, sym, ◌∙◌, subst, arith, codes}
 use Rattle.std.specs.Prelude.{nat_eq, is_some}
 use Rattle.std.specs.List.{list_all, prefix_len}
 use Rattle.shq_terms.specs.Listed.{Listed}
 use Rattle.shq_terms.specs.Distinct.{AreDistinct}
-use Rattle.shq_terms.specs.declared.axioms.Axiom.{Axiom}
-use Rattle.shq_terms.specs.declared.axioms.Axiom.TheVariants.{SubClassOf, EquivalentClasses, DisjointClasses, DisjointUnion, SubRole, EquivalentRoles, Domain, Range, Functional, Transitive, Member, Pair, SameAll, Different}
 use Rattle.shq_terms.specs.declared.axioms.Numbered.{Numbered}
-use Rattle.shq_nnf.specs.Meeting.{is_assertion}
-use Rattle.std.proofs.lemmas.Bool.{and_parts, and_from}
 use Rattle.ofn_tree.specs.Lexemes.{end_line}
 use Rattle.ofn_tree.specs.Items.{Item, name_item, iri_item, literal_item, sign_item, group_item, Items, no_items, item, items_of, nesting, nesting_all}
 use Rattle.ontology_limits.specs.Simple.{counts_simple, all_role_axioms}
@@ -24,7 +20,7 @@ use Rattle.ofn_reader.specs.Axioms.{axioms_tests}
 use Rattle.ofn_reader.specs.Documents.{start, form_tests, all_simple_tests, is_prefix_group, prefix_groups, behind_prefixes, document_prefixes, ontology_tests, ontology_axioms, document_axioms, IsDocument}
 use Rattle.ofn_reader.specs.Queries.{query_start}
 use Rattle.ofn_writer.specs.Canonical.{ontology_text}
-use Rattle.text_laws.specs.Writable.{CanBeWritten, is_readable}
+use Rattle.text_laws.specs.Writable.{CanBeWritten}
 use Rattle.text_laws.specs.WritingLaws.{IsDocumentOf}
 use Rattle.text_laws.proofs.Whole.{limits_from_whole, part_total, expression_total}
 use Rattle.text_laws.proofs.GoodTokens.{IsGoodItem, AreGoodItems, tokens_good, tree_good}
@@ -94,28 +90,6 @@ ontology_read ps prefixes f end (i ∷ is) good deep s new h keeps =
 
 -- ---- the document
 
-read_plain : (a : Axiom) → is_readable a ≡ true → not (is_assertion a) ≡ true
-read_plain (SubClassOf c d) h = refl
-read_plain (EquivalentClasses cs) h = refl
-read_plain (DisjointClasses cs) h = refl
-read_plain (DisjointUnion c cs) h = refl
-read_plain (SubRole r s) h = refl
-read_plain (EquivalentRoles rs) h = refl
-read_plain (Domain r c) h = refl
-read_plain (Range r c) h = refl
-read_plain (Functional r) h = refl
-read_plain (Transitive r) h = refl
-read_plain (Member c a) h = cc
-read_plain (Pair r a b) h = cc
-read_plain (SameAll as_) h = cc
-read_plain (Different as_) h = cc
-
-none_asserted : (xs : List Numbered) → list_all (λ (a : Numbered). is_readable a.axiom) xs ≡ true → list_all (λ (a : Numbered). not (is_assertion a.axiom)) xs ≡ true
-none_asserted [] h = refl
-none_asserted (x ∷ xs) h =
-    let both = and_parts (is_readable x.axiom) (list_all (λ (a : Numbered). is_readable a.axiom) xs) h in
-    and_from (not (is_assertion x.axiom)) (list_all (λ (a : Numbered). not (is_assertion a.axiom)) xs) (read_plain x.axiom both.0) (none_asserted xs both.1)
-
 pub no_names_distinct : AreDistinct []
 no_names_distinct = record { same_place = λ i j less other same. absurd (omega (arith, less)) }
 
@@ -123,14 +97,16 @@ start_within : IsWithin start
 start_within = record {
   class_iris = refl;
   role_iris = refl;
+  individual_iris = refl;
   distinct_classes = no_names_distinct;
   distinct_roles = no_names_distinct;
+  distinct_individuals = no_names_distinct;
   few_classes = omega arith;
   few_roles = omega arith;
+  few_individuals = omega arith;
   few_axioms = omega arith;
   few_parts = omega arith;
   few_nodes = omega arith;
-  no_individuals = refl;
 }
 
 module _ (text : List ℕ) (o : Listed) (kept : DocumentContext) (end : ℕ) (d : IsDocument text o kept end) where
@@ -188,14 +164,15 @@ module _ (text : List ℕ) (o : Listed) (kept : DocumentContext) (end : ℕ) (d 
           few_axioms = omega (arith, within.few_axioms, said.rises.axioms);
           few_classes = within.few_classes;
           few_roles = within.few_roles;
-          few_individuals = omega (arith, ap length within.no_individuals);
+          few_individuals = within.few_individuals;
           few_parts = omega (arith, within.few_parts, said.rises.parts, part_total axioms);
         };
-        without_individuals = record { none_listed = within.no_individuals; no_assertions = none_asserted axioms limits.readable };
         class_iris = within.class_iris;
         role_iris = within.role_iris;
+        individual_iris = within.individual_iris;
         distinct_classes = within.distinct_classes;
         distinct_roles = within.distinct_roles;
+        distinct_individuals = within.distinct_individuals;
         readable = limits.readable;
         nested = said.nested;
         few_expressions = omega (arith, within.few_nodes, said.rises.nodes, expression_total axioms);
@@ -212,14 +189,16 @@ module _ (text : List ℕ) (o : Listed) (kept : DocumentContext) (end : ℕ) (d 
   query_within = record {
     class_iris = can_be_written.class_iris;
     role_iris = can_be_written.role_iris;
+    individual_iris = can_be_written.individual_iris;
     distinct_classes = can_be_written.distinct_classes;
     distinct_roles = can_be_written.distinct_roles;
+    distinct_individuals = can_be_written.distinct_individuals;
     few_classes = can_be_written.within.few_classes;
     few_roles = can_be_written.within.few_roles;
+    few_individuals = can_be_written.within.few_individuals;
     few_axioms = can_be_written.within.few_axioms;
     few_parts = omega arith;
     few_nodes = subst (λ (k : DocumentContext). k.nodes ≤ 262144) (sym d.takes) within.few_nodes;
-    no_individuals = can_be_written.without_individuals.none_listed;
   }
 
   pub read_again : IsDocumentOf (ontology_text o) o

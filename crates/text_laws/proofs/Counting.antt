@@ -8,12 +8,12 @@ use Rattle.shq_terms.specs.Names.{with_at, with_name}
 use Rattle.shq_terms.specs.Distinct.{AreDistinct}
 use Rattle.shq_terms.proofs.Distinct.{pushed_distinct}
 use Rattle.ofn_expressions.specs.Counts.{Counts}
-use Rattle.ofn_expressions.specs.Walk.{Test, numbered, parts, nodes, class, role, holds, refusal, counts_after, after_all, outcomes, first_failing, verdict, walked}
+use Rattle.ofn_expressions.specs.Walk.{Test, numbered, parts, nodes, class, role, individual, holds, refusal, counts_after, after_all, outcomes, first_failing, verdict, walked}
 use Rattle.ofn_expressions.specs.Classes.{Keeps}
 use Rattle.ofn_expressions.specs.declared.refusal.Refusal.{Refusal}
 use Rattle.ofn_expressions.proofs.Walks.{walked-cons, walked_append, then}
 use Rattle.ofn_expressions.proofs.Kept.{keeps_keeps, walked_keeps}
-use Rattle.text_laws.specs.Writable.{is_class_iri, is_role_iri}
+use Rattle.text_laws.specs.Writable.{is_iri, is_class_iri, is_role_iri}
 use Rattle.text_laws.proofs.Checks.{true_le}
 
 -- ---- lists of tests that hold
@@ -67,14 +67,16 @@ keeps_before s mid new final us second keeps = keeps_keeps mid new final (walked
 pub record IsWithin (s : Counts) : Type 0 where
   pub class_iris : list_all is_class_iri s.classes ≡ true
   pub role_iris : list_all is_role_iri s.roles ≡ true
+  pub individual_iris : list_all is_iri s.individuals ≡ true
   pub distinct_classes : AreDistinct s.classes
   pub distinct_roles : AreDistinct s.roles
+  pub distinct_individuals : AreDistinct s.individuals
   pub few_classes : length s.classes ≤ 20000
   pub few_roles : length s.roles ≤ 1000
+  pub few_individuals : length s.individuals ≤ 20000
   pub few_axioms : s.axioms ≤ 20000
   pub few_parts : s.parts ≤ 500000
   pub few_nodes : s.nodes ≤ 262144
-  pub no_individuals : s.individuals ≡ []
 
 all_with : (p : List ℕ → Bool) (names : List (List ℕ)) (w : List ℕ) → list_all p names ≡ true → p w ≡ true → list_all p (with_name names w) ≡ true
 all_with p names w all good = by (position (bytes_eq w) names)
@@ -94,70 +96,96 @@ pub class_within : (s : Counts) (n : ℕ) (w : List ℕ) → holds s (class n w)
 class_within s n w h good within = record {
   class_iris = all_with is_class_iri s.classes w within.class_iris good;
   role_iris = within.role_iris;
+  individual_iris = within.individual_iris;
   distinct_classes = distinct_with s.classes w within.distinct_classes;
   distinct_roles = within.distinct_roles;
+  distinct_individuals = within.distinct_individuals;
   few_classes = true_le (length (with_name s.classes w)) 20000 h;
   few_roles = within.few_roles;
+  few_individuals = within.few_individuals;
   few_axioms = within.few_axioms;
   few_parts = within.few_parts;
   few_nodes = within.few_nodes;
-  no_individuals = within.no_individuals;
 }
 
 pub role_within : (s : Counts) (n : ℕ) (w : List ℕ) → holds s (role n w) ≡ true → is_role_iri w ≡ true → IsWithin s → IsWithin (counts_after s (role n w))
 role_within s n w h good within = record {
   class_iris = within.class_iris;
   role_iris = all_with is_role_iri s.roles w within.role_iris good;
+  individual_iris = within.individual_iris;
   distinct_classes = within.distinct_classes;
   distinct_roles = distinct_with s.roles w within.distinct_roles;
+  distinct_individuals = within.distinct_individuals;
   few_classes = within.few_classes;
   few_roles = true_le (length (with_name s.roles w)) 1000 h;
+  few_individuals = within.few_individuals;
   few_axioms = within.few_axioms;
   few_parts = within.few_parts;
   few_nodes = within.few_nodes;
-  no_individuals = within.no_individuals;
+}
+
+pub individual_within : (s : Counts) (n : ℕ) (w : List ℕ) → holds s (individual n w) ≡ true → is_iri w ≡ true → IsWithin s → IsWithin (counts_after s (individual n w))
+individual_within s n w h good within = record {
+  class_iris = within.class_iris;
+  role_iris = within.role_iris;
+  individual_iris = all_with is_iri s.individuals w within.individual_iris good;
+  distinct_classes = within.distinct_classes;
+  distinct_roles = within.distinct_roles;
+  distinct_individuals = distinct_with s.individuals w within.distinct_individuals;
+  few_classes = within.few_classes;
+  few_roles = within.few_roles;
+  few_individuals = true_le (length (with_name s.individuals w)) 20000 h;
+  few_axioms = within.few_axioms;
+  few_parts = within.few_parts;
+  few_nodes = within.few_nodes;
 }
 
 pub nodes_within : (s : Counts) (n k : ℕ) → holds s (nodes n k) ≡ true → IsWithin s → IsWithin (counts_after s (nodes n k))
 nodes_within s n k h within = record {
   class_iris = within.class_iris;
   role_iris = within.role_iris;
+  individual_iris = within.individual_iris;
   distinct_classes = within.distinct_classes;
   distinct_roles = within.distinct_roles;
+  distinct_individuals = within.distinct_individuals;
   few_classes = within.few_classes;
   few_roles = within.few_roles;
+  few_individuals = within.few_individuals;
   few_axioms = within.few_axioms;
   few_parts = within.few_parts;
   few_nodes = true_le (s.nodes + k) 262144 h;
-  no_individuals = within.no_individuals;
 }
 
 pub numbered_within : (s : Counts) (n : ℕ) → holds s (numbered n) ≡ true → IsWithin s → IsWithin (counts_after s (numbered n))
 numbered_within s n h within = record {
   class_iris = within.class_iris;
   role_iris = within.role_iris;
+  individual_iris = within.individual_iris;
   distinct_classes = within.distinct_classes;
   distinct_roles = within.distinct_roles;
+  distinct_individuals = within.distinct_individuals;
   few_classes = within.few_classes;
   few_roles = within.few_roles;
+  few_individuals = within.few_individuals;
   few_axioms = true_le (s.axioms + 1) 20000 h;
   few_parts = within.few_parts;
   few_nodes = within.few_nodes;
-  no_individuals = within.no_individuals;
 }
 
 pub parts_within : (s : Counts) (n k : ℕ) → holds s (parts n k) ≡ true → IsWithin s → IsWithin (counts_after s (parts n k))
 parts_within s n k h within = record {
   class_iris = within.class_iris;
   role_iris = within.role_iris;
+  individual_iris = within.individual_iris;
   distinct_classes = within.distinct_classes;
   distinct_roles = within.distinct_roles;
+  distinct_individuals = within.distinct_individuals;
   few_classes = within.few_classes;
   few_roles = within.few_roles;
+  few_individuals = within.few_individuals;
   few_axioms = within.few_axioms;
   few_parts = true_le (s.parts + k) 500000 h;
   few_nodes = within.few_nodes;
-  no_individuals = within.no_individuals;
 }
 
 -- ---- how far the counts rise
@@ -196,6 +224,9 @@ rises_class s n w h good = record { axioms = omega arith; parts = omega arith; n
 
 pub rises_role : (s : Counts) (n : ℕ) (w : List ℕ) → holds s (role n w) ≡ true → is_role_iri w ≡ true → Rises s (counts_after s (role n w)) 0 0 0
 rises_role s n w h good = record { axioms = omega arith; parts = omega arith; nodes = omega arith; within = role_within s n w h good }
+
+pub rises_individual : (s : Counts) (n : ℕ) (w : List ℕ) → holds s (individual n w) ≡ true → is_iri w ≡ true → Rises s (counts_after s (individual n w)) 0 0 0
+rises_individual s n w h good = record { axioms = omega arith; parts = omega arith; nodes = omega arith; within = individual_within s n w h good }
 
 pub rises_numbered : (s : Counts) (n : ℕ) → holds s (numbered n) ≡ true → Rises s (counts_after s (numbered n)) 1 0 0
 rises_numbered s n h = record { axioms = refl; parts = omega arith; nodes = omega arith; within = numbered_within s n h }

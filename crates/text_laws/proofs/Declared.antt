@@ -12,10 +12,11 @@ use Rattle.shq_terms.specs.Distinct.{AreDistinct}
 use Rattle.shq_terms.specs.declared.axioms.Numbered.{Numbered}
 use Rattle.ofn_tree.specs.Items.{iri_item}
 use Rattle.ofn_expressions.specs.Counts.{Counts}
-use Rattle.ofn_expressions.specs.Walk.{Test, shape, class, role, walked}
+use Rattle.ofn_expressions.specs.Walk.{Test, shape, class, role, individual, walked}
 use Rattle.ofn_expressions.specs.Names.{predeclared}
 use Rattle.ofn_expressions.specs.Constructs.{excluded_role_name}
 use Rattle.ofn_expressions.specs.Classes.{is_thing, is_nothing, unless_excluded, declared_class_tests, declared_role_tests}
+use Rattle.ofn_expressions.specs.Individuals.{individual_tests}
 use Rattle.ofn_expressions.specs.declared.construct.Construct.{Construct}
 use Rattle.ofn_expressions.proofs.Walks.{goes_on}
 use Rattle.ofn_reader.specs.Axioms.{axiom_tests, axioms_tests, axioms_in}
@@ -25,7 +26,7 @@ use Rattle.text_laws.specs.WritingLaws.{axioms_of}
 use Rattle.text_laws.proofs.Checks.{le_true, no_more, one_further}
 use Rattle.text_laws.proofs.Phrases.{Phrase, iri, call, item_of, lines_items}
 use Rattle.text_laws.proofs.Terms.{one, axiom_phrase}
-use Rattle.text_laws.proofs.Keywords.{class_declared, role_declared, no_axiom}
+use Rattle.text_laws.proofs.Keywords.{class_declared, role_declared, individual_declared, no_axiom}
 use Rattle.text_laws.proofs.Walks.{step, AreKnown, counted}
 use Rattle.text_laws.proofs.Axioms.{axiom_walk, axiom_value}
 use Rattle.text_laws.proofs.Prefixes.{owl_known}
@@ -69,8 +70,8 @@ abbrev no_names : List (List ℕ)
 no_names = []
 
 -- so many names are listed
-abbrev pub naming : List (List ℕ) → List (List ℕ) → Counts
-naming classes roles = record { axioms = 0; parts = 0; nodes = 0; classes = classes; roles = roles; individuals = [] }
+abbrev pub naming : List (List ℕ) → List (List ℕ) → List (List ℕ) → Counts
+naming classes roles individuals = record { axioms = 0; parts = 0; nodes = 0; classes = classes; roles = roles; individuals = individuals }
 
 with_new : (before : List (List ℕ)) (w : List ℕ) → position (bytes_eq w) before ≡ None → with_name before w ≡ before ++ w ∷ []
 with_new before w new = ap (λ r. with_at r before w) new
@@ -78,45 +79,60 @@ with_new before w new = ap (λ r. with_at r before w) new
 one_longer : (before : List (List ℕ)) (w : List ℕ) (limit : ℕ) → length before + 1 ≤ limit → nat_le (length (before ++ w ∷ [])) limit ≡ true
 one_longer before w limit few = le_true (length (before ++ w ∷ [])) limit (omega (arith, length-append before (w ∷ []), few))
 
-class_step : (roles before : List (List ℕ)) (w : List ℕ) (n : ℕ) → position (bytes_eq w) before ≡ None → is_class_iri w ≡ true → length before + 1 ≤ 20000
-    → walked (naming before roles) (axiom_tests predeclared (item_of n (declaration (codes "Class") w))) ≡ Ok (naming (before ++ w ∷ []) roles)
-class_step roles before w n new good few =
+class_step : (before : List (List ℕ)) (w : List ℕ) (n : ℕ) → position (bytes_eq w) before ≡ None → is_class_iri w ≡ true → length before + 1 ≤ 20000
+    → walked (naming before [] []) (axiom_tests predeclared (item_of n (declaration (codes "Class") w))) ≡ Ok (naming (before ++ w ∷ []) [] [])
+class_step before w n new good few =
     let names : (not (is_thing w) && not (is_nothing w)) ≡ true = (and_parts (is_iri w) (not (is_thing w) && not (is_nothing w)) good).1 in
     let no_thing : is_thing w ≡ false = false_from_not (is_thing w) (and_parts (not (is_thing w)) (not (is_nothing w)) names).0 in
     let no_nothing : is_nothing w ≡ false = false_from_not (is_nothing w) (and_parts (not (is_thing w)) (not (is_nothing w)) names).1 in
-    let s : Counts = naming before roles in
+    let s : Counts = naming before [] [] in
     let same : with_name before w ≡ before ++ w ∷ [] = with_new before w new in
     ap (walked s) (class_declared predeclared n (iri_item w n))
     ∙ step s (shape n true) (shape n true ∷ declared_class_tests predeclared (iri_item w n)) refl
     ∙ step s (shape n true) (declared_class_tests predeclared (iri_item w n)) refl
     ∙ (λ i. walked s (cond (no_thing i) [] (cond (no_nothing i) [] (class n w ∷ []))))
     ∙ step s (class n w) [] (ap (λ l. nat_le (length l) 20000) same ∙ one_longer before w 20000 few)
-    ∙ ap (λ l. Ok (naming l roles)) same
+    ∙ ap (λ l. Ok (naming l [] [])) same
 
 role_step : (classes before : List (List ℕ)) (w : List ℕ) (n : ℕ) → position (bytes_eq w) before ≡ None → is_role_iri w ≡ true → length before + 1 ≤ 1000
-    → walked (naming classes before) (axiom_tests predeclared (item_of n (declaration (codes "ObjectProperty") w))) ≡ Ok (naming classes (before ++ w ∷ []))
+    → walked (naming classes before []) (axiom_tests predeclared (item_of n (declaration (codes "ObjectProperty") w))) ≡ Ok (naming classes (before ++ w ∷ []) [])
 role_step classes before w n new good few =
     let included : excluded_role_name w ≡ None = none_of (excluded_role_name w) (and_parts (is_iri w) (is_none (excluded_role_name w)) good).1 in
-    let s : Counts = naming classes before in
+    let s : Counts = naming classes before [] in
     let same : with_name before w ≡ before ++ w ∷ [] = with_new before w new in
     ap (walked s) (role_declared predeclared n (iri_item w n))
     ∙ step s (shape n true) (shape n true ∷ declared_role_tests predeclared (iri_item w n)) refl
     ∙ step s (shape n true) (declared_role_tests predeclared (iri_item w n)) refl
     ∙ ap (λ e. walked s (unless_excluded e n w)) included
     ∙ step s (role n w) [] (ap (λ l. nat_le (length l) 1000) same ∙ one_longer before w 1000 few)
-    ∙ ap (λ l. Ok (naming classes l)) same
+    ∙ ap (λ l. Ok (naming classes l [])) same
   where
     none_of : (e : Option Construct) → is_none e ≡ true → e ≡ None
     none_of None h = refl
     none_of (Some c) h = cc
 
+individual_step : (classes roles before : List (List ℕ)) (w : List ℕ) (n : ℕ) → position (bytes_eq w) before ≡ None → is_iri w ≡ true → length before + 1 ≤ 20000
+    → walked (naming classes roles before) (axiom_tests predeclared (item_of n (declaration (codes "NamedIndividual") w))) ≡ Ok (naming classes roles (before ++ w ∷ []))
+individual_step classes roles before w n new good few =
+    let s : Counts = naming classes roles before in
+    let same : with_name before w ≡ before ++ w ∷ [] = with_new before w new in
+    ap (walked s) (individual_declared predeclared n (iri_item w n))
+    ∙ step s (shape n true) (shape n true ∷ individual_tests predeclared (iri_item w n)) refl
+    ∙ step s (shape n true) (individual_tests predeclared (iri_item w n)) refl
+    ∙ step s (individual n w) [] (ap (λ l. nat_le (length l) 20000) same ∙ one_longer before w 20000 few)
+    ∙ ap (λ l. Ok (naming classes roles l)) same
+
 pub classes_walk : (classes : List (List ℕ)) (n : ℕ) (ps : List Phrase) → AreDistinct classes → list_all is_class_iri classes ≡ true → length classes ≤ 20000
-    → walked (naming [] []) (tests_on n (declarations (codes "Class") classes ++ ps)) ≡ walked (naming classes []) (tests_on (n + length classes) ps)
-classes_walk classes n ps distinct good few = names_walk (codes "Class") (λ l. naming l []) is_class_iri 20000 (class_step []) [] classes n ps distinct good few
+    → walked (naming [] [] []) (tests_on n (declarations (codes "Class") classes ++ ps)) ≡ walked (naming classes [] []) (tests_on (n + length classes) ps)
+classes_walk classes n ps distinct good few = names_walk (codes "Class") (λ l. naming l [] []) is_class_iri 20000 class_step [] classes n ps distinct good few
 
 pub roles_walk : (classes roles : List (List ℕ)) (n : ℕ) (ps : List Phrase) → AreDistinct roles → list_all is_role_iri roles ≡ true → length roles ≤ 1000
-    → walked (naming classes []) (tests_on n (declarations (codes "ObjectProperty") roles ++ ps)) ≡ walked (naming classes roles) (tests_on (n + length roles) ps)
-roles_walk classes roles n ps distinct good few = names_walk (codes "ObjectProperty") (λ l. naming classes l) is_role_iri 1000 (role_step classes) [] roles n ps distinct good few
+    → walked (naming classes [] []) (tests_on n (declarations (codes "ObjectProperty") roles ++ ps)) ≡ walked (naming classes roles []) (tests_on (n + length roles) ps)
+roles_walk classes roles n ps distinct good few = names_walk (codes "ObjectProperty") (λ l. naming classes l []) is_role_iri 1000 (role_step classes) [] roles n ps distinct good few
+
+pub individuals_walk : (classes roles individuals : List (List ℕ)) (n : ℕ) (ps : List Phrase) → AreDistinct individuals → list_all is_iri individuals ≡ true → length individuals ≤ 20000
+    → walked (naming classes roles []) (tests_on n (declarations (codes "NamedIndividual") individuals ++ ps)) ≡ walked (naming classes roles individuals) (tests_on (n + length individuals) ps)
+individuals_walk classes roles individuals n ps distinct good few = names_walk (codes "NamedIndividual") (λ l. naming classes roles l) is_iri 20000 (individual_step classes roles) [] individuals n ps distinct good few
 
 -- declarations are no axioms
 pub declarations_value : (kind : List ℕ) (s : Counts) (ws : List (List ℕ)) (n : ℕ) (ps : List Phrase) → axioms_in predeclared s (lines_items n (declarations kind ws ++ ps)) ≡ axioms_in predeclared s (lines_items (n + length ws) ps)

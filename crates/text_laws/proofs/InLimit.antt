@@ -15,7 +15,7 @@ use Rattle.shq_terms.specs.declared.axioms.Query.{Query}
 use Rattle.shq_terms.proofs.Uses.{all_use_more}
 use Rattle.ontology_limits.specs.Counted.{counted_roles, counted_by_query}
 use Rattle.ontology_limits.specs.Simple.{are_simple, all_role_axioms}
-use Rattle.ontology_limits.specs.Limits.{is_on_listed, IsOntologyInLimit, IsInLimit, IsOntologyWithoutIndividuals, IsWithoutIndividuals}
+use Rattle.ontology_limits.specs.Limits.{IsOntologyInLimit, IsInLimit}
 use Rattle.ofn_tree.specs.Lexemes.{end_line, is_iri_byte}
 use Rattle.ofn_tree.specs.Items.{Item, items_of}
 use Rattle.ofn_expressions.specs.Counts.{Counts}
@@ -29,17 +29,14 @@ use Rattle.ofn_reader.specs.Queries.{IsQuery, IsClass, query_form_tests, class_f
 use Rattle.text_laws.specs.Writable.{is_iri, is_class_iri, is_role_iri, CanBeWritten}
 use Rattle.text_laws.proofs.GoodTokens.{AreGoodItems, tokens_good, tree_good}
 use Rattle.text_laws.proofs.Counting.{IsWithin, held, both, nothing_held, walked_after}
-use Rattle.text_laws.proofs.CanWrite.{no_names_distinct, can_be_written, prefixes_kept, query_within}
-use Rattle.certificate_lines.specs.Names.{AreNames, is_word_byte}
-use Rattle.text_laws.specs.LimitLaws.{with_names, DocumentsAreInLimit, QueriesAreInLimit, ClassesAreInLimit, DocumentsAreWithoutIndividuals, QueriesAreWithoutIndividuals, ClassesAreWithoutIndividuals, AreWritable, QueriesListNames, ClassesListNames}
+use Rattle.text_laws.proofs.CanWrite.{can_be_written, prefixes_kept, query_within}
+use Rattle.certificate_lines.specs.Names.{is_word_byte}
+use Rattle.text_laws.specs.LimitLaws.{with_names, DocumentsAreInLimit, QueriesAreInLimit, ClassesAreInLimit, AreWritable, QueriesListNames, ClassesListNames}
 use Rattle.text_laws.proofs.Names.{no_shorter}
 use Rattle.text_laws.proofs.Queries.{IsAsked, first_query_asked, first_class_asked}
 
 pub documents_in_limit : DocumentsAreInLimit
 documents_in_limit text o kept end d = (can_be_written text o kept end d).within
-
-pub documents_without_individuals : DocumentsAreWithoutIndividuals
-documents_without_individuals text o kept end d = (can_be_written text o kept end d).without_individuals
 
 -- ---- with more names
 
@@ -47,21 +44,18 @@ still_in_limit : (o : Listed) (nodes : ℕ) (after : Counts) → CanBeWritten o 
 still_in_limit o nodes after can keeps within =
     let classes = no_shorter o.classes after.classes can.distinct_classes keeps.classes in
     let roles = no_shorter o.roles after.roles can.distinct_roles keeps.roles in
-    let none_before : o.individuals ≡ [] = can.without_individuals.none_listed in
+    let individuals = no_shorter o.individuals after.individuals can.distinct_individuals keeps.individuals in
     record {
-      listed = all_use_more (length o.classes) (length after.classes) (length o.roles) (length after.roles) (length o.individuals) (length after.individuals) classes roles (omega (arith, ap length none_before)) o.axioms can.within.listed;
+      listed = all_use_more (length o.classes) (length after.classes) (length o.roles) (length after.roles) (length o.individuals) (length after.individuals) classes roles individuals o.axioms can.within.listed;
       items = can.within.items;
       counts = can.within.counts;
       simple = can.within.simple;
       few_axioms = can.within.few_axioms;
       few_classes = within.few_classes;
       few_roles = within.few_roles;
-      few_individuals = omega (arith, ap length within.no_individuals);
+      few_individuals = within.few_individuals;
       few_parts = can.within.few_parts;
     }
-
-still_without_individuals : (o : Listed) (after : Counts) → CanBeWritten o → IsWithin after → IsOntologyWithoutIndividuals (with_names o after)
-still_without_individuals o after can within = record { none_listed = within.no_individuals; no_assertions = can.without_individuals.no_assertions }
 
 items_good : (text : List ℕ) (items : List Item) (end : ℕ) → HasItems text items end → AreGoodItems (items_of items)
 items_good text items end made = tree_good made.tokens.tokens items made.tree (tokens_good text made.tokens made.cut)
@@ -92,13 +86,7 @@ module _ (text : List ℕ) (o : Listed) (kept : DocumentContext) (end : ℕ) (d 
     items = asked.items;
     counts = asked.counts;
     simple = simple_are;
-    on_listed = ap (is_on_listed (length after.individuals)) asked.on_any;
-  }
-
-  asked_without_individuals : (after : Counts) (q : Query) → IsAsked after (query_start o kept.nodes) after q → IsWithoutIndividuals (with_names o after) q
-  asked_without_individuals after q asked = record {
-    ontology = still_without_individuals o after (can_be_written text o kept end d) (asked.within (query_within text o kept end d));
-    on_any = asked.on_any;
+    on_listed = asked.on_listed;
   }
 
 -- ---- what was walked
@@ -152,13 +140,6 @@ classes_in_limit text o kept end d class after c x =
     let w = class_walks text o kept end d class after c x in
     asked_in_limit text o kept end d after (record { sub = c; sup = bottom; on = Any }) w.asked w.keeps w.simple_are
 
-pub queries_without_individuals : QueriesAreWithoutIndividuals
-queries_without_individuals text o kept end d query after q x = asked_without_individuals text o kept end d after q (query_walks text o kept end d query after q x).asked
-
-pub classes_without_individuals : ClassesAreWithoutIndividuals
-classes_without_individuals text o kept end d class after c x =
-    asked_without_individuals text o kept end d after (record { sub = c; sup = bottom; on = Any }) (class_walks text o kept end d class after c x).asked
-
 -- each byte of an IRI is one of a word
 iri_is_word : (b : ℕ) → is_iri_byte b ≡ true → is_word_byte b ≡ true
 iri_is_word b h = grind (arith, common_steps, h)
@@ -194,7 +175,7 @@ names_written text o kept end d after q w =
     record {
       classes = record { distinct = within.distinct_classes; plain = plain after.classes (iris_of_classes after.classes within.class_iris) };
       roles = record { distinct = within.distinct_roles; plain = plain after.roles (iris_of_roles after.roles within.role_iris) };
-      individuals = subst AreNames (sym within.no_individuals) (record { distinct = no_names_distinct; plain = refl });
+      individuals = record { distinct = within.distinct_individuals; plain = plain after.individuals within.individual_iris };
     }
 
 pub queries_list_names : QueriesListNames

@@ -9,9 +9,10 @@ use Rattle.ofn_expressions.specs.Walk.{Test, shape, numbered, parts, nodes}
 use Rattle.ofn_expressions.specs.Names.{Prefix}
 use Rattle.ofn_expressions.specs.Keywords.{class_keyword}
 use Rattle.ofn_expressions.specs.Classes.{item_count, joined, class_tests, each_class, role_tests, roles_tests, number_tests, declared_class_tests, declared_role_tests, concept_of, concepts_of, role_of, roles_of, cardinality_of}
+use Rattle.ofn_expressions.specs.Individuals.{individual_tests, individuals_tests, individuals_of}
 use Rattle.ofn_reader.specs.Keywords.{axiom_keyword, entity_keyword}
 use Rattle.ofn_reader.specs.Groups.{without_annotations}
-use Rattle.ofn_reader.specs.Axioms.{pair_count, role_and_class_tests, name_and_class_tests, axiom_tests, axiom_in, numbered_at, sub_class_made, union_made, sub_role_made, domain_made, range_made, functional_made, transitive_made}
+use Rattle.ofn_reader.specs.Axioms.{pair_count, role_and_class_tests, name_and_class_tests, class_and_individual_tests, role_and_individual_tests, axiom_tests, axiom_in, numbered_at, sub_class_made, union_made, sub_role_made, domain_made, range_made, functional_made, transitive_made, member_made, pair_made}
 
 abbrev group : List ℕ → Items → ℕ → Item
 group w is line = group_item (Some w) is line
@@ -138,6 +139,22 @@ module _ (ps : List Prefix) (line : ℕ) (all is : Items) (plain : without_annot
   unfolding axiom_keyword
   transitive_tests = λ k. axiom_group_tests line (nat_eq (item_count (plain k)) 1) 0 (roles_tests ps (plain k))
 
+  pub member_tests : axiom_tests ps (group (codes "ClassAssertion") all line) ≡ axiom_group_tests line (nat_eq (item_count is) 2) 1 (class_and_individual_tests ps is)
+  unfolding axiom_keyword
+  member_tests = λ k. axiom_group_tests line (nat_eq (item_count (plain k)) 2) 1 (class_and_individual_tests ps (plain k))
+
+  pub pair_tests : axiom_tests ps (group (codes "ObjectPropertyAssertion") all line) ≡ axiom_group_tests line (nat_eq (item_count is) 3) 1 (role_and_individual_tests ps is)
+  unfolding axiom_keyword
+  pair_tests = λ k. axiom_group_tests line (nat_eq (item_count (plain k)) 3) 1 (role_and_individual_tests ps (plain k))
+
+  pub same_tests : axiom_tests ps (group (codes "SameIndividual") all line) ≡ axiom_group_tests line (nat_le 2 (item_count is)) (item_count is - 1) (individuals_tests ps is)
+  unfolding axiom_keyword
+  same_tests = λ k. axiom_group_tests line (nat_le 2 (item_count (plain k))) (item_count (plain k) - 1) (individuals_tests ps (plain k))
+
+  pub different_tests : axiom_tests ps (group (codes "DifferentIndividuals") all line) ≡ axiom_group_tests line (nat_le 2 (item_count is)) (pair_count (item_count is)) (individuals_tests ps is)
+  unfolding axiom_keyword
+  different_tests = λ k. axiom_group_tests line (nat_le 2 (item_count (plain k))) (pair_count (item_count (plain k))) (individuals_tests ps (plain k))
+
   module _ (s : Counts) where
     pub sub_class_value : axiom_in ps s (group (codes "SubClassOf") all line) ≡ numbered_at line (sub_class_made ps s is)
     unfolding axiom_keyword
@@ -179,6 +196,22 @@ module _ (ps : List Prefix) (line : ℕ) (all is : Items) (plain : without_annot
     unfolding axiom_keyword
     transitive_value = λ k. numbered_at line (transitive_made ps s (plain k))
 
+    pub member_value : axiom_in ps s (group (codes "ClassAssertion") all line) ≡ numbered_at line (member_made ps s is)
+    unfolding axiom_keyword
+    member_value = λ k. numbered_at line (member_made ps s (plain k))
+
+    pub pair_value : axiom_in ps s (group (codes "ObjectPropertyAssertion") all line) ≡ numbered_at line (pair_made ps s is)
+    unfolding axiom_keyword
+    pair_value = λ k. numbered_at line (pair_made ps s (plain k))
+
+    pub same_value : axiom_in ps s (group (codes "SameIndividual") all line) ≡ numbered_at line (A.SameAll (individuals_of ps s is) ∷ [])
+    unfolding axiom_keyword
+    same_value = λ k. numbered_at line (A.SameAll (individuals_of ps s (plain k)) ∷ [])
+
+    pub different_value : axiom_in ps s (group (codes "DifferentIndividuals") all line) ≡ numbered_at line (A.Different (individuals_of ps s is) ∷ [])
+    unfolding axiom_keyword
+    different_value = λ k. numbered_at line (A.Different (individuals_of ps s (plain k)) ∷ [])
+
 -- ---- declarations
 
 abbrev pub declaration : List ℕ → Item → ℕ → Item
@@ -192,6 +225,10 @@ module _ (ps : List Prefix) (line : ℕ) (i : Item) where
   pub role_declared : axiom_tests ps (declaration (codes "ObjectProperty") i line) ≡ shape line true ∷ (shape line true ∷ declared_role_tests ps i)
   unfolding axiom_keyword entity_keyword
   role_declared = refl
+
+  pub individual_declared : axiom_tests ps (declaration (codes "NamedIndividual") i line) ≡ shape line true ∷ (shape line true ∷ individual_tests ps i)
+  unfolding axiom_keyword entity_keyword
+  individual_declared = refl
 
   pub no_axiom : (kind : List ℕ) (s : Counts) → axiom_in ps s (declaration kind i line) ≡ []
   unfolding axiom_keyword

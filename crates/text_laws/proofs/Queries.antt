@@ -1,46 +1,50 @@
 -- What queries and class expressions are whose tests hold.
 use Rattle.std.proofs.Common.{◌≡◌, ℕ, true, false, ◌&&◌, List, [], ◌∷◌, length, Option, Some, None, Ok, refl, ap, sym, ◌∙◌, subst, codes}
-use Rattle.std.specs.Prelude.{nat_eq}
+use Rattle.std.specs.Prelude.{nat_eq, nat_lt}
+use Rattle.std.specs.List.{list_all}
 use Rattle.std.proofs.lemmas.Bool.{and_parts, and_from}
-use Rattle.shq_terms.specs.Concept.{Concept, bottom, Parts, part}
+use Rattle.shq_terms.specs.Concept.{Concept, top, bottom, Parts, part}
 use Rattle.shq_terms.specs.Uses.{uses_listed, parts_use_listed}
-use Rattle.shq_terms.specs.declared.axioms.On.TheVariants.{Any}
+use Rattle.shq_terms.specs.declared.axioms.On.{On}
+use Rattle.shq_terms.specs.declared.axioms.On.TheVariants.{Any, Individual}
 use Rattle.shq_terms.specs.declared.axioms.Query.{Query}
 use Rattle.shq_nnf.specs.Counts.{has_counts_within}
-use Rattle.ontology_limits.specs.Limits.{has_enough_parts}
+use Rattle.ontology_limits.specs.Limits.{has_enough_parts, is_on_listed}
 use Rattle.ofn_tree.specs.Items.{Item, name_item, iri_item, literal_item, sign_item, group_item, Items, no_items, item, items_of}
 use Rattle.ofn_expressions.specs.Counts.{Counts}
 use Rattle.ofn_expressions.specs.Constructs.{excluded_axiom}
 use Rattle.ofn_expressions.specs.Walk.{shape, outside, walked}
 use Rattle.ofn_expressions.specs.Names.{Prefix, item_line}
 use Rattle.ofn_expressions.specs.Classes.{item_count, each_class, joined, class_tests, concept_of, concepts_of, Keeps}
+use Rattle.ofn_expressions.specs.Individuals.{individuals_tests, individual_of, individuals_of}
 use Rattle.ofn_expressions.specs.declared.construct.Construct.{Construct}
 use Rattle.ofn_reader.specs.Keywords.{axiom_keyword, axiom_else}
 use Rattle.ofn_reader.specs.Groups.{without_annotations}
-use Rattle.ofn_reader.specs.Queries.{query_group_tests, axiom_query_tests, nothing_tests, query_form_tests, class_form_tests, pair_in, query_in, first_query, first_class}
+use Rattle.ofn_reader.specs.Axioms.{class_and_individual_tests}
+use Rattle.ofn_reader.specs.Queries.{query_group_tests, axiom_query_tests, nothing_tests, query_form_tests, class_form_tests, pair_in, member_in, query_in, first_query, first_class}
 use Rattle.text_laws.proofs.Whole.{is_whole, are_whole, whole_is}
 use Rattle.text_laws.proofs.GoodTokens.{IsGoodItem, AreGoodItems}
 use Rattle.text_laws.proofs.GoodNames.{AreGoodPrefixes}
 use Rattle.text_laws.proofs.Counting.{IsWithin, held, both, never, nothing_held, keeps_before}
 use Rattle.text_laws.proofs.Words.{keyword_words}
-use Rattle.text_laws.proofs.ReadClasses.{class_read, all_classes_read, parts_read}
+use Rattle.text_laws.proofs.ReadClasses.{class_read, individuals_read, all_classes_read, parts_read}
 use Rattle.text_laws.proofs.ReadAxioms.{plain_good}
 
--- the expressions of a query are within the limits, over the names of some counts
+-- the expressions of a query and its individual are within the limits, over the names of some counts
 pub record IsAsked (f s new : Counts) (q : Query) : Type 0 where
   pub within : IsWithin s → IsWithin new
   pub listed : (uses_listed (length f.classes) (length f.roles) q.sub && uses_listed (length f.classes) (length f.roles) q.sup) ≡ true
   pub items : (has_enough_parts q.sub && has_enough_parts q.sup) ≡ true
   pub counts : (has_counts_within 100 q.sub && has_counts_within 100 q.sup) ≡ true
-  pub on_any : q.on ≡ Any
+  pub on_listed : is_on_listed (length f.individuals) q.on ≡ true
 
 -- the limits of an expression, by the test of both
 both_parts : (c : Concept) → is_whole c ≡ true → (has_enough_parts c ≡ true) × (has_counts_within 100 c ≡ true)
 both_parts c h = and_parts (has_enough_parts c) (has_counts_within 100 c) (sym (whole_is c) ∙ h)
 
-asked : (f s new : Counts) (c d : Concept) → (IsWithin s → IsWithin new) → uses_listed (length f.classes) (length f.roles) c ≡ true → uses_listed (length f.classes) (length f.roles) d ≡ true → is_whole c ≡ true → is_whole d ≡ true
-    → IsAsked f s new (record { sub = c; sup = d; on = Any })
-asked f s new c d within c_listed d_listed c_whole d_whole =
+asked : (f s new : Counts) (c d : Concept) (on : On) → is_on_listed (length f.individuals) on ≡ true → (IsWithin s → IsWithin new) → uses_listed (length f.classes) (length f.roles) c ≡ true → uses_listed (length f.classes) (length f.roles) d ≡ true → is_whole c ≡ true → is_whole d ≡ true
+    → IsAsked f s new (record { sub = c; sup = d; on = on })
+asked f s new c d on on_listed within c_listed d_listed c_whole d_whole =
     let first = both_parts c c_whole in
     let second = both_parts d d_whole in
     record {
@@ -48,7 +52,7 @@ asked f s new c d within c_listed d_listed c_whole d_whole =
       listed = and_from (uses_listed (length f.classes) (length f.roles) c) (uses_listed (length f.classes) (length f.roles) d) c_listed d_listed;
       items = and_from (has_enough_parts c) (has_enough_parts d) first.0 second.0;
       counts = and_from (has_counts_within 100 c) (has_counts_within 100 d) first.1 second.1;
-      on_any = refl;
+      on_listed = on_listed;
     }
 
 no_query : (q : Query) → [] ≡ q ∷ [] → ⊥
@@ -73,13 +77,27 @@ module _ (ps : List Prefix) (prefixes : AreGoodPrefixes ps) (f : Counts) where
       let v = and_parts (is_whole d) (are_whole rest) w.1 in
       let made : Query = record { sub = c; sup = d; on = Any } in
       let same : made ≡ q = cc pair in
-      subst (λ (x : Query). IsAsked f s new x) same (asked f s new c d all.rises.within l.0 m.0 w.0 v.0)
+      subst (λ (x : Query). IsAsked f s new x) same (asked f s new c d Any refl all.rises.within l.0 m.0 w.0 v.0)
+
+  member_asked : (is : Items) → AreGoodItems is → (q : Query) → member_in ps f is ≡ q ∷ [] → (s new : Counts) → walked s (class_and_individual_tests ps is) ≡ Ok new → Keeps new f → IsAsked f s new q
+  member_asked no_items good q pair s new h keeps = absurd (no_query q pair)
+  member_asked (item i no_items) good q pair s new h keeps = absurd (no_query q pair)
+  member_asked (item i (item j is)) good q pair s new h keeps =
+      let c : Concept = concept_of ps f i in
+      let a : ℕ = individual_of ps f j in
+      let b = both s (class_tests ps i) (individuals_tests ps (item j is)) new h in
+      let first = class_read ps prefixes f i good.0 s b.mid b.first (keeps_before s b.mid new f (individuals_tests ps (item j is)) b.second keeps) in
+      let rest = individuals_read ps prefixes f (item j is) b.mid new good.1 b.second keeps in
+      let known = and_parts (nat_lt a (length f.individuals)) (list_all (λ e. nat_lt e (length f.individuals)) (individuals_of ps f is)) rest.listed in
+      let made : Query = record { sub = top; sup = c; on = Individual a } in
+      let same : made ≡ q = cc pair in
+      subst (λ (x : Query). IsAsked f s new x) same (asked f s new top c (Individual a) known.0 (λ within. rest.rises.within (first.rises.within within)) refl first.listed refl first.whole)
 
   -- ---- queries, by the words of their groups
 
   abbrev GroupAsks : List ℕ → Type 0
   GroupAsks w =
-      (line : ℕ) (all : Items) → AreGoodItems all → (q : Query) → pair_in ps f (without_annotations all) ≡ q ∷ [] → (s new : Counts) → walked s (axiom_query_tests ps (group_item (Some w) all line)) ≡ Ok new → Keeps new f
+      (line : ℕ) (all : Items) → AreGoodItems all → (q : Query) → query_in ps f (group_item (Some w) all line) ≡ q ∷ [] → (s new : Counts) → walked s (axiom_query_tests ps (group_item (Some w) all line)) ≡ Ok new → Keeps new f
       → IsAsked f s new q
 
   sub_class_asks : GroupAsks (codes "SubClassOf")
@@ -88,6 +106,13 @@ module _ (ps : List Prefix) (prefixes : AreGoodPrefixes ps) (f : Counts) where
       let is : Items = without_annotations all in
       let form = held s (shape line (nat_eq (item_count is) 2)) (joined (each_class ps is)) new h in
       pair_asked is (plain_good all good) q pair s new form.later keeps
+
+  member_asks : GroupAsks (codes "ClassAssertion")
+  unfolding axiom_keyword
+  member_asks line all good q pair s new h keeps =
+      let is : Items = without_annotations all in
+      let form = held s (shape line (nat_eq (item_count is) 2)) (class_and_individual_tests ps is) new h in
+      member_asked is (plain_good all good) q pair s new form.later keeps
 
   none_asks : (w : List ℕ) → ((line : ℕ) (all : Items) → axiom_query_tests ps (group_item (Some w) all line) ≡ shape line false ∷ []) → GroupAsks w
   none_asks w tests line all good q pair s new h keeps = absurd (never s new (shape line false) [] refl (ap (walked s) (sym (tests line all)) ∙ h))
@@ -112,6 +137,10 @@ module _ (ps : List Prefix) (prefixes : AreGoodPrefixes ps) (f : Counts) where
       (none_asks (codes "ObjectPropertyRange") (λ line all. refl))
       (none_asks (codes "FunctionalObjectProperty") (λ line all. refl))
       (none_asks (codes "TransitiveObjectProperty") (λ line all. refl))
+      member_asks
+      (none_asks (codes "ObjectPropertyAssertion") (λ line all. refl))
+      (none_asks (codes "SameIndividual") (λ line all. refl))
+      (none_asks (codes "DifferentIndividuals") (λ line all. refl))
       (none_asks (codes "Declaration") (λ line all. refl))
       (none_asks (codes "Annotation") (λ line all. refl))
       (none_asks (codes "AnnotationAssertion") (λ line all. refl))
@@ -145,4 +174,4 @@ module _ (ps : List Prefix) (prefixes : AreGoodPrefixes ps) (f : Counts) where
       let read = class_read ps prefixes f i good.0 s b.mid b.first (keeps_before s b.mid new f (nothing_tests is) b.second keeps) in
       let same : d ≡ c = cc class in
       subst (λ (t : Counts). IsAsked f s t (record { sub = c; sup = bottom; on = Any })) (nothing_after is b.mid new b.second)
-      (subst (λ (x : Concept). IsAsked f s b.mid (record { sub = x; sup = bottom; on = Any })) same (asked f s b.mid d bottom read.rises.within read.listed refl read.whole refl))
+      (subst (λ (x : Concept). IsAsked f s b.mid (record { sub = x; sup = bottom; on = Any })) same (asked f s b.mid d bottom Any refl read.rises.within read.listed refl read.whole refl))

@@ -40,7 +40,7 @@ use Rattle.text_laws.proofs.Walks.{step, AreKnown, counted}
 use Rattle.text_laws.proofs.Counting.{walked_after}
 use Rattle.text_laws.proofs.Simple.{simple_again}
 use Rattle.text_laws.proofs.Places.{own_place}
-use Rattle.text_laws.proofs.Declared.{declarations, axiom_phrases, classes_walk, roles_walk, declarations_value, axioms_walk, axioms_value}
+use Rattle.text_laws.proofs.Declared.{declarations, axiom_phrases, classes_walk, roles_walk, individuals_walk, declarations_value, axioms_walk, axioms_value}
 use Rattle.text_laws.proofs.Texts.{document_phrases, opened, text_is, opened_utf8, document_stands, document_nests}
 
 -- ---- the tokens of lines in a group `Ontology`
@@ -150,8 +150,9 @@ declared_first kind n (w ∷ ws) qs others = refl
 
 no_name_first : (o : Listed) (n : ℕ) → axiom_items (lines_items n (document_phrases o)) ≡ lines_items n (document_phrases o)
 no_name_first o n =
-    declared_first (codes "Class") n o.classes (declarations (codes "ObjectProperty") o.roles ++ axiom_phrases o o.axioms)
-    (declared_first (codes "ObjectProperty") n o.roles (axiom_phrases o o.axioms) (axioms_first o n o.axioms))
+    declared_first (codes "Class") n o.classes (declarations (codes "ObjectProperty") o.roles ++ (declarations (codes "NamedIndividual") o.individuals ++ axiom_phrases o o.axioms))
+    (declared_first (codes "ObjectProperty") n o.roles (declarations (codes "NamedIndividual") o.individuals ++ axiom_phrases o o.axioms)
+    (declared_first (codes "NamedIndividual") n o.individuals (axiom_phrases o o.axioms) (axioms_first o n o.axioms)))
 
 -- ---- the names
 
@@ -159,6 +160,7 @@ pub spelled : (o : Listed) → CanBeWritten o → AreSpelled o
 spelled o can = record {
   class_iri = λ a less. all_at is_class_iri o.classes a can.class_iris less;
   role_iri = λ r less. all_at is_role_iri o.roles r can.role_iris less;
+  individual_iri = λ a less. all_at is_iri o.individuals a can.individual_iris less;
 }
 
 no_construct : (e : Option Construct) → is_none e ≡ true → e ≡ None
@@ -183,8 +185,10 @@ known o can =
           let w : List ℕ = slice_index_or o.roles r [] in
           no_construct (excluded_role_name w) (and_parts (is_iri w) (is_none (excluded_role_name w)) (all_at is_role_iri o.roles r can.role_iris less)).1;
       role_place = λ r less. own_place o.roles r can.distinct_roles less;
+      individual_place = λ a less. own_place o.individuals a can.distinct_individuals less;
       few_classes = can.within.few_classes;
       few_roles = can.within.few_roles;
+      few_individuals = can.within.few_individuals;
     }
 
 -- ---- the document
@@ -197,22 +201,23 @@ module _ (o : Listed) (can : CanBeWritten o) where
   behind = counted o (0 + length o.axioms) (0 + total counted_parts o.axioms) (0 + total axiom_expressions o.axioms)
 
   abbrev first_axiom : ℕ
-  first_axiom = 2 + length o.classes + length o.roles
+  first_axiom = 2 + length o.classes + length o.roles + length o.individuals
 
   form_holds : (last : ℕ) → walked start (form_tests predeclared last (document_items (document_phrases o))) ≡ Ok behind
   form_holds last =
       step start (shape 1 true) (axioms_tests predeclared (axiom_items (lines_items 2 (document_phrases o)))) refl
       ∙ ap (λ is. walked start (axioms_tests predeclared is)) (no_name_first o 2)
-      ∙ classes_walk o.classes 2 (declarations (codes "ObjectProperty") o.roles ++ axiom_phrases o o.axioms) can.distinct_classes can.class_iris can.within.few_classes
-      ∙ roles_walk o.classes o.roles (2 + length o.classes) (axiom_phrases o o.axioms) can.distinct_roles can.role_iris can.within.few_roles
-      ∙ ap (λ (l : List (List ℕ)). walked (record { axioms = 0; parts = 0; nodes = 0; classes = o.classes; roles = o.roles; individuals = l }) (axioms_tests predeclared (lines_items first_axiom (axiom_phrases o o.axioms)))) (sym can.without_individuals.none_listed)
+      ∙ classes_walk o.classes 2 (declarations (codes "ObjectProperty") o.roles ++ (declarations (codes "NamedIndividual") o.individuals ++ axiom_phrases o o.axioms)) can.distinct_classes can.class_iris can.within.few_classes
+      ∙ roles_walk o.classes o.roles (2 + length o.classes) (declarations (codes "NamedIndividual") o.individuals ++ axiom_phrases o o.axioms) can.distinct_roles can.role_iris can.within.few_roles
+      ∙ individuals_walk o.classes o.roles o.individuals (2 + length o.classes + length o.roles) (axiom_phrases o o.axioms) can.distinct_individuals can.individual_iris can.within.few_individuals
       ∙ axioms_walk o (known o can) o.axioms 0 0 0 first_axiom can.within.listed (whole_of o can) (omega (arith, can.within.few_axioms)) (omega (arith, can.within.few_parts, part_total o.axioms)) (omega (arith, can.few_expressions, expression_total o.axioms))
 
   same_axioms : axioms_of (document_axioms predeclared behind (document_items (document_phrases o))) ≡ axioms_of o.axioms
   same_axioms =
       ap (λ is. axioms_of (axioms_in predeclared behind is)) (no_name_first o 2)
-      ∙ ap axioms_of (declarations_value (codes "Class") behind o.classes 2 (declarations (codes "ObjectProperty") o.roles ++ axiom_phrases o o.axioms)
-      ∙ declarations_value (codes "ObjectProperty") behind o.roles (2 + length o.classes) (axiom_phrases o o.axioms))
+      ∙ ap axioms_of (declarations_value (codes "Class") behind o.classes 2 (declarations (codes "ObjectProperty") o.roles ++ (declarations (codes "NamedIndividual") o.individuals ++ axiom_phrases o o.axioms))
+      ∙ declarations_value (codes "ObjectProperty") behind o.roles (2 + length o.classes) (declarations (codes "NamedIndividual") o.individuals ++ axiom_phrases o o.axioms)
+      ∙ declarations_value (codes "NamedIndividual") behind o.individuals (2 + length o.classes + length o.roles) (axiom_phrases o o.axioms))
       ∙ axioms_value o (known o can) (0 + length o.axioms) (0 + total counted_parts o.axioms) (0 + total axiom_expressions o.axioms) o.axioms first_axiom can.within.listed (whole_of o can)
 
   holds : (last : ℕ) → walked start (document_tests predeclared last (document_items (document_phrases o))) ≡ Ok behind
@@ -245,4 +250,4 @@ module _ (o : Listed) (can : CanBeWritten o) where
       }
 
 pub written_is_read : (o : Listed) → CanBeWritten o → IsDocumentOf (ontology_text o) o
-written_is_read o can = subst (λ t. IsDocumentOf t o) (sym (text_is o can.without_individuals.none_listed)) (says o can)
+written_is_read o can = subst (λ t. IsDocumentOf t o) (sym (text_is o)) (says o can)

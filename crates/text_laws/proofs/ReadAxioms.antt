@@ -14,11 +14,12 @@ use Rattle.ofn_expressions.specs.Counts.{Counts}
 use Rattle.ofn_expressions.specs.Walk.{Test, shape, numbered, parts, counts_after, walked}
 use Rattle.ofn_expressions.specs.Names.{Prefix, item_line, iri_of}
 use Rattle.ofn_expressions.specs.Constructs.{excluded_role_name}
-use Rattle.ofn_expressions.specs.Classes.{item_count, is_thing, is_nothing, listed_class, unless_excluded, class_name_tests, role_tests, roles_tests, joined, each_class, class_named, role_of, roles_of, concept_of, concepts_of, Keeps}
+use Rattle.ofn_expressions.specs.Classes.{item_count, is_thing, is_nothing, listed_class, unless_excluded, class_name_tests, role_tests, roles_tests, joined, each_class, class_named, role_of, roles_of, class_tests, concept_of, concepts_of, Keeps}
+use Rattle.ofn_expressions.specs.Individuals.{individuals_tests, individual_of, individuals_of}
 use Rattle.ofn_reader.specs.Keywords.{axiom_keyword, entity_keyword}
 use Rattle.ofn_reader.specs.Groups.{is_annotation, without_annotations}
-use Rattle.ofn_reader.specs.Declarations.{declared_classes_tests, declared_roles_tests, entity_tests, first_entity_tests, declaration_tests}
-use Rattle.ofn_reader.specs.Axioms.{pair_count, role_and_class_tests, name_and_class_tests, axiom_tests, axioms_tests, axiom_in, axioms_in, numbered_at, sub_class_made, union_made, sub_role_made, domain_made, range_made, functional_made, transitive_made}
+use Rattle.ofn_reader.specs.Declarations.{declared_classes_tests, declared_roles_tests, declared_individuals_tests, entity_tests, first_entity_tests, declaration_tests}
+use Rattle.ofn_reader.specs.Axioms.{pair_count, role_and_class_tests, name_and_class_tests, class_and_individual_tests, role_and_individual_tests, axiom_tests, axioms_tests, axiom_in, axioms_in, numbered_at, sub_class_made, union_made, sub_role_made, domain_made, range_made, functional_made, transitive_made, member_made, pair_made}
 use Rattle.text_laws.specs.Writable.{most_brackets, expressions, all_expressions, is_named, axiom_brackets, axiom_expressions}
 use Rattle.text_laws.proofs.Whole.{is_whole, are_whole, has_item_count, has_whole_items, is_whole_axiom, counted_parts, total}
 use Rattle.text_laws.proofs.Checks.{true_le, le_true, eq_true}
@@ -29,7 +30,7 @@ use Rattle.text_laws.proofs.GoodTokens.{IsGoodItem, AreGoodItems}
 use Rattle.text_laws.proofs.GoodNames.{AreGoodPrefixes, iri_good}
 use Rattle.text_laws.proofs.Counting.{held, both, nothing_held, never, keeps_before, Rises, rises_not, rises_both, rises_as, rises_numbered, rises_parts}
 use Rattle.text_laws.proofs.Words.{NoAxiom, axiom_words, NoEntity, entity_words}
-use Rattle.text_laws.proofs.ReadClasses.{role_read, roles_read, class_name_read, named_class, parts_read, count_read, filler_read, all_classes_read, names_pass, listed_by, declared_role_by}
+use Rattle.text_laws.proofs.ReadClasses.{role_read, roles_read, individual_read, individuals_read, class_read, class_name_read, named_class, parts_read, count_read, filler_read, all_classes_read, names_pass, listed_by, declared_role_by}
 
 parts_again : (cs : Parts) → parts_of (part_list cs) ≡ cs
 parts_again no_parts = refl
@@ -289,6 +290,75 @@ module _ (ps : List Prefix) (prefixes : AreGoodPrefixes ps) (f : Counts) where
       (rises_both s b.mid new 1 1 0 0 0 (0 + expressions c) b.rises (rises_both b.mid t.mid new 0 0 0 0 0 (expressions c) first.rises inner.rises)))
       (and_from (known_role r) (listed c) first.listed inner.listed) refl inner.whole (omega (arith, inner.nested, deep))
 
+  -- assertions
+  abbrev known_individual : ℕ → Bool
+  known_individual a = nat_lt a (length f.individuals)
+
+  member_said : (n : ℕ) (is : Items) → AreGoodItems is → nesting_all is ≤ 62 → (s new : Counts) → walked s (axiom_group_tests n (nat_eq (item_count is) 2) 1 (class_and_individual_tests ps is)) ≡ Ok new → Keeps new f → Said s new n (member_made ps f is)
+  member_said n no_items good deep s new h keeps = let b = begins s new n (nat_eq 0 2) 1 [] h in let clash : false ≡ true = b.fits in absurd (cc clash)
+  member_said n (item i no_items) good deep s new h keeps = let b = begins s new n (nat_eq 1 2) 1 (class_and_individual_tests ps (item i no_items)) h in let clash : false ≡ true = b.fits in absurd (cc clash)
+  member_said n (item i (item j (item k is))) good deep s new h keeps =
+      let b = begins s new n (nat_eq (item_count is + 1 + 1 + 1) 2) 1 (class_and_individual_tests ps (item i (item j (item k is)))) h in
+      absurd (omega (arith, eq_true (item_count is + 1 + 1 + 1) 2 b.fits))
+  member_said n (item i (item j no_items)) good deep s new h keeps =
+      let is : Items = item j no_items in
+      let c : Concept = concept_of ps f i in
+      let a : ℕ = individual_of ps f j in
+      let b = begins s new n true 1 (class_tests ps i ++ individuals_tests ps is) h in
+      let t = both b.mid (class_tests ps i) (individuals_tests ps is) new b.later in
+      let first = class_read ps prefixes f i good.0 b.mid t.mid t.first (keeps_before b.mid t.mid new f (individuals_tests ps is) t.second keeps) in
+      let rest = individuals_read ps prefixes f is t.mid new good.1 t.second keeps in
+      let nodes_are : 0 + (expressions c + 0) ≡ expressions c = omega arith in
+      one_said s new n (Member c a)
+      (rises_as s new (1 + 0) (1 + 0) (0 + (expressions c + 0)) 1 1 (expressions c) refl refl nodes_are
+      (rises_both s b.mid new 1 1 0 0 0 (expressions c + 0) b.rises (rises_both b.mid t.mid new 0 0 (expressions c) 0 0 0 first.rises rest.rises)))
+      (and_from (listed c) (known_individual a) first.listed (and_parts (known_individual a) true rest.listed).0) refl first.whole (omega (arith, first.nested, deep))
+
+  pair_said : (n : ℕ) (is : Items) → AreGoodItems is → (s new : Counts) → walked s (axiom_group_tests n (nat_eq (item_count is) 3) 1 (role_and_individual_tests ps is)) ≡ Ok new → Keeps new f → Said s new n (pair_made ps f is)
+  pair_said n no_items good s new h keeps = let b = begins s new n (nat_eq 0 3) 1 [] h in let clash : false ≡ true = b.fits in absurd (cc clash)
+  pair_said n (item i no_items) good s new h keeps = let b = begins s new n (nat_eq 1 3) 1 (role_and_individual_tests ps (item i no_items)) h in let clash : false ≡ true = b.fits in absurd (cc clash)
+  pair_said n (item i (item j no_items)) good s new h keeps = let b = begins s new n (nat_eq 2 3) 1 (role_and_individual_tests ps (item i (item j no_items))) h in let clash : false ≡ true = b.fits in absurd (cc clash)
+  pair_said n (item i (item j (item k (item l is)))) good s new h keeps =
+      let b = begins s new n (nat_eq (item_count is + 1 + 1 + 1 + 1) 3) 1 (role_and_individual_tests ps (item i (item j (item k (item l is))))) h in
+      absurd (omega (arith, eq_true (item_count is + 1 + 1 + 1 + 1) 3 b.fits))
+  pair_said n (item i (item j (item k no_items))) good s new h keeps =
+      let is : Items = item j (item k no_items) in
+      let r : ℕ = role_of ps f i in
+      let a : ℕ = individual_of ps f j in
+      let e : ℕ = individual_of ps f k in
+      let b = begins s new n true 1 (role_tests ps i ++ individuals_tests ps is) h in
+      let t = both b.mid (role_tests ps i) (individuals_tests ps is) new b.later in
+      let first = role_read ps prefixes f i b.mid t.mid good.0 t.first (keeps_before b.mid t.mid new f (individuals_tests ps is) t.second keeps) in
+      let rest = individuals_read ps prefixes f is t.mid new good.1 t.second keeps in
+      let known = and_parts (known_individual a) (known_individual e && true) rest.listed in
+      one_said s new n (Pair r a e) (rises_both s b.mid new 1 1 0 0 0 0 b.rises (rises_both b.mid t.mid new 0 0 0 0 0 0 first.rises rest.rises))
+      (and_from (known_role r) (known_individual a && known_individual e) first.listed (and_from (known_individual a) (known_individual e) known.0 (and_parts (known_individual e) true known.1).0)) refl refl (omega arith)
+
+  count_individuals : (is : Items) → length (individuals_of ps f is) ≡ item_count is
+  count_individuals no_items = refl
+  count_individuals (item i is) = omega (arith, count_individuals is)
+
+  same_said : (n : ℕ) (is : Items) → AreGoodItems is → (s new : Counts) → walked s (axiom_group_tests n (nat_le 2 (item_count is)) (item_count is - 1) (individuals_tests ps is)) ≡ Ok new → Keeps new f → Said s new n (SameAll (individuals_of ps f is) ∷ [])
+  same_said n is good s new h keeps =
+      let as_ : List ℕ = individuals_of ps f is in
+      let b = begins s new n (nat_le 2 (item_count is)) (item_count is - 1) (individuals_tests ps is) h in
+      let inner = individuals_read ps prefixes f is b.mid new good b.later keeps in
+      let parts_are : item_count is - 1 + 0 ≡ length as_ - 1 = omega (arith, count_individuals is) in
+      one_said s new n (SameAll as_) (rises_as s new (1 + 0) (item_count is - 1 + 0) (0 + 0) 1 (length as_ - 1) 0 refl parts_are refl (rises_both s b.mid new 1 (item_count is - 1) 0 0 0 0 b.rises inner.rises))
+      inner.listed (ap (nat_le 2) (count_individuals is) ∙ b.fits) refl (omega arith)
+
+  different_said : (n : ℕ) (is : Items) → AreGoodItems is → (s new : Counts) → walked s (axiom_group_tests n (nat_le 2 (item_count is)) (pair_count (item_count is)) (individuals_tests ps is)) ≡ Ok new → Keeps new f
+      → Said s new n (Different (individuals_of ps f is) ∷ [])
+  different_said n is good s new h keeps =
+      let as_ : List ℕ = individuals_of ps f is in
+      let k : ℕ = pair_count (item_count is) in
+      let b = begins s new n (nat_le 2 (item_count is)) k (individuals_tests ps is) h in
+      let inner = individuals_read ps prefixes f is b.mid new good b.later keeps in
+      let pairs : pair_count (length as_) ≡ k = ap pair_count (count_individuals is) in
+      let parts_are : k + 0 ≡ pair_count (length as_) = omega (arith, pairs) in
+      one_said s new n (Different as_) (rises_as s new (1 + 0) (k + 0) (0 + 0) 1 (pair_count (length as_)) 0 refl parts_are refl (rises_both s b.mid new 1 k 0 0 0 0 b.rises inner.rises))
+      inner.listed (ap (nat_le 2) (count_individuals is) ∙ b.fits) refl (omega arith)
+
   -- ---- declarations
 
   abbrev EntityReads : List ℕ → Type 0
@@ -348,18 +418,24 @@ module _ (ps : List Prefix) (prefixes : AreGoodPrefixes ps) (f : Counts) where
   datatype_entity : EntityReads (codes "Datatype")
   datatype_entity n is good s new h keeps = rests s new (held s (shape n (nat_eq (item_count is) 1)) [] new (ap (walked s) (sym (datatype_entity_tests n is)) ∙ h)).later
 
-  individual_entity_tests : (n : ℕ) (is : Items) → entity_tests ps (group_item (Some (codes "NamedIndividual")) is n) ≡ shape n (nat_eq (item_count is) 1) ∷ []
+  individual_entity_tests : (n : ℕ) (is : Items) → entity_tests ps (group_item (Some (codes "NamedIndividual")) is n) ≡ shape n (nat_eq (item_count is) 1) ∷ declared_individuals_tests ps is
   unfolding entity_keyword
   individual_entity_tests n is = refl
 
+  individuals_declared : (is : Items) → AreGoodItems is → (s new : Counts) → walked s (declared_individuals_tests ps is) ≡ Ok new → Keeps new f → Rises s new 0 0 0
+  individuals_declared no_items good s new h keeps = rests s new h
+  individuals_declared (item i is) good s new h keeps = (individual_read ps prefixes f i s new good.0 h keeps).rises
+
   individual_entity : EntityReads (codes "NamedIndividual")
-  individual_entity n is good s new h keeps = rests s new (held s (shape n (nat_eq (item_count is) 1)) [] new (ap (walked s) (sym (individual_entity_tests n is)) ∙ h)).later
+  individual_entity n is good s new h keeps =
+      let form = held s (shape n (nat_eq (item_count is) 1)) (declared_individuals_tests ps is) new (ap (walked s) (sym (individual_entity_tests n is)) ∙ h) in
+      individuals_declared is good s new form.later keeps
 
   other_entity : (w : List ℕ) → NoEntity w → EntityReads w
   other_entity w none n is good s new h keeps = absurd (none ps n is s new h)
 
   entity_read : (i : Item) → IsGoodItem i → (s new : Counts) → walked s (entity_tests ps i) ≡ Ok new → Keeps new f → Rises s new 0 0 0
-  entity_read (group_item (Some w) is n) good s new h keeps = entity_words EntityReads class_entity role_entity data_role_entity annotation_entity datatype_entity individual_entity other_entity w n is good s new h keeps
+  entity_read (group_item (Some w) is n) good s new h keeps = entity_words EntityReads class_entity role_entity individual_entity data_role_entity annotation_entity datatype_entity other_entity w n is good s new h keeps
   entity_read (group_item None is n) good s new h keeps = absurd (never s new (shape n false) [] refl h)
   entity_read (name_item w n) good s new h keeps = absurd (never s new (shape n false) [] refl h)
   entity_read (iri_item w n) good s new h keeps = absurd (never s new (shape n false) [] refl h)
@@ -427,6 +503,26 @@ module _ (ps : List Prefix) (prefixes : AreGoodPrefixes ps) (f : Counts) where
   read_transitive n all good deep s new h keeps =
       said_as s new (numbered_at n (transitive_made ps f (without_annotations all))) (axiom_in ps f (group_item (Some (codes "TransitiveObjectProperty")) all n)) (keywords.transitive_value ps n all (without_annotations all) refl f)
       (transitive_said n (without_annotations all) (plain_good all good) s new (ap (walked s) (sym (keywords.transitive_tests ps n all (without_annotations all) refl)) ∙ h) keeps)
+
+  read_member : AxiomReads (codes "ClassAssertion")
+  read_member n all good deep s new h keeps =
+      said_as s new (numbered_at n (member_made ps f (without_annotations all))) (axiom_in ps f (group_item (Some (codes "ClassAssertion")) all n)) (keywords.member_value ps n all (without_annotations all) refl f)
+      (member_said n (without_annotations all) (plain_good all good) (deep_as all deep) s new (ap (walked s) (sym (keywords.member_tests ps n all (without_annotations all) refl)) ∙ h) keeps)
+
+  read_pair : AxiomReads (codes "ObjectPropertyAssertion")
+  read_pair n all good deep s new h keeps =
+      said_as s new (numbered_at n (pair_made ps f (without_annotations all))) (axiom_in ps f (group_item (Some (codes "ObjectPropertyAssertion")) all n)) (keywords.pair_value ps n all (without_annotations all) refl f)
+      (pair_said n (without_annotations all) (plain_good all good) s new (ap (walked s) (sym (keywords.pair_tests ps n all (without_annotations all) refl)) ∙ h) keeps)
+
+  read_same : AxiomReads (codes "SameIndividual")
+  read_same n all good deep s new h keeps =
+      said_as s new (numbered_at n (SameAll (individuals_of ps f (without_annotations all)) ∷ [])) (axiom_in ps f (group_item (Some (codes "SameIndividual")) all n)) (keywords.same_value ps n all (without_annotations all) refl f)
+      (same_said n (without_annotations all) (plain_good all good) s new (ap (walked s) (sym (keywords.same_tests ps n all (without_annotations all) refl)) ∙ h) keeps)
+
+  read_different : AxiomReads (codes "DifferentIndividuals")
+  read_different n all good deep s new h keeps =
+      said_as s new (numbered_at n (Different (individuals_of ps f (without_annotations all)) ∷ [])) (axiom_in ps f (group_item (Some (codes "DifferentIndividuals")) all n)) (keywords.different_value ps n all (without_annotations all) refl f)
+      (different_said n (without_annotations all) (plain_good all good) s new (ap (walked s) (sym (keywords.different_tests ps n all (without_annotations all) refl)) ∙ h) keeps)
 
   declaration_is : (n : ℕ) (all : Items) → axiom_tests ps (group_item (Some (codes "Declaration")) all n) ≡ declaration_tests ps n (without_annotations all)
   unfolding axiom_keyword
@@ -501,7 +597,7 @@ module _ (ps : List Prefix) (prefixes : AreGoodPrefixes ps) (f : Counts) where
   read_other w none n all good deep s new h keeps = absurd (none ps n all s new h)
 
   axiom_read : (i : Item) → IsGoodItem i → nesting i ≤ 63 → (s new : Counts) → walked s (axiom_tests ps i) ≡ Ok new → Keeps new f → AreSaid s new (axiom_in ps f i)
-  axiom_read (group_item (Some w) is n) good deep s new h keeps = axiom_words AxiomReads read_sub_class read_equivalent read_disjoint read_disjoint_union read_sub_role read_equivalent_roles read_domain read_range read_functional read_transitive read_declaration read_annotation read_assertion read_sub_annotation read_annotation_domain read_annotation_range read_other w n is good (omega (arith, deep)) s new h keeps
+  axiom_read (group_item (Some w) is n) good deep s new h keeps = axiom_words AxiomReads read_sub_class read_equivalent read_disjoint read_disjoint_union read_sub_role read_equivalent_roles read_domain read_range read_functional read_transitive read_member read_pair read_same read_different read_declaration read_annotation read_assertion read_sub_annotation read_annotation_domain read_annotation_range read_other w n is good (omega (arith, deep)) s new h keeps
   axiom_read (group_item None is n) good deep s new h keeps = absurd (never s new (shape n false) [] refl h)
   axiom_read (name_item w n) good deep s new h keeps = absurd (never s new (shape n false) [] refl h)
   axiom_read (iri_item w n) good deep s new h keeps = absurd (never s new (shape n false) [] refl h)

@@ -11,13 +11,15 @@ use Rattle.shq_terms.specs.Uses.{uses_listed, parts_use_listed}
 use Rattle.ofn_tree.specs.Lexemes.{is_iri_byte}
 use Rattle.ofn_tree.specs.Items.{Item, name_item, iri_item, literal_item, sign_item, group_item, Items, no_items, item, nesting, nesting_all}
 use Rattle.ofn_expressions.specs.Counts.{Counts}
-use Rattle.ofn_expressions.specs.Walk.{Test, shape, prefix, outside, nodes, class, role, number, counts_after, walked}
-use Rattle.ofn_expressions.specs.Names.{Prefix, item_line, has_colon, prefix_part, prefix_iri, name_tests, iri_of}
+use Rattle.ofn_expressions.specs.Walk.{Test, shape, prefix, outside, nodes, class, role, individual, number, counts_after, walked}
+use Rattle.ofn_expressions.specs.Names.{Prefix, item_line, has_colon, is_anonymous, prefix_part, prefix_iri, name_tests, iri_of}
 use Rattle.ofn_expressions.specs.Constructs.{excluded_role, excluded_role_name}
 use Rattle.ofn_expressions.specs.Keywords.{class_keyword}
 use Rattle.ofn_expressions.specs.Classes as classes
 use Rattle.ofn_expressions.specs.Classes.{item_count, is_thing, is_nothing, listed_class, class_name_tests, listed_role, role_name_tests, role_group_tests, role_tests, roles_tests, cardinality_in, number_tests_of, number_tests, joined, class_tests, each_class, place, or_zero, class_named, role_named, role_of, roles_of, concept_of, concepts_of, Keeps}
+use Rattle.ofn_expressions.specs.Individuals.{anonymous_tests, individual_name_tests, individual_tests, individuals_tests, individual_of, individuals_of}
 use Rattle.ofn_expressions.specs.declared.construct.Construct.{Construct}
+use Rattle.ofn_expressions.specs.declared.construct.Construct.TheVariants.{AnonymousIndividual}
 use Rattle.ofn_expressions.proofs.Kept.{place_listed, place_within}
 use Rattle.text_laws.specs.Writable.{is_iri, is_class_iri, is_role_iri, brackets, most_brackets, expressions, all_expressions, is_named}
 use Rattle.text_laws.proofs.Whole.{is_whole, are_whole}
@@ -25,7 +27,7 @@ use Rattle.text_laws.proofs.Checks.{true_le, le_true, eq_true}
 use Rattle.text_laws.proofs.Keywords as keywords
 use Rattle.text_laws.proofs.GoodTokens.{IsGoodItem, AreGoodItems}
 use Rattle.text_laws.proofs.GoodNames.{IsGoodIri, AreGoodPrefixes, iri_good}
-use Rattle.text_laws.proofs.Counting.{held, both, nothing_held, never, keeps_before, Rises, rises_not, rises_both, rises_as, rises_nodes, rises_class, rises_role}
+use Rattle.text_laws.proofs.Counting.{held, both, nothing_held, never, keeps_before, Rises, rises_not, rises_both, rises_as, rises_nodes, rises_class, rises_role, rises_individual}
 use Rattle.text_laws.proofs.Words.{NoClass, class_words}
 
 good_is_iri : (w : List ℕ) → IsGoodIri w → is_iri w ≡ true
@@ -99,6 +101,53 @@ module _ (ps : List Prefix) (prefixes : AreGoodPrefixes ps) (f : Counts) where
   pub declared_role_by : (w : List ℕ) (n : ℕ) (s new : Counts) → IsGoodIri w → (e : Option Construct) → excluded_role_name w ≡ e → walked s (classes.unless_excluded e n w) ≡ Ok new → Keeps new f → Rises s new 0 0 0
   declared_role_by w n s new good (Some c) is h keeps = subst (λ t. Rises s t 0 0 0) (nothing_held s new h) (rises_not s)
   declared_role_by w n s new good None is h keeps = (role_by w n s new good None is h keeps).rises
+
+  -- ---- individuals
+
+  individual_names_pass : (i : Item) (s new : Counts) (ts : List Test) → walked s (individual_name_tests ps i ++ ts) ≡ Ok new → walked s ts ≡ Ok new
+  individual_names_pass (iri_item w n) s new ts h = h
+  individual_names_pass (name_item w n) s new ts h =
+      let last : Test = prefix n (is_some (prefix_iri ps (prefix_part w))) in
+      by (is_anonymous w) (held s (shape n (has_colon w)) ((anonymous_tests n (is_anonymous w) ++ (last ∷ [])) ++ ts) new h).later
+    where
+      by : (v : Bool) → walked s ((anonymous_tests n v ++ (prefix n (is_some (prefix_iri ps (prefix_part w))) ∷ [])) ++ ts) ≡ Ok new → walked s ts ≡ Ok new
+      by true g = absurd (never s new (outside n AnonymousIndividual) (prefix n (is_some (prefix_iri ps (prefix_part w))) ∷ ts) refl g)
+      by false g = (held s (prefix n (is_some (prefix_iri ps (prefix_part w)))) ts new g).later
+  individual_names_pass (literal_item n) s new ts h = absurd (never s new (shape n false) ts refl h)
+  individual_names_pass (sign_item k n) s new ts h = absurd (never s new (shape n false) ts refl h)
+  individual_names_pass (group_item w is n) s new ts h = absurd (never s new (shape n false) ts refl h)
+
+  pub record IsIndividual (s new : Counts) (a : ℕ) : Type 0 where
+    pub rises : Rises s new 0 0 0
+    pub listed : nat_lt a (length f.individuals) ≡ true
+
+  pub individual_read : (i : Item) (s new : Counts) → IsGoodItem i → walked s (individual_tests ps i) ≡ Ok new → Keeps new f → IsIndividual s new (individual_of ps f i)
+  individual_read i s new good h keeps =
+      let w : List ℕ = iri_of ps i in
+      let n : ℕ = item_line i in
+      let test = held s (individual n w) [] new (individual_names_pass i s new (individual n w ∷ []) h) in
+      let there : counts_after s (individual n w) ≡ new = nothing_held (counts_after s (individual n w)) new test.later in
+      let kept : Keeps (counts_after s (individual n w)) f = subst (λ t. Keeps t f) (sym there) keeps in
+      let found : place w f.individuals ≡ Some (number_of s.individuals w) = kept.individuals w (number_of s.individuals w) (place_listed w s.individuals) in
+      record {
+        rises = subst (λ t. Rises s t 0 0 0) there (rises_individual s n w test.now (good_is_iri w (iri_good ps i prefixes good)));
+        listed = ap (λ r. nat_lt (or_zero r) (length f.individuals)) found ∙ place_within w f.individuals (number_of s.individuals w) found;
+      }
+
+  pub record AreIndividuals (s new : Counts) (as_ : List ℕ) : Type 0 where
+    pub rises : Rises s new 0 0 0
+    pub listed : list_all (λ a. nat_lt a (length f.individuals)) as_ ≡ true
+
+  pub individuals_read : (is : Items) (s new : Counts) → AreGoodItems is → walked s (individuals_tests ps is) ≡ Ok new → Keeps new f → AreIndividuals s new (individuals_of ps f is)
+  individuals_read no_items s new good h keeps = record { rises = subst (λ t. Rises s t 0 0 0) (nothing_held s new h) (rises_not s); listed = refl }
+  individuals_read (item i is) s new good h keeps =
+      let b = both s (individual_tests ps i) (individuals_tests ps is) new h in
+      let first = individual_read i s b.mid good.0 b.first (keeps_before s b.mid new f (individuals_tests ps is) b.second keeps) in
+      let rest = individuals_read is b.mid new good.1 b.second keeps in
+      record {
+        rises = rises_both s b.mid new 0 0 0 0 0 0 first.rises rest.rises;
+        listed = and_from (nat_lt (individual_of ps f i) (length f.individuals)) (list_all (λ a. nat_lt a (length f.individuals)) (individuals_of ps f is)) first.listed rest.listed;
+      }
 
   -- ---- numbers
 

@@ -80,7 +80,7 @@ axiom_phrase o (Range r c) = call (codes "ObjectPropertyRange") (two (role_phras
 axiom_phrase o (Functional r) = call (codes "FunctionalObjectProperty") (one (role_phrase o r))
 axiom_phrase o (Transitive r) = call (codes "TransitiveObjectProperty") (one (role_phrase o r))
 axiom_phrase o (Member c a) = call (codes "ClassAssertion") (two (concept_phrase o c) (individual_phrase o a))
-axiom_phrase o (Pair r a b) = call (codes "ObjectPropertyAssertion") (more (role_phrase o r) (two (individual_phrase o a) (individual_phrase o b)))
+axiom_phrase o (Pair r a b) = call (codes "ObjectPropertyAssertion") (three (role_phrase o r) (individual_phrase o a) (individual_phrase o b))
 axiom_phrase o (SameAll as_) = call (codes "SameIndividual") (individual_phrases o as_)
 axiom_phrase o (Different as_) = call (codes "DifferentIndividuals") (individual_phrases o as_)
 
@@ -167,6 +167,10 @@ module _ (o : Listed) where
   roles_nest n [] = refl
   roles_nest n (r ∷ rs) = omega (arith, roles_nest n rs)
 
+  individuals_nest : (n : ℕ) (as_ : List ℕ) → nesting_all (all_items n (individual_phrases o as_)) ≡ 0
+  individuals_nest n [] = refl
+  individuals_nest n (a ∷ as_) = omega (arith, individuals_nest n as_)
+
   named_nests : (n : ℕ) (c : Concept) → is_named c ≡ true → nesting (item_of n (concept_phrase o c)) ≡ 0
   named_nests n top h = refl
   named_nests n bottom h = refl
@@ -191,10 +195,10 @@ module _ (o : Listed) where
   axiom_nests n (Range r c) h = omega (arith, concept_nests n c)
   axiom_nests n (Functional r) h = refl
   axiom_nests n (Transitive r) h = refl
-  axiom_nests n (Member c a) h = cc
-  axiom_nests n (Pair r a b) h = cc
-  axiom_nests n (SameAll as_) h = cc
-  axiom_nests n (Different as_) h = cc
+  axiom_nests n (Member c a) h = omega (arith, concept_nests n c)
+  axiom_nests n (Pair r a b) h = refl
+  axiom_nests n (SameAll as_) h = ap (λ k. k + 1) (individuals_nest n as_)
+  axiom_nests n (Different as_) h = ap (λ k. k + 1) (individuals_nest n as_)
 
 -- ---- they may stand in a text
 
@@ -254,6 +258,7 @@ decimal_number n few =
 pub record AreSpelled (o : Listed) : Type 0 where
   pub class_iri : (a : ℕ) → a < length o.classes → is_class_iri (slice_index_or o.classes a []) ≡ true
   pub role_iri : (r : ℕ) → r < length o.roles → is_role_iri (slice_index_or o.roles r []) ≡ true
+  pub individual_iri : (a : ℕ) → a < length o.individuals → is_iri (slice_index_or o.individuals a []) ≡ true
 
 pub iri_stands : (w : List ℕ) (also : Bool) → (is_iri w && also) ≡ true → (list_all is_iri_byte w ≡ true) × IsUtf8 w
 iri_stands w also h =
@@ -294,6 +299,17 @@ module _ (o : Listed) (names : AreSpelled o) where
   role_stands r less =
       let w : List ℕ = slice_index_or o.roles r [] in
       iri_stands w (is_none (excluded_role_name w)) (names.role_iri r (true_lt r (length o.roles) less))
+
+  individual_stands : (a : ℕ) → nat_lt a (length o.individuals) ≡ true → Stands (individual_phrase o a)
+  individual_stands a less =
+      let w : List ℕ = slice_index_or o.individuals a [] in
+      iri_stands w true (and_from (is_iri w) true (names.individual_iri a (true_lt a (length o.individuals) less)) refl)
+
+  individuals_stand : (as_ : List ℕ) → list_all (λ a. nat_lt a (length o.individuals)) as_ ≡ true → AllStand (individual_phrases o as_)
+  individuals_stand [] known = stand_none
+  individuals_stand (a ∷ as_) known =
+      let both = and_parts (nat_lt a (length o.individuals)) (list_all (λ b. nat_lt b (length o.individuals)) as_) known in
+      stand_more (individual_phrase o a) (individual_phrases o as_) (individual_stands a both.0) (individuals_stand as_ both.1)
 
   number_stands : (n : ℕ) → nat_le n 100 ≡ true → Stands (word (decimal n))
   number_stands n few = (decimal_name n (true_le n 100 few), decimal_text n (true_le n 100 few))
@@ -376,7 +392,13 @@ module _ (o : Listed) (names : AreSpelled o) where
       valued_stands (codes "ObjectPropertyRange") r c refl refl (and_parts (nat_lt r (length o.roles)) (listed c) known).0 (concept_stands c (and_parts (nat_lt r (length o.roles)) (listed c) known).1 whole)
   axiom_stands (Functional r) known whole = stands_call (codes "FunctionalObjectProperty") (one (role_phrase o r)) refl refl (stand_one (role_phrase o r) (role_stands r known))
   axiom_stands (Transitive r) known whole = stands_call (codes "TransitiveObjectProperty") (one (role_phrase o r)) refl refl (stand_one (role_phrase o r) (role_stands r known))
-  axiom_stands (Member c a) known whole = cc
-  axiom_stands (Pair r a b) known whole = cc
-  axiom_stands (SameAll as_) known whole = cc
-  axiom_stands (Different as_) known whole = cc
+  axiom_stands (Member c a) known whole =
+      let both = and_parts (listed c) (nat_lt a (length o.individuals)) known in
+      stands_call (codes "ClassAssertion") (two (concept_phrase o c) (individual_phrase o a)) refl refl (stand_two (concept_phrase o c) (individual_phrase o a) (concept_stands c both.0 whole) (individual_stands a both.1))
+  axiom_stands (Pair r a b) known whole =
+      let outer = and_parts (nat_lt r (length o.roles)) (nat_lt a (length o.individuals) && nat_lt b (length o.individuals)) known in
+      let inner = and_parts (nat_lt a (length o.individuals)) (nat_lt b (length o.individuals)) outer.1 in
+      stands_call (codes "ObjectPropertyAssertion") (three (role_phrase o r) (individual_phrase o a) (individual_phrase o b)) refl refl
+      (stand_three (role_phrase o r) (individual_phrase o a) (individual_phrase o b) (role_stands r outer.0) (individual_stands a inner.0) (individual_stands b inner.1))
+  axiom_stands (SameAll as_) known whole = stands_call (codes "SameIndividual") (individual_phrases o as_) refl refl (individuals_stand as_ known)
+  axiom_stands (Different as_) known whole = stands_call (codes "DifferentIndividuals") (individual_phrases o as_) refl refl (individuals_stand as_ known)

@@ -48,7 +48,8 @@ lines_utf8 (p ∷ ps) h = IsUtf8-append (line (text_of p)) (lines_text ps) (IsUt
 -- ---- the lines of an ontology
 
 abbrev pub document_phrases : Listed → List Phrase
-document_phrases o = declarations (codes "Class") o.classes ++ (declarations (codes "ObjectProperty") o.roles ++ axiom_phrases o o.axioms)
+document_phrases o =
+    declarations (codes "Class") o.classes ++ (declarations (codes "ObjectProperty") o.roles ++ (declarations (codes "NamedIndividual") o.individuals ++ axiom_phrases o o.axioms))
 
 lines_append : (ps qs : List Phrase) → lines_text (ps ++ qs) ≡ lines_text ps ++ lines_text qs
 lines_append [] qs = refl
@@ -68,22 +69,28 @@ said_lines o (a ∷ rest) =
 abbrev pub opened : List ℕ → List ℕ
 opened inner = codes "Ontology" ++ (40 ∷ (10 ∷ (inner ++ (41 ∷ (10 ∷ [])))))
 
-brought : (a b c end : List ℕ) → a ++ (b ++ (c ++ end)) ≡ (a ++ (b ++ c)) ++ end
-brought a b c end = ap (λ l. a ++ l) (sym (append_assoc b c end)) ∙ sym (append_assoc a (b ++ c) end)
+brought : (a b c d end : List ℕ) → a ++ (b ++ (c ++ (d ++ end))) ≡ (a ++ (b ++ (c ++ d))) ++ end
+brought a b c d end =
+    ap (λ l. a ++ (b ++ l)) (sym (append_assoc c d end))
+    ∙ ap (λ l. a ++ l) (sym (append_assoc b (c ++ d) end))
+    ∙ sym (append_assoc a (b ++ (c ++ d)) end)
 
--- where no individual is listed
-pub text_is : (o : Listed) → o.individuals ≡ [] → ontology_text o ≡ opened (lines_text (document_phrases o))
-text_is o none_listed =
-    let d3 : declaration_lines (codes "NamedIndividual") o.individuals ≡ [] = ap (declaration_lines (codes "NamedIndividual")) none_listed in
-    let d1 : declaration_lines (codes "Class") o.classes ≡ lines_text (declarations (codes "Class") o.classes) = declared_lines (codes "Class") o.classes in
-    let d2 : declaration_lines (codes "ObjectProperty") o.roles ≡ lines_text (declarations (codes "ObjectProperty") o.roles) = declared_lines (codes "ObjectProperty") o.roles in
+pub text_is : (o : Listed) → ontology_text o ≡ opened (lines_text (document_phrases o))
+text_is o =
+    let classes : List Phrase = declarations (codes "Class") o.classes in
+    let roles : List Phrase = declarations (codes "ObjectProperty") o.roles in
+    let individuals : List Phrase = declarations (codes "NamedIndividual") o.individuals in
+    let d1 : declaration_lines (codes "Class") o.classes ≡ lines_text classes = declared_lines (codes "Class") o.classes in
+    let d2 : declaration_lines (codes "ObjectProperty") o.roles ≡ lines_text roles = declared_lines (codes "ObjectProperty") o.roles in
+    let d3 : declaration_lines (codes "NamedIndividual") o.individuals ≡ lines_text individuals = declared_lines (codes "NamedIndividual") o.individuals in
     let a : axiom_lines o o.axioms ≡ lines_text (axiom_phrases o o.axioms) = said_lines o o.axioms in
-    let inner : lines_text (document_phrases o) ≡ lines_text (declarations (codes "Class") o.classes) ++ (lines_text (declarations (codes "ObjectProperty") o.roles) ++ lines_text (axiom_phrases o o.axioms)) =
-    lines_append (declarations (codes "Class") o.classes) (declarations (codes "ObjectProperty") o.roles ++ axiom_phrases o o.axioms)
-    ∙ ap (λ l. lines_text (declarations (codes "Class") o.classes) ++ l) (lines_append (declarations (codes "ObjectProperty") o.roles) (axiom_phrases o o.axioms)) in
+    let inner : lines_text (document_phrases o) ≡ lines_text classes ++ (lines_text roles ++ (lines_text individuals ++ lines_text (axiom_phrases o o.axioms))) =
+    lines_append classes (roles ++ (individuals ++ axiom_phrases o o.axioms))
+    ∙ ap (λ l. lines_text classes ++ l) (lines_append roles (individuals ++ axiom_phrases o o.axioms))
+    ∙ ap (λ l. lines_text classes ++ (lines_text roles ++ l)) (lines_append individuals (axiom_phrases o o.axioms)) in
     let whole : declaration_lines (codes "Class") o.classes ++ (declaration_lines (codes "ObjectProperty") o.roles ++ (declaration_lines (codes "NamedIndividual") o.individuals ++ (axiom_lines o o.axioms ++ (41 ∷ (10 ∷ []))))) ≡ lines_text (document_phrases o) ++ (41 ∷ (10 ∷ [])) =
     (λ i. d1 i ++ (d2 i ++ (d3 i ++ (a i ++ (41 ∷ (10 ∷ []))))))
-    ∙ brought (lines_text (declarations (codes "Class") o.classes)) (lines_text (declarations (codes "ObjectProperty") o.roles)) (lines_text (axiom_phrases o o.axioms)) (41 ∷ (10 ∷ []))
+    ∙ brought (lines_text classes) (lines_text roles) (lines_text individuals) (lines_text (axiom_phrases o o.axioms)) (41 ∷ (10 ∷ []))
     ∙ ap (λ l. l ++ (41 ∷ (10 ∷ []))) (sym inner) in
     ap (λ l. codes "Ontology" ++ (40 ∷ (10 ∷ l))) whole
 
@@ -116,6 +123,18 @@ role_stands w h =
     stands_call (codes "Declaration") (one (call (codes "ObjectProperty") (one (iri w)))) refl refl
     (stand_one (call (codes "ObjectProperty") (one (iri w))) (stands_call (codes "ObjectProperty") (one (iri w)) refl refl (stand_one (iri w) h)))
 
+individual_stands : (w : List ℕ) → Stands (iri w) → Stands (declaration (codes "NamedIndividual") w)
+individual_stands w h =
+    stands_call (codes "Declaration") (one (call (codes "NamedIndividual") (one (iri w)))) refl refl
+    (stand_one (call (codes "NamedIndividual") (one (iri w))) (stands_call (codes "NamedIndividual") (one (iri w)) refl refl (stand_one (iri w) h)))
+
+-- nothing else is asked of the name of an individual
+nothing_else : (ws : List (List ℕ)) → list_all is_iri ws ≡ true → list_all (λ w. is_iri w && true) ws ≡ true
+nothing_else [] h = refl
+nothing_else (w ∷ ws) h =
+    let both = and_parts (is_iri w) (list_all is_iri ws) h in
+    and_from (is_iri w && true) (list_all (λ v. is_iri v && true) ws) (and_from (is_iri w) true both.0 refl) (nothing_else ws both.1)
+
 declarations_stand : (kind : List ℕ) → ((w : List ℕ) → Stands (iri w) → Stands (declaration kind w)) → (also : List ℕ → Bool) (ws : List (List ℕ)) → list_all (λ w. is_iri w && also w) ws ≡ true → AllStand (declarations kind ws)
 declarations_stand kind stands also [] h = (refl, tt)
 declarations_stand kind stands also (w ∷ ws) h =
@@ -138,11 +157,13 @@ module _ (o : Listed) (names : AreSpelled o) where
 
   pub document_stands : CanBeWritten o → AllStand (document_phrases o)
   document_stands can =
-      append_stand (declarations (codes "Class") o.classes) (declarations (codes "ObjectProperty") o.roles ++ axiom_phrases o o.axioms)
+      append_stand (declarations (codes "Class") o.classes) (declarations (codes "ObjectProperty") o.roles ++ (declarations (codes "NamedIndividual") o.individuals ++ axiom_phrases o o.axioms))
       (declarations_stand (codes "Class") class_stands (λ w. not (is_thing w) && not (is_nothing w)) o.classes can.class_iris)
-      (append_stand (declarations (codes "ObjectProperty") o.roles) (axiom_phrases o o.axioms)
+      (append_stand (declarations (codes "ObjectProperty") o.roles) (declarations (codes "NamedIndividual") o.individuals ++ axiom_phrases o o.axioms)
       (declarations_stand (codes "ObjectProperty") role_stands (λ w. is_none (excluded_role_name w)) o.roles can.role_iris)
-      (axioms_stand o.axioms can.within.listed (whole_of o can)))
+      (append_stand (declarations (codes "NamedIndividual") o.individuals) (axiom_phrases o o.axioms)
+      (declarations_stand (codes "NamedIndividual") individual_stands (λ w. true) o.individuals (nothing_else o.individuals can.individual_iris))
+      (axioms_stand o.axioms can.within.listed (whole_of o can))))
 
 -- ---- how deep they nest
 
@@ -172,5 +193,6 @@ axioms_nest o (a ∷ rest) whole nested n =
 
 pub document_nests : (o : Listed) → CanBeWritten o → (n : ℕ) → Nests n (document_phrases o)
 document_nests o can n =
-    append_nests n (declarations (codes "Class") o.classes) (declarations (codes "ObjectProperty") o.roles ++ axiom_phrases o o.axioms) (declarations_nest (codes "Class") n o.classes)
-    (λ m. append_nests m (declarations (codes "ObjectProperty") o.roles) (axiom_phrases o o.axioms) (declarations_nest (codes "ObjectProperty") m o.roles) (axioms_nest o o.axioms (whole_of o can) can.nested))
+    append_nests n (declarations (codes "Class") o.classes) (declarations (codes "ObjectProperty") o.roles ++ (declarations (codes "NamedIndividual") o.individuals ++ axiom_phrases o o.axioms)) (declarations_nest (codes "Class") n o.classes)
+    (λ m. append_nests m (declarations (codes "ObjectProperty") o.roles) (declarations (codes "NamedIndividual") o.individuals ++ axiom_phrases o o.axioms) (declarations_nest (codes "ObjectProperty") m o.roles)
+    (λ k. append_nests k (declarations (codes "NamedIndividual") o.individuals) (axiom_phrases o o.axioms) (declarations_nest (codes "NamedIndividual") k o.individuals) (axioms_nest o o.axioms (whole_of o can) can.nested)))

@@ -9,17 +9,18 @@ use Rattle.shq_terms.specs.Names.{with_at, with_name}
 use Rattle.shq_terms.specs.Uses.{uses_listed, parts_use_listed}
 use Rattle.ofn_tree.specs.Items.{name_item, Items}
 use Rattle.ofn_expressions.specs.Counts.{Counts}
-use Rattle.ofn_expressions.specs.Walk.{Test, shape, prefix, nodes, class, role, number, holds, refusal, counts_after, walked}
+use Rattle.ofn_expressions.specs.Walk.{Test, shape, prefix, nodes, class, role, individual, number, holds, refusal, counts_after, walked}
 use Rattle.ofn_expressions.specs.Names.{Prefix, prefix_iri, full_iri}
 use Rattle.ofn_expressions.specs.Constructs.{excluded_role_name}
 use Rattle.ofn_expressions.specs.Classes.{item_count, is_thing, is_nothing, listed_class, listed_role, role_tests, roles_tests, number_tests, number_tests_of, joined, class_tests, each_class, class_name_tests, place}
+use Rattle.ofn_expressions.specs.Individuals.{individual_tests, individuals_tests}
 use Rattle.ofn_expressions.proofs.Walks.{walked-cons, goes_on}
 use Rattle.text_laws.specs.Writable.{expressions, all_expressions}
 use Rattle.text_laws.specs.WritingLaws.{owl_iri, KnowsOwl}
 use Rattle.text_laws.proofs.Whole.{is_whole, are_whole}
 use Rattle.text_laws.proofs.Checks.{le_true, true_lt, true_le}
 use Rattle.text_laws.proofs.Phrases.{item_of, all_items}
-use Rattle.text_laws.proofs.Terms.{class_phrase, role_phrase, concept_phrase, part_phrases, role_phrases, decimal_number}
+use Rattle.text_laws.proofs.Terms.{class_phrase, role_phrase, individual_phrase, individual_phrases, concept_phrase, part_phrases, role_phrases, decimal_number}
 use Rattle.text_laws.proofs.Keywords.{group_tests, intersection_tests, union_tests, complement_tests, some_tests, all_tests, least_tests, most_tests, exact_tests}
 
 -- a test that holds, and then the others
@@ -29,15 +30,17 @@ step s t ts h = walked-cons s t ts ∙ ap (λ b. cond b (walked (counts_after s 
 pub alone : (s mid : Counts) (ts : List Test) → walked s ts ≡ Ok mid → walked s (ts ++ []) ≡ Ok mid
 alone s mid ts h = goes_on s mid ts [] h
 
--- the names stand at their places, and are names of classes and of roles
+-- the names stand at their places, and are names of classes, of roles and of individuals
 pub record AreKnown (o : Listed) : Type 0 where
   pub no_thing : (a : ℕ) → a < length o.classes → is_thing (slice_index_or o.classes a []) ≡ false
   pub no_nothing : (a : ℕ) → a < length o.classes → is_nothing (slice_index_or o.classes a []) ≡ false
   pub class_place : (a : ℕ) → a < length o.classes → place (slice_index_or o.classes a []) o.classes ≡ Some a
   pub no_excluded : (r : ℕ) → r < length o.roles → excluded_role_name (slice_index_or o.roles r []) ≡ None
   pub role_place : (r : ℕ) → r < length o.roles → place (slice_index_or o.roles r []) o.roles ≡ Some r
+  pub individual_place : (i : ℕ) → i < length o.individuals → place (slice_index_or o.individuals i []) o.individuals ≡ Some i
   pub few_classes : length o.classes ≤ 20000
   pub few_roles : length o.roles ≤ 1000
+  pub few_individuals : length o.individuals ≤ 20000
 
 -- all names are listed, and so many axioms, parts and nodes are counted
 abbrev pub counted : Listed → ℕ → ℕ → ℕ → Counts
@@ -64,12 +67,31 @@ module _ (ps : List Prefix) (knows : KnowsOwl ps) (o : Listed) (names : AreKnown
       step (counted o a p n) (role line w) ts (ap (λ l. nat_le (length l) 1000) same ∙ le_true (length o.roles) 1000 names.few_roles)
       ∙ ap (λ l. walked (record { axioms = a; parts = p; nodes = n; classes = o.classes; roles = l; individuals = o.individuals }) ts) same
 
+  individual_step : (n line i : ℕ) (ts : List Test) → i < length o.individuals → walked (counted o a p n) (individual line (slice_index_or o.individuals i []) ∷ ts) ≡ walked (counted o a p n) ts
+  individual_step n line i ts less =
+      let w : List ℕ = slice_index_or o.individuals i [] in
+      let same : with_name o.individuals w ≡ o.individuals = with_known w o.individuals i (names.individual_place i less) in
+      step (counted o a p n) (individual line w) ts (ap (λ l. nat_le (length l) 20000) same ∙ le_true (length o.individuals) 20000 names.few_individuals)
+      ∙ ap (λ l. walked (record { axioms = a; parts = p; nodes = n; classes = o.classes; roles = o.roles; individuals = l }) ts) same
+
   -- ---- names
 
   pub role_walk : (n line r : ℕ) → r < length o.roles → walked (counted o a p n) (role_tests ps (item_of line (role_phrase o r))) ≡ Ok (counted o a p n)
   role_walk n line r less =
       let w : List ℕ = slice_index_or o.roles r [] in
       ap (λ e. walked (counted o a p n) (listed_role e line w)) (names.no_excluded r less) ∙ role_step n line r [] less
+
+  pub individual_walk : (n line i : ℕ) → i < length o.individuals → walked (counted o a p n) (individual_tests ps (item_of line (individual_phrase o i))) ≡ Ok (counted o a p n)
+  individual_walk n line i less = individual_step n line i [] less
+
+  pub individuals_walk : (n line : ℕ) (is : List ℕ) → list_all (λ i. nat_lt i (length o.individuals)) is ≡ true → walked (counted o a p n) (individuals_tests ps (all_items line (individual_phrases o is))) ≡ Ok (counted o a p n)
+  individuals_walk n line [] known = refl
+  individuals_walk n line (i ∷ is) known =
+      let here : Bool = nat_lt i (length o.individuals) in
+      let others : Bool = list_all (λ j. nat_lt j (length o.individuals)) is in
+      goes_on (counted o a p n) (counted o a p n) (individual_tests ps (item_of line (individual_phrase o i))) (individuals_tests ps (all_items line (individual_phrases o is)))
+      (individual_walk n line i (true_lt i (length o.individuals) (and_parts here others known).0))
+      ∙ individuals_walk n line is (and_parts here others known).1
 
   class_name_walk : (n line c : ℕ) → c < length o.classes → n + 1 ≤ 262144 → walked (counted o a p n) (class_name_tests ps (item_of line (class_phrase o c))) ≡ Ok (counted o a p (n + 1))
   class_name_walk n line c less few =

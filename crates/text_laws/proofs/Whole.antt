@@ -1,5 +1,5 @@
 -- The limits of expressions and axioms as a walk over their items meets them, all in one test.
-use Rattle.std.proofs.Common.{◌≡◌, ℕ, ◌+◌, Bool, true, false, ◌&&◌, List, [], ◌∷◌, length, refl, ap, sym, ◌∙◌, arith}
+use Rattle.std.proofs.Common.{◌≡◌, ℕ, ◌+◌, ◌-◌, Bool, true, false, ◌&&◌, List, [], ◌∷◌, length, refl, ap, sym, ◌∙◌, arith}
 use Rattle.std.specs.Prelude.{nat_le}
 use Rattle.std.specs.List.{list_all}
 use Rattle.std.proofs.lemmas.Bool.{and_parts}
@@ -11,11 +11,12 @@ use Rattle.shq_terms.specs.declared.axioms.Axiom.{Axiom}
 use Rattle.shq_terms.specs.declared.axioms.Axiom.TheVariants.{SubClassOf, EquivalentClasses, DisjointClasses, DisjointUnion, SubRole, EquivalentRoles, Domain, Range, Functional, Transitive, Member, Pair, SameAll, Different}
 use Rattle.shq_terms.specs.declared.axioms.Numbered.{Numbered}
 use Rattle.shq_nnf.specs.Counts.{has_counts_within, have_counts_within}
+use Rattle.shq_nnf.specs.Facts.{facts_of}
 use Rattle.shq_nnf.specs.Parts.{axiom_parts, axiom_has_counts_within}
 use Rattle.shq_nnf.proofs.Pairs.{length_equivalent, length_union}
 use Rattle.ontology_limits.specs.Limits.{has_enough_parts, have_enough_parts, has_enough_items, part_count}
 use Rattle.ofn_reader.specs.Axioms.{pair_count}
-use Rattle.text_laws.proofs.Counted.{pairs_counted}
+use Rattle.text_laws.proofs.Counted.{pairs_counted, same_counted, apart_counted}
 use Rattle.text_laws.specs.Writable.{is_named, is_readable, axiom_expressions, expression_count, CanBeWritten}
 
 -- both tests of an expression: two parts at least, and cardinalities of 100 at most
@@ -48,10 +49,10 @@ has_whole_items (Domain r c) = is_whole c
 has_whole_items (Range r c) = is_whole c
 has_whole_items (Functional r) = true
 has_whole_items (Transitive r) = true
-has_whole_items (Member c a) = false
-has_whole_items (Pair r a b) = false
-has_whole_items (SameAll as_) = false
-has_whole_items (Different as_) = false
+has_whole_items (Member c a) = is_whole c
+has_whole_items (Pair r a b) = true
+has_whole_items (SameAll as_) = true
+has_whole_items (Different as_) = true
 
 -- the items alone
 abbrev pub has_item_count : Axiom → Bool
@@ -85,10 +86,10 @@ counted_parts (Domain r c) = 1
 counted_parts (Range r c) = 1
 counted_parts (Functional r) = 1
 counted_parts (Transitive r) = 0
-counted_parts (Member c a) = 0
-counted_parts (Pair r a b) = 0
-counted_parts (SameAll as_) = 0
-counted_parts (Different as_) = 0
+counted_parts (Member c a) = 1
+counted_parts (Pair r a b) = 1
+counted_parts (SameAll as_) = length as_ - 1
+counted_parts (Different as_) = pair_count (length as_)
 
 abbrev pub total : (Axiom → ℕ) → List Numbered → ℕ
 total f [] = 0
@@ -134,10 +135,6 @@ union_whole (at_least n r c) cs = no_name (nat_le 2 (length cs)) (are_whole (par
 union_whole (at_most n r c) cs = no_name (nat_le 2 (length cs)) (are_whole (parts_of cs))
 union_whole (exactly n r c) cs = no_name (nat_le 2 (length cs)) (are_whole (parts_of cs))
 
-never_whole : (b : Bool) → (b && false) ≡ false
-never_whole true = refl
-never_whole false = refl
-
 axiom_whole_is : (a : Axiom) → is_whole_axiom a ≡ (is_readable a && (has_enough_items a && axiom_has_counts_within 100 a))
 axiom_whole_is (SubClassOf c d) = (λ i. whole_is c i && whole_is d i) ∙ and_exchange (has_enough_parts c) (has_counts_within 100 c) (has_enough_parts d) (has_counts_within 100 d)
 axiom_whole_is (EquivalentClasses cs) = many_whole (nat_le 2 (length cs)) (parts_of cs)
@@ -149,10 +146,10 @@ axiom_whole_is (Domain r c) = whole_is c
 axiom_whole_is (Range r c) = whole_is c
 axiom_whole_is (Functional r) = refl
 axiom_whole_is (Transitive r) = refl
-axiom_whole_is (Member c a) = refl
+axiom_whole_is (Member c a) = whole_is c
 axiom_whole_is (Pair r a b) = refl
-axiom_whole_is (SameAll as_) = never_whole (nat_le 2 (length as_))
-axiom_whole_is (Different as_) = never_whole (nat_le 2 (length as_))
+axiom_whole_is (SameAll as_) = refl
+axiom_whole_is (Different as_) = refl
 
 -- ---- of all axioms
 
@@ -197,10 +194,10 @@ limits_from_whole xs h =
 
 -- ---- numbers of parts and of expressions
 
-parts_are : (a : Axiom) → counted_parts a ≡ length (axiom_parts a)
+parts_are : (a : Axiom) → counted_parts a ≡ length (axiom_parts a) + length (facts_of a)
 parts_are (SubClassOf c d) = refl
-parts_are (EquivalentClasses cs) = sym (length_equivalent cs)
-parts_are (DisjointClasses cs) = pairs_counted cs (length cs) refl
+parts_are (EquivalentClasses cs) = omega (arith, length_equivalent cs)
+parts_are (DisjointClasses cs) = let pairs = pairs_counted cs (length cs) refl in omega (arith, pairs)
 parts_are (DisjointUnion c cs) = let pairs = pairs_counted cs (length cs) refl in omega (arith, pairs, length_union c cs)
 parts_are (SubRole r s) = refl
 parts_are (EquivalentRoles rs) = refl
@@ -210,8 +207,8 @@ parts_are (Functional r) = refl
 parts_are (Transitive r) = refl
 parts_are (Member c a) = refl
 parts_are (Pair r a b) = refl
-parts_are (SameAll as_) = refl
-parts_are (Different as_) = refl
+parts_are (SameAll as_) = let facts = same_counted as_ in omega (arith, facts)
+parts_are (Different as_) = let facts = apart_counted as_ (length as_) refl in omega (arith, facts)
 
 pub part_total : (xs : List Numbered) → total counted_parts xs ≡ part_count xs
 part_total [] = refl

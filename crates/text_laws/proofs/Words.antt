@@ -73,13 +73,13 @@ other_axiom w is ps n items s new h = by (excluded_axiom w) (sym (ap (λ k. walk
     by (Some c) g = never s new (outside n c) [] refl g
     by None g = never s new (shape n false) [] refl g
 
-no_axiom_word : (w : List ℕ) → bytes_eq w (codes "SubClassOf") ≡ false → bytes_eq w (codes "EquivalentClasses") ≡ false → bytes_eq w (codes "DisjointClasses") ≡ false → bytes_eq w (codes "DisjointUnion") ≡ false → bytes_eq w (codes "SubObjectPropertyOf") ≡ false → bytes_eq w (codes "EquivalentObjectProperties") ≡ false → bytes_eq w (codes "ObjectPropertyDomain") ≡ false → bytes_eq w (codes "ObjectPropertyRange") ≡ false → bytes_eq w (codes "FunctionalObjectProperty") ≡ false → bytes_eq w (codes "TransitiveObjectProperty") ≡ false → bytes_eq w (codes "Declaration") ≡ false → bytes_eq w (codes "Annotation") ≡ false → bytes_eq w (codes "AnnotationAssertion") ≡ false → bytes_eq w (codes "SubAnnotationPropertyOf") ≡ false → bytes_eq w (codes "AnnotationPropertyDomain") ≡ false → bytes_eq w (codes "AnnotationPropertyRange") ≡ false → axiom_keyword w ≡ axiom_else (excluded_axiom w)
+no_axiom_word : (w : List ℕ) → bytes_eq w (codes "SubClassOf") ≡ false → bytes_eq w (codes "EquivalentClasses") ≡ false → bytes_eq w (codes "DisjointClasses") ≡ false → bytes_eq w (codes "DisjointUnion") ≡ false → bytes_eq w (codes "SubObjectPropertyOf") ≡ false → bytes_eq w (codes "EquivalentObjectProperties") ≡ false → bytes_eq w (codes "ObjectPropertyDomain") ≡ false → bytes_eq w (codes "ObjectPropertyRange") ≡ false → bytes_eq w (codes "FunctionalObjectProperty") ≡ false → bytes_eq w (codes "TransitiveObjectProperty") ≡ false → bytes_eq w (codes "ClassAssertion") ≡ false → bytes_eq w (codes "ObjectPropertyAssertion") ≡ false → bytes_eq w (codes "SameIndividual") ≡ false → bytes_eq w (codes "DifferentIndividuals") ≡ false → bytes_eq w (codes "Declaration") ≡ false → bytes_eq w (codes "Annotation") ≡ false → bytes_eq w (codes "AnnotationAssertion") ≡ false → bytes_eq w (codes "SubAnnotationPropertyOf") ≡ false → bytes_eq w (codes "AnnotationPropertyDomain") ≡ false → bytes_eq w (codes "AnnotationPropertyRange") ≡ false → axiom_keyword w ≡ axiom_else (excluded_axiom w)
 unfolding axiom_keyword
-no_axiom_word w a1 a2 a3 a4 a5 a6 a7 a8 a9 a10 a11 a12 a13 a14 a15 a16 = passed _ _ _ a1 ∙ passed _ _ _ a2 ∙ passed _ _ _ a3 ∙ passed _ _ _ a4 ∙ passed _ _ _ a5 ∙ passed _ _ _ a6 ∙ passed _ _ _ a7 ∙ passed _ _ _ a8 ∙ passed _ _ _ a9 ∙ passed _ _ _ a10 ∙ passed _ _ _ a11 ∙ passed _ _ _ a12 ∙ passed _ _ _ a13 ∙ passed _ _ _ a14 ∙ passed _ _ _ a15 ∙ passed _ _ _ a16
+no_axiom_word w a1 a2 a3 a4 a5 a6 a7 a8 a9 a10 a11 a12 a13 a14 a15 a16 a17 a18 a19 a20 = passed _ _ _ a1 ∙ passed _ _ _ a2 ∙ passed _ _ _ a3 ∙ passed _ _ _ a4 ∙ passed _ _ _ a5 ∙ passed _ _ _ a6 ∙ passed _ _ _ a7 ∙ passed _ _ _ a8 ∙ passed _ _ _ a9 ∙ passed _ _ _ a10 ∙ passed _ _ _ a11 ∙ passed _ _ _ a12 ∙ passed _ _ _ a13 ∙ passed _ _ _ a14 ∙ passed _ _ _ a15 ∙ passed _ _ _ a16 ∙ passed _ _ _ a17 ∙ passed _ _ _ a18 ∙ passed _ _ _ a19 ∙ passed _ _ _ a20
 
 -- each keyword, and each other word
-pub keyword_words : (P : List ℕ → Type 0) → P (codes "SubClassOf") → P (codes "EquivalentClasses") → P (codes "DisjointClasses") → P (codes "DisjointUnion") → P (codes "SubObjectPropertyOf") → P (codes "EquivalentObjectProperties") → P (codes "ObjectPropertyDomain") → P (codes "ObjectPropertyRange") → P (codes "FunctionalObjectProperty") → P (codes "TransitiveObjectProperty") → P (codes "Declaration") → P (codes "Annotation") → P (codes "AnnotationAssertion") → P (codes "SubAnnotationPropertyOf") → P (codes "AnnotationPropertyDomain") → P (codes "AnnotationPropertyRange") → ((w : List ℕ) → axiom_keyword w ≡ axiom_else (excluded_axiom w) → P w) → (w : List ℕ) → P w
-keyword_words P p1 p2 p3 p4 p5 p6 p7 p8 p9 p10 p11 p12 p13 p14 p15 p16 other w =
+pub keyword_words : (P : List ℕ → Type 0) → P (codes "SubClassOf") → P (codes "EquivalentClasses") → P (codes "DisjointClasses") → P (codes "DisjointUnion") → P (codes "SubObjectPropertyOf") → P (codes "EquivalentObjectProperties") → P (codes "ObjectPropertyDomain") → P (codes "ObjectPropertyRange") → P (codes "FunctionalObjectProperty") → P (codes "TransitiveObjectProperty") → P (codes "ClassAssertion") → P (codes "ObjectPropertyAssertion") → P (codes "SameIndividual") → P (codes "DifferentIndividuals") → P (codes "Declaration") → P (codes "Annotation") → P (codes "AnnotationAssertion") → P (codes "SubAnnotationPropertyOf") → P (codes "AnnotationPropertyDomain") → P (codes "AnnotationPropertyRange") → ((w : List ℕ) → axiom_keyword w ≡ axiom_else (excluded_axiom w) → P w) → (w : List ℕ) → P w
+keyword_words P p1 p2 p3 p4 p5 p6 p7 p8 p9 p10 p11 p12 p13 p14 p15 p16 p17 p18 p19 p20 other w =
     word_or P w (codes "SubClassOf") p1 (λ a1.
     word_or P w (codes "EquivalentClasses") p2 (λ a2.
     word_or P w (codes "DisjointClasses") p3 (λ a3.
@@ -90,33 +90,37 @@ keyword_words P p1 p2 p3 p4 p5 p6 p7 p8 p9 p10 p11 p12 p13 p14 p15 p16 other w =
     word_or P w (codes "ObjectPropertyRange") p8 (λ a8.
     word_or P w (codes "FunctionalObjectProperty") p9 (λ a9.
     word_or P w (codes "TransitiveObjectProperty") p10 (λ a10.
-    word_or P w (codes "Declaration") p11 (λ a11.
-    word_or P w (codes "Annotation") p12 (λ a12.
-    word_or P w (codes "AnnotationAssertion") p13 (λ a13.
-    word_or P w (codes "SubAnnotationPropertyOf") p14 (λ a14.
-    word_or P w (codes "AnnotationPropertyDomain") p15 (λ a15.
-    word_or P w (codes "AnnotationPropertyRange") p16 (λ a16.
-    other w (no_axiom_word w a1 a2 a3 a4 a5 a6 a7 a8 a9 a10 a11 a12 a13 a14 a15 a16)))))))))))))))))
+    word_or P w (codes "ClassAssertion") p11 (λ a11.
+    word_or P w (codes "ObjectPropertyAssertion") p12 (λ a12.
+    word_or P w (codes "SameIndividual") p13 (λ a13.
+    word_or P w (codes "DifferentIndividuals") p14 (λ a14.
+    word_or P w (codes "Declaration") p15 (λ a15.
+    word_or P w (codes "Annotation") p16 (λ a16.
+    word_or P w (codes "AnnotationAssertion") p17 (λ a17.
+    word_or P w (codes "SubAnnotationPropertyOf") p18 (λ a18.
+    word_or P w (codes "AnnotationPropertyDomain") p19 (λ a19.
+    word_or P w (codes "AnnotationPropertyRange") p20 (λ a20.
+    other w (no_axiom_word w a1 a2 a3 a4 a5 a6 a7 a8 a9 a10 a11 a12 a13 a14 a15 a16 a17 a18 a19 a20)))))))))))))))))))))
 
-pub axiom_words : (P : List ℕ → Type 0) → P (codes "SubClassOf") → P (codes "EquivalentClasses") → P (codes "DisjointClasses") → P (codes "DisjointUnion") → P (codes "SubObjectPropertyOf") → P (codes "EquivalentObjectProperties") → P (codes "ObjectPropertyDomain") → P (codes "ObjectPropertyRange") → P (codes "FunctionalObjectProperty") → P (codes "TransitiveObjectProperty") → P (codes "Declaration") → P (codes "Annotation") → P (codes "AnnotationAssertion") → P (codes "SubAnnotationPropertyOf") → P (codes "AnnotationPropertyDomain") → P (codes "AnnotationPropertyRange") → ((w : List ℕ) → NoAxiom w → P w) → (w : List ℕ) → P w
-axiom_words P p1 p2 p3 p4 p5 p6 p7 p8 p9 p10 p11 p12 p13 p14 p15 p16 other =
-    keyword_words P p1 p2 p3 p4 p5 p6 p7 p8 p9 p10 p11 p12 p13 p14 p15 p16 (λ w is. other w (other_axiom w is))
+pub axiom_words : (P : List ℕ → Type 0) → P (codes "SubClassOf") → P (codes "EquivalentClasses") → P (codes "DisjointClasses") → P (codes "DisjointUnion") → P (codes "SubObjectPropertyOf") → P (codes "EquivalentObjectProperties") → P (codes "ObjectPropertyDomain") → P (codes "ObjectPropertyRange") → P (codes "FunctionalObjectProperty") → P (codes "TransitiveObjectProperty") → P (codes "ClassAssertion") → P (codes "ObjectPropertyAssertion") → P (codes "SameIndividual") → P (codes "DifferentIndividuals") → P (codes "Declaration") → P (codes "Annotation") → P (codes "AnnotationAssertion") → P (codes "SubAnnotationPropertyOf") → P (codes "AnnotationPropertyDomain") → P (codes "AnnotationPropertyRange") → ((w : List ℕ) → NoAxiom w → P w) → (w : List ℕ) → P w
+axiom_words P p1 p2 p3 p4 p5 p6 p7 p8 p9 p10 p11 p12 p13 p14 p15 p16 p17 p18 p19 p20 other =
+    keyword_words P p1 p2 p3 p4 p5 p6 p7 p8 p9 p10 p11 p12 p13 p14 p15 p16 p17 p18 p19 p20 (λ w is. other w (other_axiom w is))
 
 -- ---- entities
 
 abbrev pub NoEntity : List ℕ → Type 0
 NoEntity w = (ps : List Prefix) (n : ℕ) (is : Items) (s new : Counts) → walked s (entity_tests ps (group_item (Some w) is n)) ≡ Ok new → ⊥
 
-no_entity_word : (w : List ℕ) → bytes_eq w (codes "Class") ≡ false → bytes_eq w (codes "ObjectProperty") ≡ false → bytes_eq w (codes "DataProperty") ≡ false → bytes_eq w (codes "AnnotationProperty") ≡ false → bytes_eq w (codes "Datatype") ≡ false → bytes_eq w (codes "NamedIndividual") ≡ false → (ps : List Prefix) (n : ℕ) (is : Items) → entity_tests ps (group_item (Some w) is n) ≡ shape n false ∷ []
+no_entity_word : (w : List ℕ) → bytes_eq w (codes "Class") ≡ false → bytes_eq w (codes "ObjectProperty") ≡ false → bytes_eq w (codes "NamedIndividual") ≡ false → bytes_eq w (codes "DataProperty") ≡ false → bytes_eq w (codes "AnnotationProperty") ≡ false → bytes_eq w (codes "Datatype") ≡ false → (ps : List Prefix) (n : ℕ) (is : Items) → entity_tests ps (group_item (Some w) is n) ≡ shape n false ∷ []
 unfolding entity_keyword
 no_entity_word w a1 a2 a3 a4 a5 a6 ps n is = ap (λ k. entity_group_tests ps k n is) (passed _ _ _ a1 ∙ passed _ _ _ a2 ∙ passed _ _ _ a3 ∙ passed _ _ _ a4 ∙ passed _ _ _ a5 ∙ passed _ _ _ a6)
 
-pub entity_words : (P : List ℕ → Type 0) → P (codes "Class") → P (codes "ObjectProperty") → P (codes "DataProperty") → P (codes "AnnotationProperty") → P (codes "Datatype") → P (codes "NamedIndividual") → ((w : List ℕ) → NoEntity w → P w) → (w : List ℕ) → P w
+pub entity_words : (P : List ℕ → Type 0) → P (codes "Class") → P (codes "ObjectProperty") → P (codes "NamedIndividual") → P (codes "DataProperty") → P (codes "AnnotationProperty") → P (codes "Datatype") → ((w : List ℕ) → NoEntity w → P w) → (w : List ℕ) → P w
 entity_words P p1 p2 p3 p4 p5 p6 other w =
     word_or P w (codes "Class") p1 (λ a1.
     word_or P w (codes "ObjectProperty") p2 (λ a2.
-    word_or P w (codes "DataProperty") p3 (λ a3.
-    word_or P w (codes "AnnotationProperty") p4 (λ a4.
-    word_or P w (codes "Datatype") p5 (λ a5.
-    word_or P w (codes "NamedIndividual") p6 (λ a6.
+    word_or P w (codes "NamedIndividual") p3 (λ a3.
+    word_or P w (codes "DataProperty") p4 (λ a4.
+    word_or P w (codes "AnnotationProperty") p5 (λ a5.
+    word_or P w (codes "Datatype") p6 (λ a6.
     other w (λ ps n is s new h. never s new (shape n false) [] refl (ap (walked s) (sym (no_entity_word w a1 a2 a3 a4 a5 a6 ps n is)) ∙ h))))))))

@@ -4,7 +4,7 @@ use Rattle.shq_terms.specs.Concept.{Concept, bottom}
 use Rattle.shq_terms.specs.Listed.{Listed}
 use Rattle.shq_terms.specs.declared.axioms.On.TheVariants.{Any}
 use Rattle.shq_terms.specs.declared.axioms.Query.{Query}
-use Rattle.ontology_limits.specs.Limits.{IsOntologyInLimit, IsInLimit, IsOntologyWithoutIndividuals, IsWithoutIndividuals}
+use Rattle.ontology_limits.specs.Limits.{IsOntologyInLimit, IsInLimit}
 use Rattle.certificate_lines.specs.Names.{AreNames}
 use Rattle.ofn_expressions.specs.Counts.{Counts}
 use Rattle.ofn_reader.specs.DocumentContext.{DocumentContext}
@@ -31,23 +31,6 @@ ClassesAreInLimit =
     (text : List ℕ) (o : Listed) (kept : DocumentContext) (end : ℕ) → IsDocument text o kept end
     → (class : List ℕ) (after : Counts) (c : Concept) → IsClass kept.prefixes o.axioms (query_start o kept.nodes) class after c
     → IsInLimit (with_names o after) (record { sub = c; sup = bottom; on = Any })
-
--- a document has no individuals, so that its ontology can be searched
-abbrev pub DocumentsAreWithoutIndividuals : Type 0
-DocumentsAreWithoutIndividuals = (text : List ℕ) (o : Listed) (kept : DocumentContext) (end : ℕ) → IsDocument text o kept end → IsOntologyWithoutIndividuals o
-
--- neither has a query on it
-abbrev pub QueriesAreWithoutIndividuals : Type 0
-QueriesAreWithoutIndividuals =
-    (text : List ℕ) (o : Listed) (kept : DocumentContext) (end : ℕ) → IsDocument text o kept end
-    → (query : List ℕ) (after : Counts) (q : Query) → IsQuery kept.prefixes o.axioms (query_start o kept.nodes) query after q → IsWithoutIndividuals (with_names o after) q
-
--- nor a class expression
-abbrev pub ClassesAreWithoutIndividuals : Type 0
-ClassesAreWithoutIndividuals =
-    (text : List ℕ) (o : Listed) (kept : DocumentContext) (end : ℕ) → IsDocument text o kept end
-    → (class : List ℕ) (after : Counts) (c : Concept) → IsClass kept.prefixes o.axioms (query_start o kept.nodes) class after c
-    → IsWithoutIndividuals (with_names o after) (record { sub = c; sup = bottom; on = Any })
 
 -- the names of both can be written into a certificate and read back
 pub record AreWritable (o : Listed) : Type 0 where

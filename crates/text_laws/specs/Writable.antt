@@ -8,7 +8,7 @@ use Rattle.shq_terms.specs.Distinct.{AreDistinct}
 use Rattle.shq_terms.specs.declared.axioms.Axiom.{Axiom}
 use Rattle.shq_terms.specs.declared.axioms.Axiom.TheVariants.{SubClassOf, EquivalentClasses, DisjointClasses, DisjointUnion, SubRole, EquivalentRoles, Domain, Range, Functional, Transitive, Member, Pair, SameAll, Different}
 use Rattle.shq_terms.specs.declared.axioms.Numbered.{Numbered}
-use Rattle.ontology_limits.specs.Limits.{IsOntologyInLimit, IsOntologyWithoutIndividuals}
+use Rattle.ontology_limits.specs.Limits.{IsOntologyInLimit}
 use Rattle.ofn_tree.specs.Lexemes.{is_iri_byte}
 use Rattle.ofn_expressions.specs.Constructs.{excluded_role_name}
 use Rattle.ofn_expressions.specs.Classes.{is_thing, is_nothing}
@@ -108,7 +108,7 @@ axiom_expressions (Pair r a b) = 0
 axiom_expressions (SameAll as_) = 0
 axiom_expressions (Different as_) = 0
 
--- whether an axiom of this form is read: the class of a disjoint union has to be named, and assertions are not read yet
+-- whether an axiom of this form is read: the class of a disjoint union has to be named
 abbrev pub is_readable : Axiom → Bool
 is_readable (SubClassOf c d) = true
 is_readable (EquivalentClasses cs) = true
@@ -120,10 +120,10 @@ is_readable (Domain r c) = true
 is_readable (Range r c) = true
 is_readable (Functional r) = true
 is_readable (Transitive r) = true
-is_readable (Member c a) = false
-is_readable (Pair r a b) = false
-is_readable (SameAll as_) = false
-is_readable (Different as_) = false
+is_readable (Member c a) = true
+is_readable (Pair r a b) = true
+is_readable (SameAll as_) = true
+is_readable (Different as_) = true
 
 -- ---- ontologies
 
@@ -132,15 +132,16 @@ abbrev pub expression_count : List Numbered → ℕ
 expression_count [] = 0
 expression_count (a ∷ more) = axiom_expressions a.axiom + expression_count more
 
--- The ontology can be written so that it is read again. It is within the limits and has no individuals, and its names
--- are IRIs that may stand in a document, each once. The bracket after `Ontology` is open round each axiom.
+-- The ontology can be written so that it is read again. It is within the limits, and its names are IRIs that may stand
+-- in a document, each once. The bracket after `Ontology` is open round each axiom.
 pub record CanBeWritten (o : Listed) : Type 0 where
   pub within : IsOntologyInLimit o
-  pub without_individuals : IsOntologyWithoutIndividuals o
   pub class_iris : list_all is_class_iri o.classes ≡ true
   pub role_iris : list_all is_role_iri o.roles ≡ true
+  pub individual_iris : list_all is_iri o.individuals ≡ true
   pub distinct_classes : AreDistinct o.classes
   pub distinct_roles : AreDistinct o.roles
+  pub distinct_individuals : AreDistinct o.individuals
   pub readable : list_all (λ (a : Numbered). is_readable a.axiom) o.axioms ≡ true
   pub nested : list_all (λ (a : Numbered). nat_le (axiom_brackets a.axiom) 63) o.axioms ≡ true
   pub few_expressions : expression_count o.axioms ≤ 262144

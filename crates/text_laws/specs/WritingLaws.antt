@@ -1,26 +1,27 @@
 -- What is written of an ontology, and of class expressions over its names, is read again.
-use Rattle.std.specs.Prelude.{◌≡◌, ℕ, ◌+◌, ◌^◌, ◌≤◌, max, List, map, length, Some, codes}
-use Rattle.shq_terms.specs.Concept.{Concept, bottom}
+use Rattle.std.specs.Prelude.{◌≡◌, ℕ, ◌+◌, ◌^◌, ◌≤◌, List, map, length, Some, codes}
+use Rattle.shq_terms.specs.Concept.{Concept, top, bottom}
 use Rattle.shq_terms.specs.Listed.{Listed}
 use Rattle.shq_terms.specs.declared.axioms.Axiom.{Axiom}
-use Rattle.shq_terms.specs.declared.axioms.Axiom.TheVariants.{SubClassOf}
+use Rattle.shq_terms.specs.declared.axioms.Axiom.TheVariants.{SubClassOf, Member}
 use Rattle.shq_terms.specs.declared.axioms.Numbered.{Numbered}
-use Rattle.shq_terms.specs.declared.axioms.On.TheVariants.{Any}
+use Rattle.shq_terms.specs.declared.axioms.On.{On}
+use Rattle.shq_terms.specs.declared.axioms.On.TheVariants.{Any, Individual}
 use Rattle.shq_terms.specs.declared.axioms.Query.{Query}
-use Rattle.ontology_limits.specs.Limits.{IsInLimit, IsWithoutIndividuals}
+use Rattle.ontology_limits.specs.Limits.{IsInLimit}
 use Rattle.ofn_expressions.specs.Names.{Prefix, prefix_iri}
 use Rattle.ofn_reader.specs.DocumentContext.{DocumentContext}
 use Rattle.ofn_reader.specs.Documents.{IsDocument}
 use Rattle.ofn_reader.specs.Queries.{IsQuery, IsClass, query_start}
 use Rattle.ofn_writer.specs.Canonical.{concept_text, axiom_text, ontology_text}
-use Rattle.text_laws.specs.Writable.{brackets, expressions, CanBeWritten}
+use Rattle.text_laws.specs.Writable.{brackets, axiom_brackets, expressions, axiom_expressions, CanBeWritten}
 
 -- the axioms without their lines
 abbrev pub axioms_of : List Numbered → List Axiom
 axioms_of as_ = map (λ (a : Numbered). a.axiom) as_
 
--- The text is a document of the ontology: it lists the classes and roles in their order, and the axioms in theirs, on
--- lines of its own.
+-- The text is a document of the ontology: it lists the classes, roles and individuals in their order, and the axioms in
+-- theirs, on lines of its own.
 pub record IsDocumentOf (text : List ℕ) (o : Listed) : Type 0 where
   pub read : Listed
   pub kept : DocumentContext
@@ -74,12 +75,27 @@ ClassTextsAreRead =
     (o : Listed) (c : Concept) (ps : List Prefix) (nodes : ℕ) → CanBeWritten o → IsInLimit o (record { sub = c; sup = bottom; on = Any }) → KnowsOwl ps → length (concept_text o c) ≤ 2 ^ 24 → brackets c ≤ 64 → nodes + expressions c ≤ 262144
     → IsClass ps o.axioms (query_start o nodes) (concept_text o c) (query_start o (nodes + expressions c)) c
 
--- the axiom that a query asks for
+-- the axiom that a query asks for, by what it speaks of
+abbrev pub axiom_on : On → Concept → Concept → Axiom
+axiom_on Any c d = SubClassOf c d
+axiom_on (Individual a) c d = Member d a
+
+abbrev pub query_axiom : Query → Axiom
+query_axiom q = axiom_on q.on q.sub q.sup
+
 abbrev pub query_text : Listed → Query → List ℕ
-query_text o q = axiom_text o (SubClassOf q.sub q.sup)
+query_text o q = axiom_text o (query_axiom q)
+
+-- an axiom asks of an individual only whether it is in a class
+abbrev pub HasAxiomOn : On → Concept → Type 0
+HasAxiomOn Any c = Unit {0}
+HasAxiomOn (Individual a) c = c ≡ top
+
+abbrev pub HasAxiom : Query → Type 0
+HasAxiom q = HasAxiomOn q.on q.sub
 
 -- the same of a query
 abbrev pub QueryTextsAreRead : Type 0
 QueryTextsAreRead =
-    (o : Listed) (q : Query) (ps : List Prefix) (nodes : ℕ) → CanBeWritten o → IsInLimit o q → IsWithoutIndividuals o q → KnowsOwl ps → length (query_text o q) ≤ 2 ^ 24 → max (brackets q.sub) (brackets q.sup) + 1 ≤ 64
-    → nodes + (expressions q.sub + expressions q.sup) ≤ 262144 → IsQuery ps o.axioms (query_start o nodes) (query_text o q) (query_start o (nodes + (expressions q.sub + expressions q.sup))) q
+    (o : Listed) (q : Query) (ps : List Prefix) (nodes : ℕ) → CanBeWritten o → IsInLimit o q → HasAxiom q → KnowsOwl ps → length (query_text o q) ≤ 2 ^ 24 → axiom_brackets (query_axiom q) ≤ 64
+    → nodes + axiom_expressions (query_axiom q) ≤ 262144 → IsQuery ps o.axioms (query_start o nodes) (query_text o q) (query_start o (nodes + axiom_expressions (query_axiom q))) q

@@ -2,7 +2,7 @@
 //!
 //! - `end_laws`: a document ends with its last bracket, and what stands behind it is not read.
 //! - `part_laws`: the reader counts as many parts of an axiom as are made of it.
-//! - `limit_laws`: what is read without refusal is within the limits that later calls ask for, and has no individuals.
+//! - `limit_laws`: what is read without refusal is within the limits that later calls ask for.
 //! - `writing_laws`: the canonical text of what is read says the same again.
 #![tactic(auto)]
 
@@ -13,9 +13,8 @@ mod writing_laws;
 
 pub use end_laws::{documents_end_in_their_text, texts_behind_documents_are_not_read};
 pub use limit_laws::{
-    classes_are_in_limit, classes_are_without_individuals, classes_list_names,
-    documents_are_in_limit, documents_are_without_individuals, queries_are_in_limit,
-    queries_are_without_individuals, queries_list_names,
+    classes_are_in_limit, classes_list_names, documents_are_in_limit, queries_are_in_limit,
+    queries_list_names,
 };
 pub use part_laws::parts_are_counted;
 pub use writing_laws::{

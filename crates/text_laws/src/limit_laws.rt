@@ -1,9 +1,8 @@
-//! What is read without refusal is within the limits of an ontology and a query on it, as later calls ask for them, and
-//! has no individuals, as searches ask for it.
+//! What is read without refusal is within the limits of an ontology and a query on it, as later calls ask for them.
 //!
 //! A reader tests each limit where the text meets it: the number of a group's items at its name, a cardinality at its
 //! number, counts as they grow, and simple roles at the end. Here is what these tests say of the values that were read.
-ghost use Rattle.text_laws.specs.LimitLaws.{DocumentsAreInLimit, QueriesAreInLimit, ClassesAreInLimit, DocumentsAreWithoutIndividuals, QueriesAreWithoutIndividuals, ClassesAreWithoutIndividuals, QueriesListNames, ClassesListNames};
+ghost use Rattle.text_laws.specs.LimitLaws.{DocumentsAreInLimit, QueriesAreInLimit, ClassesAreInLimit, QueriesListNames, ClassesListNames};
 
 /// The ontology of a document (OWL 2 Structural Specification, section 3.7) is within the limits.
 pub fn documents_are_in_limit()
@@ -18,22 +17,6 @@ pub fn queries_are_in_limit()
 /// So is it with a class expression, as the query whether the class is in `owl:Nothing`.
 pub fn classes_are_in_limit()
     ensures { ClassesAreInLimit }
-{}
-
-/// The ontology of a document lists no individual, and no axiom of it is an assertion (OWL 2 Structural Specification,
-/// section 9.6): assertions are not read yet.
-pub fn documents_are_without_individuals()
-    ensures { DocumentsAreWithoutIndividuals }
-{}
-
-/// The same with a query on it, which speaks of each element.
-pub fn queries_are_without_individuals()
-    ensures { QueriesAreWithoutIndividuals }
-{}
-
-/// The same with a class expression, as the query whether the class is in `owl:Nothing`.
-pub fn classes_are_without_individuals()
-    ensures { ClassesAreWithoutIndividuals }
 {}
 
 /// The names of a document and a query on it can be written into a certificate, and are read back as they are.

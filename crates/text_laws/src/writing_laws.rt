@@ -3,8 +3,8 @@
 ghost use Rattle.text_laws.specs.WritingLaws.{WrittenOntologiesAreRead, DocumentsCanBeWritten, DocumentsAreReadAgain, EqualTextsSayTheSame, DocumentsKnowOwl, ClassTextsAreRead, QueryTextsAreRead};
 
 /// The canonical text of an ontology is a document (OWL 2 Structural Specification, section 3.7), which lists the same
-/// classes and roles in the same order, and the same axioms in the same order. The ontology has no individuals, its
-/// names may stand in a document, and it is within the limits of documents.
+/// classes, roles and individuals in the same order, and the same axioms in the same order. The names of the ontology may
+/// stand in a document, and it is within the limits of documents.
 pub fn written_ontologies_are_read()
     ensures { WrittenOntologiesAreRead }
 {}
@@ -36,7 +36,8 @@ pub fn class_texts_are_read()
     ensures { ClassTextsAreRead }
 {}
 
-/// The text of a query over the names of an ontology is read as that query, with no new name.
+/// The text of a query over the names of an ontology is read as that query, with no new name: an inclusion of classes,
+/// or that an individual is in a class.
 pub fn query_texts_are_read()
     ensures { QueryTextsAreRead }
 {}

@@ -179,6 +179,10 @@ const KINDS: &[(u32, &str)] = &[
     (7, "ObjectPropertyRange(:r :A)"),
     (8, "FunctionalObjectProperty(:r)"),
     (9, "TransitiveObjectProperty(:r)"),
+    (10, "ClassAssertion(:A :a)"),
+    (11, "ObjectPropertyAssertion(:r :a :b)"),
+    (12, "SameIndividual(:a :b)"),
+    (13, "DifferentIndividuals(:a :b :a)"),
 ];
 
 /// Documents, and what is written of each.
@@ -195,6 +199,10 @@ const WRITTEN: &[(&str, &str)] = &[
         "Ontology(Declaration(Class(<A>))Declaration(ObjectProperty(<R>))Declaration(ObjectProperty(<S>))Declaration(Class(<B>))SubClassOf(<B> <A>)FunctionalObjectProperty(<R>))",
         "Ontology(\nDeclaration(Class(<A>))\nDeclaration(Class(<B>))\nDeclaration(ObjectProperty(<R>))\nDeclaration(ObjectProperty(<S>))\nSubClassOf(<B> <A>)\nFunctionalObjectProperty(<R>)\n)\n",
     ),
+    (
+        "Prefix(_:=<p>)Ontology(Declaration(NamedIndividual(<_:b>))DifferentIndividuals(<c> <_:b>)ObjectPropertyAssertion(<R> <a> <c>)ClassAssertion(ObjectComplementOf(_:A) <a>)SameIndividual(<b> <c> <b>))",
+        "Ontology(\nDeclaration(Class(<pA>))\nDeclaration(ObjectProperty(<R>))\nDeclaration(NamedIndividual(<_:b>))\nDeclaration(NamedIndividual(<c>))\nDeclaration(NamedIndividual(<a>))\nDeclaration(NamedIndividual(<b>))\nDifferentIndividuals(<c> <_:b>)\nObjectPropertyAssertion(<R> <a> <c>)\nClassAssertion(ObjectComplementOf(<pA>) <a>)\nSameIndividual(<b> <c> <b>)\n)\n",
+    ),
 ];
 
 const HEAD: &str = "Prefix(:=<e:>)\nOntology(\n";
@@ -207,6 +215,10 @@ const TAIL: &str = "\n)\n";
 const DISJOINT: &str = "Prefix(:=<e:>)\nOntology(\nDisjointClasses(";
 
 const SAME_CLASSES: &str = "Ontology(\nEquivalentClasses(";
+
+const SAME: &str = "Ontology(\nSameIndividual(";
+
+const DIFFERENT: &str = "Ontology(\nDifferentIndividuals(";
 
 const SAME_ROLES: &str = "Ontology(\nEquivalentObjectProperties(";
 
@@ -367,6 +379,79 @@ const REFUSALS: &[(&str, &str, u32, &str, Option<Refusal>)] = &[
         TAIL,
         Some(Refusal::Outside(3, Construct::TopObjectProperty)),
     ),
+    // An individual is a name, is not anonymous, and has a prefix that is declared, in this order.
+    (
+        HEAD,
+        "ClassAssertion(:A\na)",
+        1,
+        TAIL,
+        Some(Refusal::BadShape(4)),
+    ),
+    (
+        HEAD,
+        "ClassAssertion(:A\nObjectOneOf(:a))",
+        1,
+        TAIL,
+        Some(Refusal::BadShape(4)),
+    ),
+    (
+        HEAD,
+        "SameIndividual(:a\n_:b x:c)",
+        1,
+        TAIL,
+        Some(Refusal::Outside(4, Construct::AnonymousIndividual)),
+    ),
+    (
+        "Prefix(_:=<e>)\nOntology(\n",
+        "ObjectPropertyAssertion(_:r _:a _:b)",
+        1,
+        TAIL,
+        Some(Refusal::Outside(3, Construct::AnonymousIndividual)),
+    ),
+    (
+        HEAD,
+        "DifferentIndividuals(:_ :a:b\n__:b)",
+        1,
+        TAIL,
+        Some(Refusal::UnknownPrefix(4)),
+    ),
+    (
+        HEAD,
+        "Declaration(NamedIndividual(\n_:x))",
+        1,
+        TAIL,
+        Some(Refusal::Outside(4, Construct::AnonymousIndividual)),
+    ),
+    (
+        HEAD,
+        "Declaration(NamedIndividual(\nx))",
+        1,
+        TAIL,
+        Some(Refusal::BadShape(4)),
+    ),
+    // Their number comes before.
+    (
+        HEAD,
+        "ObjectPropertyAssertion(:r\n_:a)",
+        1,
+        TAIL,
+        Some(Refusal::BadShape(3)),
+    ),
+    (
+        HEAD,
+        "SameIndividual(\n_:a)",
+        1,
+        TAIL,
+        Some(Refusal::BadShape(3)),
+    ),
+    // Not all assertions are read.
+    (
+        HEAD,
+        "NegativeObjectPropertyAssertion(:r :a :b)",
+        1,
+        TAIL,
+        Some(Refusal::Outside(3, Construct::NegativeObjectPropertyAssertion)),
+    ),
     // A fault of the text comes before those of its items.
     (
         HEAD,
@@ -409,6 +494,36 @@ const REFUSALS: &[(&str, &str, u32, &str, Option<Refusal>)] = &[
         ")\n)\n",
         Some(Refusal::Limit(Which::Parts, 3)),
     ),
+    // Each fact is a part: so many pairs of individuals, and each the same as the next.
+    (DIFFERENT, "<0> ", 1_000, "))", None),
+    (
+        DIFFERENT,
+        "<0> ",
+        1_001,
+        "))",
+        Some(Refusal::Limit(Which::Parts, 2)),
+    ),
+    (
+        DIFFERENT,
+        "<0> ",
+        1_000,
+        ")SameIndividual(\n<0> <1>)ClassAssertion(<0>\n<0>)DisjointClasses(\n<0> <1> <2> <0> <1> <2> <0> <1> <2> <0> <1> <2> <0> <1> <2> <0> <1> <2> <0> <1> <2> <0> <1> <2> <0> <1> <2> <0> <1> <2> <0> <1>))",
+        None,
+    ),
+    (
+        DIFFERENT,
+        "<0> ",
+        1_000,
+        ")SameIndividual(\n<0> <1> <0> <1> <0>)ClassAssertion(<0>\n<0>)DisjointClasses(\n<0> <1> <2> <0> <1> <2> <0> <1> <2> <0> <1> <2> <0> <1> <2> <0> <1> <2> <0> <1> <2> <0> <1> <2> <0> <1> <2> <0> <1> <2> <0> <1>))",
+        Some(Refusal::Limit(Which::Parts, 4)),
+    ),
+    (
+        SAME,
+        "<0> ",
+        500_002,
+        "))",
+        Some(Refusal::Limit(Which::Parts, 2)),
+    ),
     (
         "Ontology(\n",
         "TransitiveObjectProperty(<r>)\n",
@@ -440,6 +555,14 @@ const REFUSALS: &[(&str, &str, u32, &str, Option<Refusal>)] = &[
         20_001,
         "))",
         Some(Refusal::Limit(Which::Classes, 2)),
+    ),
+    (SAME, "", 20_000, "))", None),
+    (
+        SAME,
+        "",
+        20_001,
+        "))",
+        Some(Refusal::Limit(Which::Individuals, 2)),
     ),
 ];
 
@@ -507,6 +630,8 @@ fn reads_and_refuses_documents(rt: HostRuntime) -> Result<(), Fail> {
 enum Ask {
     /// A query, of a document of one axiom; how many classes there are is counted.
     Query,
+    /// A query, of a document of one individual; how many individuals there are is counted.
+    Member,
     /// A class expression, of a document of three roles, which are counted.
     Class,
 }
@@ -551,6 +676,56 @@ const ASKED: &[(Ask, &str, Option<Refusal>, u32)] = &[
         Some(Refusal::UnknownPrefix(1)),
         2,
     ),
+    (Ask::Query, "ClassAssertion(<C> <a>)", None, 3),
+    (
+        Ask::Query,
+        "ClassAssertion(<C> _:x)",
+        Some(Refusal::Outside(1, Construct::AnonymousIndividual)),
+        2,
+    ),
+    (
+        Ask::Member,
+        "ClassAssertion(Annotation(a) <C> <a>)",
+        None,
+        1,
+    ),
+    (Ask::Member, "ClassAssertion(<C>\n<b>)", None, 2),
+    (
+        Ask::Member,
+        "ClassAssertion(<C> <b>)\n<C>",
+        Some(Refusal::BadShape(2)),
+        1,
+    ),
+    (
+        Ask::Member,
+        "ClassAssertion(<C> <b> <c>)",
+        Some(Refusal::BadShape(1)),
+        1,
+    ),
+    (
+        Ask::Member,
+        "ClassAssertion(ObjectHasSelf(<r>) b)",
+        Some(Refusal::Outside(1, Construct::ObjectHasSelf)),
+        1,
+    ),
+    (
+        Ask::Member,
+        "ClassAssertion(ObjectMaxCardinality(1 <r>) <b>)",
+        Some(Refusal::NotSimple(1)),
+        1,
+    ),
+    (
+        Ask::Member,
+        "ObjectPropertyAssertion(<r> <b> <c>)",
+        Some(Refusal::BadShape(1)),
+        1,
+    ),
+    (
+        Ask::Member,
+        "SameIndividual(<b> <c>)",
+        Some(Refusal::BadShape(1)),
+        1,
+    ),
     (Ask::Class, "ObjectMinCardinality(1 :q)", None, 3),
     (Ask::Class, "ObjectMaxCardinality(2 :t)", None, 4),
     (
@@ -586,6 +761,10 @@ fn ask_of(
             let refused = read_query(alloc, text, ontology, context).err();
             (refused, ontology.class_count())
         }
+        Ask::Member => {
+            let refused = read_query(alloc, text, ontology, context).err();
+            (refused, ontology.individual_count())
+        }
         Ask::Class => {
             let refused = read_class(alloc, text, ontology, context).err();
             (refused, ontology.role_count())
@@ -601,6 +780,7 @@ fn answer_of(
 ) -> Result<(Option<Refusal>, u32), Refusal> {
     let document = match ask {
         Ask::Query => "Ontology(SubClassOf(<A> <B>))",
+        Ask::Member => "Ontology(ClassAssertion(<A> <a>)TransitiveObjectProperty(<r>))",
         Ask::Class => roles,
     };
     let (mut ontology, context, _) = read_ontology(alloc, short_bytes(document))?;

@@ -138,7 +138,7 @@ fn writes(alloc: Global) -> Result<bool, AddFault> {
 
 #[test]
 fn reads_and_writes_expressions(rt: HostRuntime) -> Result<(), Fail> {
-    for text in ["Import", "HasKey", "SameIndividual"] {
+    for text in ["Import", "HasKey", "DataPropertyAssertion"] {
         assert!(rt; is_excluded(text), "{text}");
     }
     for (text, wanted) in CLASSES {

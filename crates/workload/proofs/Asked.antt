@@ -83,6 +83,7 @@ module _ (n : ℕ) (text : List ℕ) (w : IsWorkload n text) (few : n ≤ 4000) 
           alone s end (axiom_query_tests ps query_item) all
 
   asked_is : (nodes : ℕ) → first_query ps (query_start o nodes) (query_item ∷ []) ≡ asked ∷ []
+  unfolding axiom_keyword
   asked_is nodes =
       let s : Counts = query_start o nodes in
       let sub : concept_of ps s (word_item (codes "Q0") 1) ≡ name 0 = class_value ps w.knows s 1 (codes "Q0") 0 places.q0 in
@@ -116,4 +117,4 @@ module _ (n : ℕ) (text : List ℕ) (w : IsWorkload n text) (few : n ≤ 4000) 
 
 pub queries_are_read : WorkloadQueriesAreRead
 queries_are_read n text w few =
-    (query_start w.read (w.kept.nodes + 1 + 1), is_query n text w few, (is_listed n text w few 0 (omega arith), is_listed n text w few 5 (omega arith)), refl)
+    (query_start w.read (w.kept.nodes + 1 + 1), is_query n text w few, (is_listed n text w few 0 (omega arith), is_listed n text w few 5 (omega arith), tt), refl)

@@ -1,7 +1,7 @@
 use Rattle.std.proofs.Common.{◌≡◌, ◌∙◌, false, length, ap, sym, subst}
 use Rattle.std.specs.Prelude.{IfOk, IfSome, OnErr}
 use Rattle.std.specs.List.{list_any}
-use Rattle.ontology_limits.specs.Limits.{IsInLimit, IsWithoutIndividuals}
+use Rattle.ontology_limits.specs.Limits.{IsInLimit}
 use Rattle.run_log.specs.Entries.{is_spent, IsAnswered}
 use Rattle.shq_oracle.specs.OracleLists.{OracleLists}
 use Rattle.shq_oracle.specs.ApartLists.{IsAbout}
@@ -20,11 +20,6 @@ pub search-requires-clause-in_limit : goal.search-requires-clause-in_limit
 search-requires-clause-in_limit c =
     let same : c.is_noted.new.oracle ≡ c.args.oracle.now = subst (IsNoted c.args.oracle.now c.is_noted.new.oracle c.args.axioms.now c.args.query.now) c.if-noted.false c.in_ok-noted.ensures.noted in
     subst (λ (l : OracleLists). IsInLimit l.ontology c.args.query.now) (sym same) c.requires.in_limit
-
-pub search-requires-clause-without_individuals : goal.search-requires-clause-without_individuals
-search-requires-clause-without_individuals c =
-    let same : c.is_noted.new.oracle ≡ c.args.oracle.now = subst (IsNoted c.args.oracle.now c.is_noted.new.oracle c.args.axioms.now c.args.query.now) c.if-noted.false c.in_ok-noted.ensures.noted in
-    subst (λ (l : OracleLists). IsWithoutIndividuals l.ontology c.args.query.now) (sym same) c.requires.without_individuals
 
 pub search-requires-clause-goes_on : goal.search-requires-clause-goes_on
 search-requires-clause-goes_on c =

@@ -21,7 +21,7 @@ entry-requires g c =
 
 pub loop-place-preserved : goal.loop-place-preserved
 loop-place-preserved g c =
-    let p = is_join (rep c.args.facts.now) c.args.first c.args.second in
+    let p = is_join (rep c.args.facts.now.facts) c.args.first c.args.second in
     let es = c.args.trail.now in
     let i = c.loop-place.place-index in
     let e = c.entry.result.now in
@@ -37,5 +37,5 @@ loop-place-preserved g c =
 pub returns-clause-joins : goal.returns-clause-joins
 returns-clause-joins g c =
     let es = c.args.trail.now in
-    joins_done (rep c.args.facts.now) c.args.first c.args.second c.loop-place.used es c.loop-place.place-index
+    joins_done (rep c.args.facts.now.facts) c.args.first c.args.second c.loop-place.used es c.loop-place.place-index
     (omega (arith, c.loop-place-test.false, ap length c.joins-place-items.ensures)) c.loop-place.invariant.joins

@@ -9,5 +9,5 @@ use Rattle.completion_tree.proofs.marks.with_all_joins.Given as goal
 abbrev pub invariant-loop-place : goal.invariant-loop-place
 invariant-loop-place g l = record {
   more : set.is_subset l.fn.ground l.used ≡ true;
-  joins : AreWithin (is_join (rep l.facts) l.first l.second) l.used (take l.place-index (filter is_same l.trail));
+  joins : AreWithin (is_join (rep l.facts.facts) l.first l.second) l.used (take l.place-index (filter is_same l.trail));
 }

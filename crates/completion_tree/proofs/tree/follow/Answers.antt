@@ -5,7 +5,7 @@ use Rattle.completion_tree.proofs.tree.follow.Goals as goal
 
 pub loop-place-preserved : goal.loop-place-preserved
 loop-place-preserved g c =
-    let fs = c.args.facts.now in
+    let fs = c.args.facts.now.facts in
     let from = c.args.from in
     let place = c.loop-place.place in
     let es = c.loop-place.trail in

@@ -1,17 +1,13 @@
 use Rattle.std.proofs.lemmas.Result.{err_from_is_err_and}
 use Rattle.certificate_check.specs.Questions.{question_text}
 use Rattle.certificate_check.specs.Answer.{text_bytes}
-use Rattle.certificate_check.proofs.ReadInLimit.{question_in_limit, question_without_individuals}
+use Rattle.certificate_check.proofs.ReadInLimit.{question_in_limit}
 use Rattle.decision_jobs.proofs.Answered.{all_answer, all_begun, unasked}
 use Rattle.decision_jobs.proofs.answering.answered_on.Goals as goal
 
 pub decided-outcome-requires-clause-in_limit : goal.decided-outcome-requires-clause-in_limit
 decided-outcome-requires-clause-in_limit c =
     question_in_limit c.args.bytes.now c.args.ontology.now c.args.context.now (question_text c.args.question) c.read_question.new.ontology c.in_ok-query.query c.requires.document c.in_ok-query.ensures.read
-
-pub decided-outcome-requires-clause-without_individuals : goal.decided-outcome-requires-clause-without_individuals
-decided-outcome-requires-clause-without_individuals c =
-    question_without_individuals c.args.bytes.now c.args.ontology.now c.args.context.now (question_text c.args.question) c.read_question.new.ontology c.in_ok-query.query c.requires.document c.in_ok-query.ensures.read
 
 pub returns-clause-answer : goal.returns-clause-answer
 returns-clause-answer c =

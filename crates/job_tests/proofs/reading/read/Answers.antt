@@ -1,14 +1,9 @@
 use Rattle.std.proofs.Common.{sym, subst}
-use Rattle.ontology_limits.specs.Limits.{IsInLimit, IsWithoutIndividuals}
-use Rattle.text_laws.proofs.InLimit.{queries_in_limit, queries_without_individuals}
+use Rattle.ontology_limits.specs.Limits.{IsInLimit}
+use Rattle.text_laws.proofs.InLimit.{queries_in_limit}
 use Rattle.job_tests.proofs.reading.read.Goals as goal
 
 pub returns-clause-in_limit : goal.returns-clause-in_limit
 returns-clause-in_limit c =
     let x = c.in_ok-query.ensures.query in
     subst (λ l. IsInLimit l c.in_ok-query.query) (sym x.3) (queries_in_limit _ c.in_ok-ontology.ontology c.in_ok-ontology.context _ c.in_ok-ontology.ensures.document _ x.0 c.in_ok-query.query x.1)
-
-pub returns-clause-without_individuals : goal.returns-clause-without_individuals
-returns-clause-without_individuals c =
-    let x = c.in_ok-query.ensures.query in
-    subst (λ l. IsWithoutIndividuals l c.in_ok-query.query) (sym x.3) (queries_without_individuals _ c.in_ok-ontology.ontology c.in_ok-ontology.context _ c.in_ok-ontology.ensures.document _ x.0 c.in_ok-query.query x.1)

@@ -4,7 +4,7 @@ use Rattle.ofn_tree.specs.Items.{items_of}
 use Rattle.ofn_expressions.specs.Walk.{Judged}
 use Rattle.ofn_reader.specs.Axioms.{operand_tests, MeansAxiom}
 use Rattle.ofn_reader.specs.declared.keywords.AxiomKind.TheVariants as K
-use Rattle.ofn_reader.proofs.Few.{two_items, one_item, some_items}
+use Rattle.ofn_reader.proofs.Few.{three_items, two_items, one_item, some_items}
 use Rattle.ofn_reader.proofs.operands.read_operands.Goals as goal
 
 pub returns-in-SubClassOf-clause-tests : goal.returns-in-SubClassOf-clause-tests
@@ -62,3 +62,19 @@ returns-in-Transitive-clause-tests c =
 pub returns-in-Transitive-clause-value : goal.returns-in-Transitive-clause-value
 returns-in-Transitive-clause-value c =
     one_item (λ m is. IfOk c.read_transitive.result (MeansAxiom c.args.prefixes.now c.read_transitive.new.state.counts m (items_of is))) c.args.kind K.Transitive c.args.items.now c.in-Transitive.is c.requires c.index-items-0-in-Transitive.result c.index-items-0-in-Transitive.is (λ n. refl) c.read_transitive.ensures.value
+
+pub returns-in-Member-clause-tests : goal.returns-in-Member-clause-tests
+returns-in-Member-clause-tests c =
+    two_items (λ m is. Judged c.read_member_axiom.result c.args.state.now.counts (operand_tests c.args.prefixes.now m (items_of is)) c.read_member_axiom.new.state.counts) c.args.kind K.Member c.args.items.now c.in-Member.is c.requires c.index-items-0-in-Member.result c.index-items-1-in-Member.result c.index-items-0-in-Member.is c.index-items-1-in-Member.is (λ n. refl) c.read_member_axiom.ensures.tests
+
+pub returns-in-Member-clause-value : goal.returns-in-Member-clause-value
+returns-in-Member-clause-value c =
+    two_items (λ m is. IfOk c.read_member_axiom.result (MeansAxiom c.args.prefixes.now c.read_member_axiom.new.state.counts m (items_of is))) c.args.kind K.Member c.args.items.now c.in-Member.is c.requires c.index-items-0-in-Member.result c.index-items-1-in-Member.result c.index-items-0-in-Member.is c.index-items-1-in-Member.is (λ n. refl) c.read_member_axiom.ensures.value
+
+pub returns-in-Pair-clause-tests : goal.returns-in-Pair-clause-tests
+returns-in-Pair-clause-tests c =
+    three_items (λ m is. Judged c.read_pair_axiom.result c.args.state.now.counts (operand_tests c.args.prefixes.now m (items_of is)) c.read_pair_axiom.new.state.counts) c.args.kind K.Pair c.args.items.now c.in-Pair.is c.requires c.index-items-0-in-Pair.result c.index-items-1-in-Pair.result c.index-items-2.result c.index-items-0-in-Pair.is c.index-items-1-in-Pair.is c.index-items-2.is (λ n. refl) c.read_pair_axiom.ensures.tests
+
+pub returns-in-Pair-clause-value : goal.returns-in-Pair-clause-value
+returns-in-Pair-clause-value c =
+    three_items (λ m is. IfOk c.read_pair_axiom.result (MeansAxiom c.args.prefixes.now c.read_pair_axiom.new.state.counts m (items_of is))) c.args.kind K.Pair c.args.items.now c.in-Pair.is c.requires c.index-items-0-in-Pair.result c.index-items-1-in-Pair.result c.index-items-2.result c.index-items-0-in-Pair.is c.index-items-1-in-Pair.is c.index-items-2.is (λ n. refl) c.read_pair_axiom.ensures.value

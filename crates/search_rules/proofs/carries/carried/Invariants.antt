@@ -1,5 +1,4 @@
 use Rattle.std.proofs.Common.{take}
-use Rattle.search_rules.specs.Tables.{role_context}
 use Rattle.search_rules.proofs.Carrying.{CarriesTo}
 use Rattle.search_rules.proofs.carries.carried.Given as goal
 

@@ -1,6 +1,4 @@
-use Rattle.std.proofs.Common.{◌≡◌, sym, ◌∙◌}
-use Rattle.calculus_specs.specs.Shape.{shape_of}
-use Rattle.calculus_specs.specs.Shape.Shape.{top}
+use Rattle.std.proofs.Common.{sym, ◌∙◌}
 use Rattle.tableau_specs.proofs.Listed.{listed}
 use Rattle.search_rules.proofs.carries.restriction.Goals as goal
 

@@ -1,5 +1,5 @@
 use Rattle.std.proofs.Common.{arith}
-use Rattle.search_rules.proofs.Counted.{all_mosts, none_yet}
+use Rattle.search_rules.proofs.Counted.{all_mosts}
 use Rattle.search_rules.proofs.mosts.most_lists.Goals as goal
 
 pub returns : goal.returns

@@ -1,7 +1,6 @@
-use Rattle.std.proofs.Common.{subst, List}
+use Rattle.std.proofs.Common.{subst}
 use Rattle.std.specs.Prelude.{MatchOption}
-use Rattle.completion_tree.specs.declared.tree.Entry.{Entry}
-use Rattle.completion_tree.specs.Trail.{facts_in}
+use Rattle.completion_tree.specs.Trail.{TreeEntries, facts_in}
 use Rattle.step_finders.specs.Clashing.{IsShown, NoClashByNew}
 use Rattle.search_state.proofs.looking.find_clash_by_new.Goals as goal
 
@@ -9,4 +8,4 @@ pub returns : goal.returns
 returns g c =
     let w = g.R.Rules.context c.args.rules.now in
     let m = c.args.new.now in
-    subst (λ (es : List Entry). MatchOption c.find_clash_of_new_nodes.result (NoClashByNew w (facts_in es) m.parent m.role m.filler) (IsShown w (facts_in es))) c.new-state.ensures.tree c.find_clash_of_new_nodes.ensures
+    subst (λ (t : TreeEntries). MatchOption c.find_clash_of_new_nodes.result (NoClashByNew w (facts_in t.entries) m.parent m.role m.filler) (IsShown w (facts_in t.entries))) c.new-state.ensures.tree c.find_clash_of_new_nodes.ensures

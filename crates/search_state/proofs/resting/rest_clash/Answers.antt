@@ -1,8 +1,7 @@
 use Rattle.std.proofs.Common.{subst, List, ℕ}
 use Rattle.calculus_specs.specs.declared.facts.Fact.{Fact}
 use Rattle.refutation_tree.specs.RuleLine.{line_of}
-use Rattle.completion_tree.specs.declared.tree.Entry.{Entry}
-use Rattle.completion_tree.specs.Trail.{facts_in}
+use Rattle.completion_tree.specs.Trail.{TreeEntries, facts_in}
 use Rattle.step_lines.specs.Serving.{HoldWithin}
 use Rattle.step_lines.specs.Kinds.{ServesClash}
 use Rattle.search_state.specs.Marked.{marked_in}
@@ -12,6 +11,6 @@ use Rattle.search_state.proofs.resting.rest_clash.Goals as goal
 pub returns : goal.returns
 returns g c =
     let w = g.R.Rules.context c.args.rules.now in
-    let hold = subst (λ (gs : List (Fact ℕ)). HoldWithin c.in_ok-marks.marks (marked_in c.args.tree.now) gs) c.deref.ensures.value c.in_ok-marks.ensures in
-    clash_rests w c.args.tree.now (line_of c.in_ok-line.line.line) c.in_ok-line.line.grounds.items c.in_ok-marks.marks c.requires.grounded hold
-    (subst (λ (es : List Entry). ServesClash w (facts_in es) (line_of c.in_ok-line.line.line) c.in_ok-line.line.grounds.items) c.new.ensures.tree c.in_ok-line.ensures)
+    let hold = subst (λ (gs : List (Fact ℕ)). HoldWithin c.in_ok-marks.marks (marked_in c.args.tree.now.entries) gs) c.deref.ensures.value c.in_ok-marks.ensures in
+    clash_rests w c.args.tree.now.entries (line_of c.in_ok-line.line.line) c.in_ok-line.line.grounds.items c.in_ok-marks.marks c.requires.grounded hold
+    (subst (λ (t : TreeEntries). ServesClash w (facts_in t.entries) (line_of c.in_ok-line.line.line) c.in_ok-line.line.grounds.items) c.new.ensures.tree c.in_ok-line.ensures)

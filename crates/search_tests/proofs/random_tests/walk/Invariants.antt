@@ -3,4 +3,4 @@ use Rattle.blocking.specs.Followed.{IsCurrent}
 use Rattle.search_tests.proofs.random_tests.walk.Given as goal
 
 abbrev pub invariant-loop : goal.invariant-loop
-invariant-loop g l = IsCurrent (facts_in l.tree) l.blocks
+invariant-loop g l = IsCurrent l.tree.first (facts_in l.tree.entries) l.blocks

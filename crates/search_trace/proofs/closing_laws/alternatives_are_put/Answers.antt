@@ -3,4 +3,4 @@ use Rattle.search_trace.proofs.Alternatives.{alternative_put}
 use Rattle.search_trace.proofs.closing_laws.alternatives_are_put.Goals as goal
 
 pub returns : goal.returns
-returns c = λ theory table is b listed k f alternative. alternative_put theory table is b listed (k + 1) f alternative k refl
+returns c = λ q table is b listed k f alternative. alternative_put q table is b listed (k + 1) f alternative k refl

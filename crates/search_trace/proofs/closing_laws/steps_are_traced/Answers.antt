@@ -2,9 +2,9 @@ use Rattle.search_trace.proofs.Places.{traced_line, traced_branching, traced_cla
 use Rattle.search_trace.proofs.closing_laws.steps_are_traced.Goals as goal
 
 pub returns : goal.returns
-returns c = λ theory table start lines ps ms h. record {
-  line = traced_line theory table start lines ps ms h;
-  branching = traced_branching theory table start lines ps ms h;
-  clash = traced_clash theory table start lines ps ms h;
-  open_places = open_places theory table start lines ps ms h;
+returns c = λ q table start lines ps ms h. record {
+  line = traced_line q table start lines ps ms h;
+  branching = traced_branching q table start lines ps ms h;
+  clash = traced_clash q table start lines ps ms h;
+  open_places = open_places q table start lines ps ms h;
 }

@@ -1,4 +1,4 @@
-use Rattle.std.proofs.Common.{◌≡◌, ℕ, Option, subst}
+use Rattle.std.proofs.Common.{ℕ, Option, subst}
 use Rattle.seen_concepts.specs.Seen.{is_one, HasGained}
 use Rattle.seen_concepts.proofs.seen.put_complement.Goals as goal
 

@@ -1,6 +1,6 @@
 use Rattle.std.proofs.Common.{refl}
-use Rattle.std.specs.Prelude.{Option, Some, None}
-use Rattle.std.proofs.Common.{◌≡◌, ℕ, subst, sym}
+use Rattle.std.specs.Prelude.{Option}
+use Rattle.std.proofs.Common.{ℕ, subst, sym}
 use Rattle.seen_concepts.specs.Seen.{is_one, HasGained}
 use Rattle.seen_concepts.proofs.Noting.{gains_none}
 use Rattle.seen_concepts.proofs.seen.put_if.Goals as goal

@@ -8,6 +8,6 @@ returns g c =
     let reached = c.steps-steps.ensures.reached c.requires.whole in
     let used : c.in_ok-used.used ≡ c.args.refutation.axioms = cc (c.in_ok-used.ensures) in
     λ fuel le. record {
-      answer = is_proof s reached c.args.refutation c.requires.without_individuals c.requires.ended;
+      answer = is_proof s reached c.args.refutation c.requires.ended;
       test = ends_yes s reached c.args.refutation c.requires.set c.requires.ended c.args.refutation.axioms c.in_ok-used.used refl used c.steps-steps.result c.steps-steps.ensures.count fuel le;
     }

@@ -10,7 +10,7 @@ returns g c =
     let used : c.in_ok-used.used ≡ r.axioms = cc (c.in_ok-used.ensures) in
     let logged : c.in_ok-logged.logged ≡ r.axioms = cc (c.in_ok-logged.ensures) in
     λ fuel le. record {
-      outcome = (r, is_proof s reached r c.requires.without_individuals c.requires.ended, used);
+      outcome = (r, is_proof s reached r c.requires.ended, used);
       apart = tt;
       test = ends_yes s reached r c.requires.set c.requires.ended c.in_ok-used.used c.in_ok-logged.logged used logged c.steps-steps.result c.steps-steps.ensures.count fuel le;
     }

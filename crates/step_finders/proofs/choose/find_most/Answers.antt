@@ -8,7 +8,7 @@ use Rattle.step_finders.proofs.choose.find_most.Goals as goal
 pub returns : goal.returns
 returns g c =
     no_most (g.R.Rules.context c.args.rules.now) (g.S.State.facts c.args.state.now)
-    (λ z lt own. c.loop-node.invariant z (omega (arith, lt, c.loop-node-test.false, c.nodes-node-end.ensures.count)) own)
+    (λ z lt own. c.loop-node.invariant z (omega (arith, lt, c.loop-node-test.false, c.count_of-node-end.ensures.count)) own)
 
 pub loop-node-preserved : goal.loop-node-preserved
 loop-node-preserved g c =

@@ -1,7 +1,7 @@
 use Rattle.std.proofs.Common.{arith, ◌≡◌, ◌<◌, true, ℕ, List, subst, sym, MatchOption}
 use Rattle.calculus_specs.specs.State.{all_apart}
 use Rattle.std.specs.List.{All}
-use Rattle.calculus_specs.specs.State.{node_count}
+use Rattle.calculus_specs.specs.State.{node_count_from}
 use Rattle.tableau_specs.specs.Steps.{below_of}
 use Rattle.step_finders.specs.Filled.{AreUnapart}
 use Rattle.step_finders.proofs.Members.{filled_nodes}
@@ -23,5 +23,5 @@ returns g c =
 pub find_unapart-requires-clause-within : goal.find_unapart-requires-clause-within
 find_unapart-requires-clause-within g c =
     let fs = g.S.State.facts c.args.state.now in
-    subst (All (λ y. y < node_count fs)) (sym c.deref.ensures.value)
-    (filled_nodes (below_of (g.R.Rules.context c.args.rules.now)) fs c.args.node c.args.role c.args.filler c.in_ok-nodes.nodes.items c.in_ok-nodes.ensures)
+    subst (All (λ y. y < node_count_from (g.S.State.first c.args.state.now) fs)) (sym c.deref.ensures.value)
+    (filled_nodes (g.S.State.first c.args.state.now) (below_of (g.R.Rules.context c.args.rules.now)) fs c.args.node c.args.role c.args.filler c.in_ok-nodes.nodes.items c.in_ok-nodes.ensures)

@@ -1,4 +1,4 @@
-use Rattle.std.proofs.Common.{◌≡◌, true, ℕ, arith, get_or}
+use Rattle.std.proofs.Common.{◌≡◌, ◌∙◌, true, ℕ, arith, get_or, sym}
 use Rattle.calculus_specs.specs.State.{has}
 use Rattle.step_finders.specs.Clashing.{NoneAbove, IsShown}
 use Rattle.step_finders.proofs.Each.{each_more, none_said}
@@ -7,7 +7,7 @@ use Rattle.step_finders.proofs.clash.find_clash_of_apart.Goals as goal
 
 pub returns : goal.returns
 returns g c =
-    no_clash_by_apart (g.R.Rules.context c.args.rules.now) (g.S.State.facts c.args.state.now) c.args.first c.args.second c.label-concept-items.result.now c.label-concept-items.ensures
+    no_clash_by_apart (g.R.Rules.context c.args.rules.now) (g.S.State.facts c.args.state.now) c.args.first c.args.second c.label-concept-items.result.now (λ one. c.if-representative.false (c.representative.ensures ∙ one ∙ sym c.representative-2.ensures)) c.label-concept-items.ensures
     (λ k d lt. c.loop-concept.invariant k d (omega (arith, lt, c.loop-concept-test.false)))
 
 pub loop-concept-preserved : goal.loop-concept-preserved

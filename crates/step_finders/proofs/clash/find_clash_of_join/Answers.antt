@@ -1,4 +1,4 @@
-use Rattle.std.proofs.Common.{arith, get_or}
+use Rattle.std.proofs.Common.{arith, get_or, sym}
 use Rattle.step_finders.specs.Clashing.{NoClashBy, IsShown}
 use Rattle.step_finders.proofs.Each.{each_more, none_said}
 use Rattle.step_finders.proofs.Clashing.{no_clash_by_join}
@@ -6,7 +6,7 @@ use Rattle.step_finders.proofs.clash.find_clash_of_join.Goals as goal
 
 pub returns : goal.returns
 returns g c =
-    no_clash_by_join (g.R.Rules.context c.args.rules.now) (g.S.State.facts c.args.state.now) c.args.node c.label-concept-items.result.now c.label-concept-items.ensures
+    no_clash_by_join (g.R.Rules.context c.args.rules.now) (g.S.State.facts c.args.state.now) c.args.node c.label-concept-items.result.now (sym c.if-are_apart.ensures) c.label-concept-items.ensures
     (λ k d lt. c.loop-concept.invariant k d (omega (arith, lt, c.loop-concept-test.false)))
 
 pub loop-concept-preserved : goal.loop-concept-preserved

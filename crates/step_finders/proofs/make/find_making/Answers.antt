@@ -8,7 +8,7 @@ use Rattle.step_finders.proofs.make.find_making.Goals as goal
 pub returns : goal.returns
 returns g c =
     nothing_to_make (g.R.Rules.context c.args.rules.now) (g.S.State.facts c.args.state.now)
-    (λ z lt open'. c.loop-node.invariant z (omega (arith, lt, c.loop-node-test.false, c.nodes-node-end.ensures.count)) open')
+    (λ z lt open'. c.loop-node.invariant z (omega (arith, lt, c.loop-node-test.false, c.count_of-node-end.ensures.count)) open')
 
 pub loop-node-preserved : goal.loop-node-preserved
 loop-node-preserved g c =

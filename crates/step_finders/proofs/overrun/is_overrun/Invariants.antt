@@ -1,5 +1,5 @@
 use Rattle.std.proofs.Common.{◌≡◌, ◌+◌, ◌≤◌, length}
-use Rattle.calculus_specs.specs.State.{all_apart, node_count}
+use Rattle.calculus_specs.specs.State.{all_apart, node_count_from}
 use Rattle.tableau_specs.specs.Clash.{filled_successors}
 use Rattle.tableau_specs.specs.Steps.{below_of}
 use Rattle.step_finders.specs.Filled.{filled_from}
@@ -10,9 +10,9 @@ abbrev pub invariant-loop-next : goal.invariant-loop-next
 invariant-loop-next g l =
     let below = below_of (g.R.Rules.context l.rules) in
     let fs = g.S.State.facts l.state in
-    let later = filled_from below fs l.node l.role l.filler l.from in
-    let all = filled_successors below fs l.node l.role l.filler in
-    (l.more + length later ≡ length all) × (all_apart fs later ≡ all_apart fs all) × (l.more ≤ l.from) × (l._nodes ≡ node_count fs)
+    let later = filled_from (g.R.Rules.context l.rules).first below fs l.node l.role l.filler l.from in
+    let all = filled_successors (g.R.Rules.context l.rules).first below fs l.node l.role l.filler in
+    (l.more + length later ≡ length all) × (all_apart fs later ≡ all_apart fs all) × (l.more ≤ l.from) × (l._nodes ≡ node_count_from (g.R.Rules.context l.rules).first fs)
 
 abbrev pub decreases-loop-next : goal.decreases-loop-next
-decreases-loop-next g l = length (filled_from (below_of (g.R.Rules.context l.rules)) (g.S.State.facts l.state) l.node l.role l.filler l.from)
+decreases-loop-next g l = length (filled_from (g.R.Rules.context l.rules).first (below_of (g.R.Rules.context l.rules)) (g.S.State.facts l.state) l.node l.role l.filler l.from)

@@ -3,4 +3,4 @@ use Rattle.blocking.specs.Followed.{IsFollowed}
 use Rattle.blocking.proofs.block_list.Blocks.follow.Given as goal
 
 abbrev pub invariant-loop-node : goal.invariant-loop-node
-invariant-loop-node g l = IsFollowed (facts_in l.tree) l.node l.self
+invariant-loop-node g l = IsFollowed l.tree.first (facts_in l.tree.entries) l.node l.self

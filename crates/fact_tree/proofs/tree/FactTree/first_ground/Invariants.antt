@@ -5,4 +5,4 @@ use Rattle.fact_tree.specs.Told.{gives}
 use Rattle.fact_tree.proofs.tree.FactTree.first_ground.Given as goal
 
 abbrev pub invariant-loop-place : goal.invariant-loop-place
-invariant-loop-place g l = list_any (gives (rep l.self) l.asked) (take l.place l.self) ≡ false
+invariant-loop-place g l = list_any (gives (rep l.self.facts) l.asked) (take l.place l.self.facts) ≡ false

@@ -1,21 +1,13 @@
-use Rattle.std.proofs.Common.{length, ap, sym, ◌∙◌, arith, ℕ, List, Some, ◌<◌}
-use Rattle.calculus_specs.specs.declared.facts.Fact.{Fact}
-use Rattle.calculus_specs.specs.State.{node_count, parent}
-use Rattle.fact_tree.specs.Kept.{Lists, Kept, lists_at}
-use Rattle.fact_tree.specs.Entries.{facts_of}
-use Rattle.fact_tree.proofs.Law.{count_is}
-use Rattle.fact_tree.proofs.Parents.{parent_is}
+use Rattle.std.proofs.Common.{None, Bool, refl, ap, sym}
+use Rattle.std.specs.Prelude.{if◌then◌else◌}
+use Rattle.std.proofs.lemmas.Bool.{lt-ltb}
+use Rattle.calculus_specs.specs.State.{first_origin}
 use Rattle.fact_tree.proofs.tree.FactTree.parent.Goals as goal
 
-pub node-requires : goal.node-requires
-node-requires g c =
-    let fs = facts_of c.self.inside.entries.items in
-    omega (arith, c.requires, ap node_count c.self.view_is, count_is fs c.self.invariant.2, ap (λ (k : Kept). length k.nodes) c.self.invariant.0)
+pub returns-in-None : goal.returns-in-None
+returns-in-None g c =
+    let t = c.args.self.now in
+    sym (ap (λ (b : Bool). if b then None else first_origin t.facts c.args.node) (lt-ltb c.args.node t.first (c.in-None.ensures.none refl)))
 
-pub returns : goal.returns
-returns g c =
-    let fs = facts_of c.self.inside.entries.items in
-    let fit = c.self.invariant.2 in
-    let lt : c.args.node < node_count fs = omega (arith, c.requires, ap node_count c.self.view_is) in
-    ap (λ (o : ℕ × ℕ). Some o.1) (c.origin-parent.ensures ∙ ap (λ (n : Lists). n.origin) (c.node.ensures ∙ ap (λ (k : Kept). lists_at k c.args.node) c.self.invariant.0))
-    ∙ sym (parent_is fs c.args.node fit c.if-node-eq0.false lt) ∙ ap (λ (us : List (Fact ℕ)). parent us c.args.node) c.self.view_is
+pub returns-in-Some : goal.returns-in-Some
+returns-in-Some g c = sym c.in-Some.ensures.some.1.1

@@ -1,8 +1,8 @@
-use Rattle.std.proofs.Common.{◌≡◌, ◌∙◌, List, [], ◌∷◌, ◌++◌, ap, reverse, subst, sym}
+use Rattle.std.proofs.Common.{◌≡◌, ◌∙◌, ap, reverse, subst, sym}
+use Rattle.std.specs.Prelude.{[], ◌∷◌, ◌++◌}
 use Rattle.calculus_specs.specs.declared.facts.Fact.TheVariants.{Has}
-use Rattle.completion_tree.specs.declared.tree.Entry.{Entry}
 use Rattle.completion_tree.specs.declared.tree.Entry.TheVariants.{Fact as Grounded}
-use Rattle.completion_tree.specs.Trail.{facts_in}
+use Rattle.completion_tree.specs.Trail.{TreeEntries, facts_in}
 use Rattle.step_agenda.specs.Followed.{AreFirstBlocks, no_prints}
 use Rattle.search_state.specs.Beginning.{by_start, begun_entries}
 use Rattle.search_state.proofs.Beginnings.{begins}
@@ -10,15 +10,18 @@ use Rattle.search_state.proofs.progress.Progress.new_in.Goals as goal
 
 pub complete-requires : goal.complete-requires
 complete-requires g c =
-    let fs = facts_in c.put_start-2.new.tree in
-    subst (AreFirstBlocks fs) (sym c.new-prints.ensures) (c.blocks_stay.ensures.none fs no_prints)
+    let t = c.put_start-2.new.tree in
+    subst (AreFirstBlocks t.first (facts_in t.entries)) (sym c.new-prints.ensures) (c.blocks_stay.ensures.none t.first (facts_in t.entries) no_prints)
 
 pub returns-clause-begun : goal.returns-clause-begun
 returns-clause-begun g c =
     let w = g.R.Rules.context c.args.rules.now in
+    let at = c.args.at in
     let sub = c.args.sub in
     let not_sup = c.args.not_sup in
-    let es = c.put_start-2.new.tree in
-    let are : es ≡ begun_entries sub not_sup =
-    c.in_ok-put_start-2.ensures ∙ ap (λ (xs : List Entry). xs ++ Grounded (Has 0 not_sup) by_start ∷ []) (c.in_ok-put_start.ensures ∙ ap (λ (xs : List Entry). xs ++ Grounded (Has 0 sub) by_start ∷ []) c.in_ok-tree.ensures) in
-    begins w c.args.query.now sub not_sup c.requires es are c.complete.new.self c.in_ok-complete.ensures.current c.in_ok-complete.ensures.first c.new.result c.new.ensures (reverse c.new-2.result.items) (ap reverse c.new-2.ensures.items) c.find_clash_at_start-clash.result c.find_clash_at_start-clash.ensures
+    let t = c.put_start-2.new.tree in
+    let are : t ≡ record { first = c.first.result; entries = begun_entries at sub not_sup } =
+    c.in_ok-put_start-2.ensures ∙ ap (λ (k : TreeEntries). record { first = k.first; entries = k.entries ++ Grounded (Has at not_sup) by_start ∷ [] })
+    (c.in_ok-put_start.ensures ∙ ap (λ (k : TreeEntries). record { first = k.first; entries = k.entries ++ Grounded (Has at sub) by_start ∷ [] }) c.in_ok-tree.ensures) in
+    begins w c.args.query.now at sub not_sup c.requires t.first (ap (λ (k : TreeEntries). k.first) are ∙ c.first.ensures) t.entries (ap (λ (k : TreeEntries). k.entries) are) c.complete.new.self c.in_ok-complete.ensures.current
+    c.in_ok-complete.ensures.first c.new.result c.new.ensures (reverse c.new-2.result.items) (ap reverse c.new-2.ensures.items) c.find_clash_at_start-clash.result c.find_clash_at_start-clash.ensures

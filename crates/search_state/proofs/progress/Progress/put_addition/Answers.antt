@@ -3,7 +3,7 @@ use Rattle.std.specs.Prelude.{◌+◌, None}
 use Rattle.lane_sieve.specs.Sets.{NumberSet}
 use Rattle.refutation_tree.specs.RuleLine.{line_of}
 use Rattle.completion_tree.specs.declared.tree.By.{By}
-use Rattle.completion_tree.specs.Trail.{facts_in}
+use Rattle.completion_tree.specs.Trail.{TreeEntries, facts_in}
 use Rattle.step_finders.specs.Reasons.{IsAddition}
 use Rattle.search_trace.specs.Trace.{with_line}
 use Rattle.search_state.specs.Resting.{RestsAddition}
@@ -17,12 +17,12 @@ returns-clause-moved g c =
     let files = g.R.Rules.files c.args.rules.now in
     let a = c.args.addition.now in
     let s = c.self.inside in
-    let old : ProgressLists = record { query = s.query.now; sub = s.sub; not_sup = s.not_sup; entries = s.tree; prints = s.prints; trace = s.trace; marks = reverse s.marks.items; clash = s.clash; steps = s.steps } in
+    let old : ProgressLists = record { query = s.query.now; at = s.at; sub = s.sub; not_sup = s.not_sup; first = s.tree.first; entries = s.tree.entries; prints = s.prints; trace = s.trace; marks = reverse s.marks.items; clash = s.clash; steps = s.steps } in
     let is : old ≡ c.args.self.now = c.self.view_is in
     let line = line_of c.args.resting.line in
     let u = c.args.resting.marks in
     let by : By = record { line = c.in_ok-number.number; marks = u } in
-    let new : ProgressLists = record { query = s.query.now; sub = s.sub; not_sup = s.not_sup; entries = c.add.new.self; prints = c.keep_blocks.new.prints; trace = c.put.new.self; marks = reverse s.marks.items; clash = s.clash; steps = s.steps + 1 } in
+    let new : ProgressLists = record { query = s.query.now; at = s.at; sub = s.sub; not_sup = s.not_sup; first = c.add.new.self.first; entries = c.add.new.self.entries; prints = c.keep_blocks.new.prints; trace = c.put.new.self; marks = reverse s.marks.items; clash = s.clash; steps = s.steps + 1 } in
     subst (λ (q : ProgressLists). HasMoved w q new) is
     (addition_moves w old (subst (λ (q : ProgressLists). IsStanding w q) (sym is) c.requires.standing) files a
     (subst (λ (q : ProgressLists). IsClashOf w (facts_in q.entries) None) (sym is) c.requires.none)
@@ -32,9 +32,11 @@ returns-clause-moved g c =
     by refl new
     (record {
       query = refl;
+      at = refl;
       sub = refl;
       not_sup = refl;
-      entries_are = c.in_ok-add.ensures.added;
+      first = ap (λ (t : TreeEntries). t.first) c.in_ok-add.ensures.added;
+      entries_are = ap (λ (t : TreeEntries). t.entries) c.in_ok-add.ensures.added;
       trace_is = c.in_ok-number.ensures.put ∙ ap (λ (v : NumberSet). with_line s.trace line v) c.in_ok-shared.ensures;
       marks_are = refl;
       counted = refl;
@@ -45,11 +47,12 @@ pub returns-clause-last : goal.returns-clause-last
 returns-clause-last g c =
     let w = g.R.Rules.context c.args.rules.now in
     let s = c.self.inside in
-    let old : ProgressLists = record { query = s.query.now; sub = s.sub; not_sup = s.not_sup; entries = s.tree; prints = s.prints; trace = s.trace; marks = reverse s.marks.items; clash = s.clash; steps = s.steps } in
+    let old : ProgressLists = record { query = s.query.now; at = s.at; sub = s.sub; not_sup = s.not_sup; first = s.tree.first; entries = s.tree.entries; prints = s.prints; trace = s.trace; marks = reverse s.marks.items; clash = s.clash; steps = s.steps } in
     let is : old ≡ c.args.self.now = c.self.view_is in
     record {
-      front = s.tree;
+      front = s.tree.entries;
       by = record { line = c.in_ok-number.number; marks = c.args.resting.marks };
-      splits = c.in_ok-add.ensures.added;
+      splits = ap (λ (t : TreeEntries). t.entries) c.in_ok-add.ensures.added;
+      no_node = refl;
       none = subst (λ (q : ProgressLists). IsClashOf w (facts_in q.entries) None) (sym is) c.requires.none;
     }

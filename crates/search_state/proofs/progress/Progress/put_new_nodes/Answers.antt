@@ -1,13 +1,14 @@
-use Rattle.std.proofs.Common.{◌≡◌, ◌∙◌, ap, refl, sym, subst, reverse}
+use Rattle.std.proofs.Common.{◌≡◌, ◌∙◌, ℕ, ap, refl, sym, subst, reverse}
 use Rattle.std.specs.Prelude.{◌+◌, None}
 use Rattle.lane_sieve.specs.Sets.{NumberSet}
+use Rattle.calculus_specs.specs.State.{node_count_from}
 use Rattle.refutation_tree.specs.RuleLine.{line_of}
 use Rattle.completion_tree.specs.declared.tree.By.{By}
-use Rattle.completion_tree.specs.Trail.{facts_in}
+use Rattle.completion_tree.specs.Trail.{TreeEntries, facts_in}
 use Rattle.step_finders.specs.Making.{IsMaking}
 use Rattle.search_trace.specs.Trace.{with_line}
 use Rattle.search_state.specs.Resting.{RestsNewNodes}
-use Rattle.search_state.specs.Progress.{ProgressLists, IsStanding, IsClashOf, HasMoved}
+use Rattle.search_state.specs.Progress.{ProgressLists, with_nodes, IsStanding, IsClashOf, HasMoved}
 use Rattle.search_state.proofs.Steps.{new_nodes_move, some_are_made}
 use Rattle.search_state.proofs.LastFact.{speaks}
 use Rattle.search_state.proofs.progress.Progress.put_new_nodes.Goals as goal
@@ -17,14 +18,15 @@ returns-clause-moved g c =
     let w = g.R.Rules.context c.args.rules.now in
     let m = c.args.new.now in
     let s = c.self.inside in
-    let old : ProgressLists = record { query = s.query.now; sub = s.sub; not_sup = s.not_sup; entries = s.tree; prints = s.prints; trace = s.trace; marks = reverse s.marks.items; clash = s.clash; steps = s.steps } in
+    let old : ProgressLists = record { query = s.query.now; at = s.at; sub = s.sub; not_sup = s.not_sup; first = s.tree.first; entries = s.tree.entries; prints = s.prints; trace = s.trace; marks = reverse s.marks.items; clash = s.clash; steps = s.steps } in
     let is : old ≡ c.args.self.now = c.self.view_is in
     let line = line_of c.args.resting.line in
     let u = c.args.resting.marks in
     let by : By = record { line = c.in_ok-number.number; marks = u } in
-    let new : ProgressLists = record { query = s.query.now; sub = s.sub; not_sup = s.not_sup; entries = c.fresh.new.self; prints = c.keep_blocks.new.prints; trace = c.put.new.self; marks = reverse s.marks.items; clash = s.clash; steps = s.steps + 1 } in
+    let new : ProgressLists = record { query = s.query.now; at = s.at; sub = s.sub; not_sup = s.not_sup; first = c.fresh.new.self.first; entries = c.fresh.new.self.entries; prints = c.keep_blocks.new.prints; trace = c.put.new.self; marks = reverse s.marks.items; clash = s.clash; steps = s.steps + 1 } in
+    let st : IsStanding w old = subst (λ (q : ProgressLists). IsStanding w q) (sym is) c.requires.standing in
     subst (λ (q : ProgressLists). HasMoved w q new) is
-    (new_nodes_move w old (subst (λ (q : ProgressLists). IsStanding w q) (sym is) c.requires.standing) m
+    (new_nodes_move w old st m
     (subst (λ (q : ProgressLists). IsClashOf w (facts_in q.entries) None) (sym is) c.requires.none)
     (subst (λ (q : ProgressLists). IsMaking w (facts_in q.entries) m) (sym is) c.requires.making)
     c.new_nodes_stay_grounded.ensures line u
@@ -32,9 +34,11 @@ returns-clause-moved g c =
     by refl new
     (record {
       query = refl;
+      at = refl;
       sub = refl;
       not_sup = refl;
-      entries_are = c.in_ok-first.ensures.made;
+      first = ap (λ (t : TreeEntries). t.first) c.in_ok-first.ensures.made;
+      entries_are = ap (λ (t : TreeEntries). t.entries) c.in_ok-first.ensures.made ∙ ap (λ (k : ℕ). with_nodes k s.tree.entries m by) st.first_is;
       trace_is = c.in_ok-number.ensures.put ∙ ap (λ (v : NumberSet). with_line s.trace line v) c.in_ok-shared.ensures;
       marks_are = refl;
       counted = refl;
@@ -46,17 +50,18 @@ returns-clause-last g c =
     let w = g.R.Rules.context c.args.rules.now in
     let m = c.args.new.now in
     let s = c.self.inside in
-    let old : ProgressLists = record { query = s.query.now; sub = s.sub; not_sup = s.not_sup; entries = s.tree; prints = s.prints; trace = s.trace; marks = reverse s.marks.items; clash = s.clash; steps = s.steps } in
+    let old : ProgressLists = record { query = s.query.now; at = s.at; sub = s.sub; not_sup = s.not_sup; first = s.tree.first; entries = s.tree.entries; prints = s.prints; trace = s.trace; marks = reverse s.marks.items; clash = s.clash; steps = s.steps } in
     let is : old ≡ c.args.self.now = c.self.view_is in
     let st = subst (λ (q : ProgressLists). IsStanding w q) (sym is) c.requires.standing in
     let making = subst (λ (q : ProgressLists). IsMaking w (facts_in q.entries) m) (sym is) c.requires.making in
+    let by : By = record { line = c.in_ok-number.number; marks = c.args.resting.marks } in
     record {
-      front = s.tree;
-      by = record { line = c.in_ok-number.number; marks = c.args.resting.marks };
-      splits = c.in_ok-first.ensures.made;
+      front = s.tree.entries;
+      by = by;
+      splits = ap (λ (t : TreeEntries). t.entries) c.in_ok-first.ensures.made ∙ ap (λ (k : ℕ). with_nodes k s.tree.entries m by) st.first_is;
       none = subst (λ (q : ProgressLists). IsClashOf w (facts_in q.entries) None) (sym is) c.requires.none;
       is_node = making.is_open.is_node;
-      is_some = some_are_made w (facts_in s.tree) m st.asked.is_table making;
-      first_is = c.in_ok-first.ensures.first;
+      is_some = some_are_made w (facts_in s.tree.entries) m st.asked.is_table making;
+      new_is = c.in_ok-first.ensures.first ∙ ap (λ (k : ℕ). node_count_from k (facts_in s.tree.entries)) st.first_is;
       speak = speaks w old st;
     }

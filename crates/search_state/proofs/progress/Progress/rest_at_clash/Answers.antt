@@ -16,7 +16,7 @@ returns-then-branch g c =
     let line = line_of c.in_ok-resting.resting.line in
     let u = c.in_ok-resting.resting.marks in
     let i = c.self.inside in
-    let old : ProgressLists = record { query = i.query.now; sub = i.sub; not_sup = i.not_sup; entries = i.tree; prints = i.prints; trace = i.trace; marks = reverse i.marks.items; clash = i.clash; steps = i.steps } in
+    let old : ProgressLists = record { query = i.query.now; at = i.at; sub = i.sub; not_sup = i.not_sup; first = i.tree.first; entries = i.tree.entries; prints = i.prints; trace = i.trace; marks = reverse i.marks.items; clash = i.clash; steps = i.steps } in
     let is : old ≡ s = c.self.view_is in
     let rests : RestsClash w s.entries line u = subst (λ (q : ProgressLists). RestsClash w q.entries line u) is c.in_ok-resting.ensures in
     (refl, c.requires.searching, clash_has_next w s c.requires.searching.standing clash line u rests (sym c.in_ok-turns.ensures ∙ c.if-branch.true))

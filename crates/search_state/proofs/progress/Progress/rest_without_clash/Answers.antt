@@ -31,6 +31,6 @@ returns-in-None g c =
     subst (λ (found : Option Step). MatchOption found (NoStep w (facts_in es)) (IsStep w (facts_in es) (g.R.Rules.files c.args.rules.now))) c.in-None.is c.in_ok-next_step.ensures in (
       c.in_ok-follow.ensures.followed,
       c.no_step_is_saturated.ensures w (items_of es)
-          (subst (λ (fs : List (Fact ℕ)). ¬ IsPlainClash (below_of w) w.table fs) (sym (facts-items es)) (still_none w c.args.self.now s same c.requires.none))
+          (subst (λ (fs : List (Fact ℕ)). ¬ IsPlainClash w.first (below_of w) w.table fs) (sym (facts-items es)) (still_none w c.args.self.now s same c.requires.none))
           (subst (λ (fs : List (Fact ℕ)). NoStep w fs) (sym (facts-items es)) none),
     )

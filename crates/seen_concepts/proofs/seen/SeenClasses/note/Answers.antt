@@ -6,11 +6,11 @@ use Rattle.seen_concepts.proofs.seen.SeenClasses.note.Goals as goal
 pub loop-place-preserved : goal.loop-place-preserved
 loop-place-preserved g c =
     let table = (g.R.Rules.context c.args.rules.now).table in
-    let items = items_of c.args.tree.now in
+    let items = items_of c.args.tree.now.entries in
     let old = c.args.self.now in
     let was = c.loop-place.self in
     let now = c.note_item.new.self in
     record {
-      at_root = notes_one (gives_class table) items c.args.from c.loop-place.place c.item.result old.at_root was.at_root now.at_root c.item.ensures c.loop-place.invariant.at_root c.note_item.ensures.at_root;
-      complements = notes_one (gives_complement table) items c.args.from c.loop-place.place c.item.result old.complements was.complements now.complements c.item.ensures c.loop-place.invariant.complements c.note_item.ensures.complements;
+      at_node = notes_one (gives_class c.args.at table) items c.args.from c.loop-place.place c.item.result old.at_node was.at_node now.at_node c.item.ensures c.loop-place.invariant.at_node c.note_item.ensures.at_node;
+      complements = notes_one (gives_complement c.args.at table) items c.args.from c.loop-place.place c.item.result old.complements was.complements now.complements c.item.ensures c.loop-place.invariant.complements c.note_item.ensures.complements;
     }

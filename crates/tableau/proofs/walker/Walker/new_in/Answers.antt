@@ -1,12 +1,24 @@
-use Rattle.std.proofs.Common.{List, [], ◌∷◌, subst}
-use Rattle.completion_tree.specs.declared.tree.Entry.{Entry}
-use Rattle.completion_tree.specs.Trail.{items_of}
-use Rattle.seen_concepts.specs.Seen.{AreSeenIn}
-use Rattle.tableau.proofs.Kept.{begun_is_kept}
+use Rattle.std.proofs.Common.{ℕ, [], ◌∷◌, sym, subst, ◌∙◌}
+use Rattle.completion_tree.specs.Trail.{TreeEntries, items_of}
+use Rattle.seen_concepts.specs.Seen.{AreOver, AreSeenIn}
+use Rattle.search_rules.specs.RuleLists.{context_in}
+use Rattle.search_state.specs.Progress.{IsAsked}
+use Rattle.tableau.proofs.Kept.{begun_is_kept, is_asked}
 use Rattle.tableau.proofs.walker.Walker.new_in.Goals as goal
+
+pub new_in-requires : goal.new_in-requires
+new_in-requires g c =
+    let rules = c.args.rules.now in
+    let query = c.args.query.now in
+    subst (λ (x : ℕ). IsAsked (context_in rules) query x c.args.sub c.args.not_sup) (sym c.node_in_question-at.ensures)
+    (is_asked rules query c.args.sub c.args.not_sup c.concepts.ensures.ready c.is_ready.ensures.chosen c.requires.in_limit c.requires.numbers)
 
 pub invariant_of-result : goal.invariant_of-result
 invariant_of-result g c =
-    let seen = subst (λ (es : List Entry). AreSeenIn c.args.rules.now.table (items_of es ∷ []) c.in_ok-seen.seen) c.tree.ensures c.in_ok-seen.ensures.seen in
-    begun_is_kept c.args.rules.now c.args.query.now c.args.sub c.args.not_sup c.in_ok-progress.progress c.in_ok-seen.seen c.requires.in_limit c.requires.without_individuals c.requires.set c.requires.numbers c.in_ok-progress.ensures.begun c.in_ok-progress.ensures.query
-    c.in_ok-progress.ensures.numbers.0 c.in_ok-progress.ensures.numbers.1 c.in_ok-seen.ensures.over seen
+    let rules = c.args.rules.now in
+    let p = c.in_ok-progress.progress in
+    let begun = c.in_ok-progress.ensures in
+    let seen = subst (λ (x : ℕ). AreSeenIn x rules.table (items_of p.entries ∷ []) c.in_ok-seen.seen) c.node_in_question-at.ensures
+    (subst (λ (t : TreeEntries). AreSeenIn c.node_in_question-at.result rules.table (items_of t.entries ∷ []) c.in_ok-seen.seen) c.tree.ensures c.in_ok-seen.ensures.seen) in
+    begun_is_kept rules c.args.query.now c.args.sub c.args.not_sup p c.in_ok-seen.seen c.requires.in_limit c.requires.set c.requires.numbers begun.begun begun.query.0 (begun.query.1 ∙ c.node_in_question-at.ensures)
+    begun.numbers.0 begun.numbers.1 (subst (λ (room : ℕ). AreOver room c.in_ok-seen.seen) c.room_for-room.ensures c.in_ok-seen.ensures.over) seen

@@ -1,0 +1,264 @@
+// Given facts in the order of their axioms, what they bring, and the clashes that they make.
+ghost use Rattle.std.specs.Prelude.{◌≡◌, ◌∷◌, [], IsTrue, IfOk, OnOk, length};
+ghost use Rattle.search_rules.specs.Limits.{IsOntologyInLimit};
+ghost use Rattle.shq_terms.specs.Listed.{with_axiom};
+ghost use Rattle.shq_terms.specs.Uses.{axiom_uses_listed};
+
+use crate::following::is_fit;
+use axiom_sets::AxiomSet;
+use calculus_specs::{Fact, NoMemory};
+use completion_tree::{By, Deps, Tree};
+use refutation_tree::Line;
+use search_rules::SearchRules;
+use shq_terms::{AddFault, Axiom, NumberList, Ontology};
+use std::alloc::Global;
+use std::process::Abort;
+use std::test::Fail;
+use step_agenda::{Agenda, TreeState};
+use step_finders::{Clash, Given, Rules, Step, find_clash_of_edge, find_giving, find_plain_clash};
+use step_lines::line_of_given;
+
+// ---- the axioms
+
+fn pair(alloc: Global, first: u32, second: u32) -> Result<NumberList, NoMemory>
+    ensures { IfOk result (λ numbers. numbers ≡ first ∷ second ∷ []) }
+{
+    let mut numbers = NumberList::new(alloc);
+    numbers.push(first)?;
+    numbers.push(second)?;
+    Ok(numbers)
+}
+
+fn push(ontology: &mut Ontology, axiom: Axiom) -> Result<(), AddFault>
+    requires classes { length ontology.old.classes ≡ 0 }
+    requires roles { length ontology.old.roles ≡ 1 }
+    requires individuals { length ontology.old.individuals ≡ 4 }
+    requires uses { IsTrue (axiom_uses_listed 0 1 4 «axiom») }
+    ensures { OnOk result (ontology.new ≡ with_axiom ontology.old «axiom» 1) }
+{
+    ontology.add_axiom(axiom, 1)?;
+    Ok(())
+}
+
+// Whether a role and four individuals are listed, and nothing else.
+fn has_names_alone(ontology: &Ontology) -> bool
+    ensures classes { IsTrue result → length ontology.now.classes ≡ 0 }
+    ensures roles { IsTrue result → length ontology.now.roles ≡ 1 }
+    ensures individuals { IsTrue result → length ontology.now.individuals ≡ 4 }
+    ensures axioms { IsTrue result → length ontology.now.axioms ≡ 0 }
+{
+    ontology.class_count() == 0
+        && ontology.role_count() == 1
+        && ontology.individual_count() == 4
+        && ontology.axiom_count() == 0
+}
+
+fn add_names(ontology: &mut Ontology) -> Result<(), AddFault> {
+    ontology.add_role("R")?;
+    for name in ["a", "b", "c", "d"] {
+        ontology.add_individual(name)?;
+    }
+    Ok(())
+}
+
+// An edge leads from individual 0 to 1 and one to 3, which are different, by a role that is functional.
+fn add_edges(alloc: Global, ontology: &mut Ontology) -> Result<(), AddFault>
+    ensures { OnOk result (IsOntologyInLimit ontology.new) }
+{
+    add_names(ontology)?;
+    if !has_names_alone(ontology) {
+        return Err(AddFault::Full);
+    }
+    push(ontology, Axiom::Pair(0, 0, 1))?;
+    push(ontology, Axiom::Pair(0, 0, 3))?;
+    push(ontology, Axiom::Different(pair(alloc, 1, 3)?))?;
+    push(ontology, Axiom::Functional(0))
+}
+
+// Individuals 0 and 2 are one, and different.
+fn add_one(alloc: Global, ontology: &mut Ontology) -> Result<(), AddFault>
+    ensures { OnOk result (IsOntologyInLimit ontology.new) }
+{
+    add_names(ontology)?;
+    if !has_names_alone(ontology) {
+        return Err(AddFault::Full);
+    }
+    push(ontology, Axiom::SameAll(pair(alloc, 0, 2)?))?;
+    push(ontology, Axiom::Different(pair(alloc, 2, 0)?))
+}
+
+// ---- a search
+
+// The next step that the agenda proposes, and the line of a given fact that it is, as its axiom and its place.
+fn next(
+    heap: Global,
+    agenda: &mut Agenda,
+    tree: &Tree<Global>,
+    rules: &SearchRules<'_>,
+) -> Result<Option<(Step, Option<(u32, u32)>)>, NoMemory> {
+    if tree.first() != rules.first() {
+        return Err(NoMemory);
+    }
+    match agenda.next_at_any(heap, tree, &TreeState::new(tree), rules)? {
+        Some(Step::Give(given)) => {
+            let line = line_of_given(heap, rules, &given)?;
+            Ok(Some((Step::Give(given), named(&line.line))))
+        }
+        Some(step) => Ok(Some((step, None))),
+        None => Ok(None),
+    }
+}
+
+// The axiom and the place that a line of a given fact names.
+fn named(line: &Line) -> Option<(u32, u32)> {
+    match line {
+        Line::Fact(axiom, place) => Some((*axiom, *place)),
+        _ => None,
+    }
+}
+
+// Puts a fact last. One that may not be put counts as out of memory.
+fn put(tree: &mut Tree<Global>, fact: Fact<u32>) -> Result<(), NoMemory> {
+    let line = tree.len();
+    if !is_fit(tree.nodes(), fact) {
+        return Err(NoMemory);
+    }
+    let by = By {
+        line,
+        marks: Deps::none(),
+    };
+    tree.add(fact, by)
+}
+
+// Whether the full look finds the fact too.
+fn is_first(tree: &Tree<Global>, rules: &SearchRules<'_>, given: Given) -> bool {
+    tree.first() == rules.first() && find_giving(&TreeState::new(tree), rules) == Some(given)
+}
+
+// The clash that a full look finds.
+fn clash(tree: &Tree<Global>, rules: &SearchRules<'_>) -> Option<Clash> {
+    if tree.first() != rules.first() {
+        return None;
+    }
+    find_plain_clash(&TreeState::new(tree), rules)
+}
+
+// The clash by an edge from node 0 to node 3.
+fn clash_of_edge(tree: &Tree<Global>, rules: &SearchRules<'_>) -> Option<Clash> {
+    if tree.first() != rules.first() || tree.nodes() == 0 {
+        return None;
+    }
+    find_clash_of_edge(&TreeState::new(tree), rules, 0, 0, 3)
+}
+
+// Puts the next given fact, where it is this one, the first of this axiom.
+fn give(
+    heap: Global,
+    agenda: &mut Agenda,
+    tree: &mut Tree<Global>,
+    rules: &SearchRules<'_>,
+    axiom: u32,
+    fact: Fact<u32>,
+) -> Result<bool, NoMemory> {
+    match next(heap, agenda, tree, rules)? {
+        Some((Step::Give(given), line)) => {
+            let is_it = given.axiom == axiom && given.place == 1 && given.fact == fact;
+            let is_right = is_it && is_first(tree, rules, given) && line == Some((axiom, 1));
+            put(tree, fact)?;
+            Ok(is_right)
+        }
+        _ => Ok(false),
+    }
+}
+
+fn give_each(
+    heap: Global,
+    agenda: &mut Agenda,
+    tree: &mut Tree<Global>,
+    rules: &SearchRules<'_>,
+    facts: &[(u32, Fact<u32>)],
+) -> Result<bool, NoMemory> {
+    let mut are_right = true;
+    for (axiom, fact) in facts {
+        are_right &= clash(tree, rules) == None && clash_of_edge(tree, rules) == None;
+        are_right &= give(heap, agenda, tree, rules, *axiom, *fact)?;
+    }
+    Ok(are_right)
+}
+
+// ---- the walks
+
+/// The facts that the first ontology gives, each with its axiom.
+const EDGES: &[(u32, Fact<u32>)] = &[
+    (1, Fact::Edge(0, 0, 1)),
+    (2, Fact::Edge(0, 0, 3)),
+    (3, Fact::Apart(1, 3)),
+];
+
+/// Those that the second gives.
+const ONE: &[(u32, Fact<u32>)] = &[(1, Fact::Same(0, 2)), (2, Fact::Apart(2, 0))];
+
+// After the given facts node 0 gets the 'at most' of each node, and then its edges are too many.
+fn is_overrun(
+    heap: Global,
+    agenda: &mut Agenda,
+    tree: &mut Tree<Global>,
+    rules: &SearchRules<'_>,
+) -> Result<bool, NoMemory> {
+    match next(heap, agenda, tree, rules)? {
+        Some((Step::Add(addition), _)) if addition.node == 0 => {
+            let concept = addition.concept;
+            let is_before = clash(tree, rules) == None && clash_of_edge(tree, rules) == None;
+            put(tree, Fact::Has(0, concept))?;
+            let most = Some(Clash::Most { node: 0, concept });
+            Ok(is_before && clash(tree, rules) == most && clash_of_edge(tree, rules) == most)
+        }
+        _ => Ok(false),
+    }
+}
+
+fn rules_of(heap: Global, ontology: &Ontology) -> Result<SearchRules<'_>, NoMemory>
+    requires { IsOntologyInLimit ontology.now }
+{
+    let set = AxiomSet::full(heap, ontology.axiom_count())?;
+    SearchRules::build(heap, ontology, &set)
+}
+
+fn are_counted(heap: Global, ontology: &Ontology) -> Result<bool, NoMemory>
+    requires { IsOntologyInLimit ontology.now }
+{
+    let rules = rules_of(heap, ontology)?;
+    let mut tree = Tree::new_in(heap, rules.first())?;
+    let mut agenda = Agenda::new(heap);
+    let are_given = give_each(heap, &mut agenda, &mut tree, &rules, EDGES)?;
+    Ok(are_given && is_overrun(heap, &mut agenda, &mut tree, &rules)?)
+}
+
+fn are_different(heap: Global, ontology: &Ontology) -> Result<bool, NoMemory>
+    requires { IsOntologyInLimit ontology.now }
+{
+    let rules = rules_of(heap, ontology)?;
+    let mut tree = Tree::new_in(heap, rules.first())?;
+    let mut agenda = Agenda::new(heap);
+    let are_given = give_each(heap, &mut agenda, &mut tree, &rules, ONE)?;
+    Ok(are_given && clash(&tree, &rules) == Some(Clash::Differ(0, 0)))
+}
+
+#[test]
+fn edges_between_individuals_are_counted(rt: HostRuntime) -> Result<(), Fail> {
+    let mut ontology = Ontology::new(rt.alloc());
+    add_edges(rt.alloc(), &mut ontology)?;
+    assert!(rt;
+        are_counted(rt.alloc(), &ontology)?,
+        "two by a functional role"
+    );
+    Ok(())
+}
+
+#[test]
+fn individuals_that_are_one_do_not_differ(rt: HostRuntime) -> Result<(), Fail> {
+    let mut ontology = Ontology::new(rt.alloc());
+    add_one(rt.alloc(), &mut ontology)?;
+    assert!(rt; are_different(rt.alloc(), &ontology)?, "one, and different");
+    Ok(())
+}

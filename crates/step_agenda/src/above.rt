@@ -1,0 +1,22 @@
+// The nodes from which edges lead to a node. Where its representative is no first node, that is its parent alone; else
+// they are the beginnings of the edges that are given into the nodes that are one with it.
+ghost use Rattle.std.specs.Prelude.{◌≡◌, ◌<◌};
+
+use step_finders::State;
+
+/// The representative of a node's parent, which first nodes do not have.
+pub(crate) fn above<S: State>(state: &S, node: u32) -> Option<u32> {
+    if node >= state.nodes() {
+        return None;
+    }
+    let parent = state.parent(node)?;
+    Some(state.representative(parent))
+}
+
+/// The nodes that are one with a node.
+pub(crate) fn members_at<S: State>(state: &S, node: u32) -> &[u32] {
+    if node >= state.nodes() {
+        return &[];
+    }
+    state.members(node)
+}
