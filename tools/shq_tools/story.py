@@ -26,8 +26,8 @@ class Step:
     """A sentence, by the line of the certificate, and the cases behind it. The last one of a case is a contradiction.
 
     `because` has the steps that it stands on, `supposes` what it needs of one thing that no step adds, `axiom` the
-    axiom that it uses, `roles` those along which it goes, and `carried` the one that is transitive. A step that takes an
-    intersection apart `is_silent`: it says the same once more.
+    axiom that it uses, `roles` those along which it goes, and `carried` the one that is transitive. A step that takes
+    an intersection apart `is_silent`: it says the same once more.
     """
 
     line: int

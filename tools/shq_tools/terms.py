@@ -2,8 +2,8 @@
 
 A class expression is a tuple that begins with its kind: `("top",)`, `("bottom",)`, `("name", iri)`, `("not", class)`,
 `("and", classes)`, `("or", classes)`, `("some", role, class)`, `("all", role, class)`, and with a number `("least",
-n, role, class)`, `("most", n, role, class)`, `("exactly", n, role, class)`. Roles and individuals are IRIs, and `classes`
-is a tuple.
+n, role, class)`, `("most", n, role, class)`, `("exactly", n, role, class)`. Roles and individuals are IRIs, and
+`classes` is a tuple.
 """
 from dataclasses import dataclass
 
