@@ -12,7 +12,8 @@
 //! | `like NAME` | right after the name: the document, the certificate and the words are those of an earlier block |
 //! | `axioms TEXT` | a line of axioms, which stand between a prefix and `Ontology(` on two lines, and `)` |
 //! | `text TEXT` | a line of a document that is given whole |
-//! | `lines N TEXT` | N lines of the same kind; `@` in the text stands for a line's number, from 1 on, `%` for the next |
+//! | `lines N TEXT` | N lines of the same kind; `@` in the text stands for a line's number, from 1 on, `%` for the next
+//! |
 //! | `more N TEXT` | the last line goes on with N times this text, which may begin with a blank |
 //! | `blanks N` | blanks stand behind the document, up to N bytes |
 //! | `empty` | the document is given whole, and has no line so far |
@@ -26,7 +27,8 @@
 //! | `ask JOB TEXT` | the words, in place of those that were taken over: a job and one text, a job alone, or none |
 //! | `word WORD` | one word more, which may be empty |
 //! | `budget N` | the words `budget` and N |
-//! | `each KIND M N` | the case is run for each number from M to N, and each run is printed, with the number behind the name |
+//! | `each KIND M N` | the case is run for each number from M to N, and each run is printed, with the number behind the
+//! name |
 //! | `find KINDS` | print which kinds of lines, by their first words, the answer has, and which it lacks |
 //! | `count KIND` | print how many lines of a kind it has |
 //! | `first KIND` | print its first line of a kind |

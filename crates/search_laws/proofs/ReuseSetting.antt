@@ -1,5 +1,5 @@
--- The same steps are legal, and the same ends saturated, where the node in question has the complement of a class from the start. The
--- table may have grown by then.
+-- The same steps are legal, and the same ends saturated, where the node in question has the complement of a class from
+-- the start. The table may have grown by then.
 use Rattle.std.proofs.Common.{◌≡◌, ℕ, ◌<◌, ◌&&◌, Bool, true, false, List, ◌++◌, length, Option, Some, None, refl, ap, ◌∙◌, sym, subst, arith, inl, inr, length-append}
 use Rattle.std.specs.List.{list_all, range_with_len, All, Contains}
 use Rattle.std.proofs.lemmas.List.{get_or_append_left, get_or_default}

@@ -90,7 +90,8 @@ FewChildren = (q : Question) (cs : List Concept) (table : List Shape) (rows : Li
     → RolesAreBelowThemselves q.theory → IsClosure q cs → IsReached q table rows k trail
     → (x : ℕ) → children q.first (facts_of trail) x ≤ length cs * most_made cs
 
--- a trail has few nodes, where a new edge is one below its own role, node 0 is the only first node, and no fact is given
+-- a trail has few nodes, where a new edge is one below its own role, node 0 is the only first node, and no fact is
+-- given
 abbrev pub FewNodes : Type 0
 FewNodes = (q : Question) (cs : List Concept) (table : List Shape) (rows : List Row) (k : ℕ) (trail : List Item)
     → q.first ≡ 1 → HasNoFacts q → RolesAreBelowThemselves q.theory → IsClosure q cs → IsReached q table rows k trail

@@ -9,8 +9,8 @@ use Rattle.calculus_specs.specs.Rows.Part.{inclusion, range}
 use Rattle.calculus_specs.specs.declared.facts.Fact.TheVariants.{Has}
 use Rattle.calculus_specs.specs.Rules.{Question}
 
--- the concept is one in question, or of a row or a range of the axioms, or of a fact that an axiom gives, or a rule gives it
--- from one that is in the closure
+-- the concept is one in question, or of a row or a range of the axioms, or of a fact that an axiom gives, or a rule
+-- gives it from one that is in the closure
 pub data IsInClosure (q : Question) : Concept → Type 0 where
   has_top : IsInClosure q top
   has_sub : IsInClosure q (normal_form q.sub)

@@ -95,7 +95,8 @@ each_once (c ∷ cs) = if list_any (is_same c) cs then each_once cs else c ∷ e
 abbrev pub closure : Question → List ℕ → List Concept → List Concept
 closure q ts members = each_once (flat_map (given ts (deepest (roots q members))) (roots q members))
 
--- where the first list has the transitive roles, and the second the concepts that axioms give to nodes, this is the closure
+-- where the first list has the transitive roles, and the second the concepts that axioms give to nodes, this is the
+-- closure
 abbrev pub ClosureIsComputed : Type 0
 ClosureIsComputed = (q : Question) (ts : List ℕ) (members : List Concept)
     → ((t : ℕ) → (q.theory.is_transitive t ≡ true) ↔ (list_any (λ s. t == s) ts ≡ true))

@@ -1,4 +1,5 @@
-//! Every legal search is bounded: of the concepts, nodes and marks of its trails, and of its steps.
+//! Bounds of the concepts and marks of trails, by their nodes; and where there are no individuals, of the nodes and of
+//! all steps of a legal search.
 //!
 //! The bounds are on the table of legal steps itself, and so hold for every strategy. They are the termination argument
 //! of tableau calculi (Horrocks, Sattler and Tobies, "Practical Reasoning for Expressive Description Logics", 1999),
@@ -18,7 +19,7 @@
 //!   the greatest number of alternatives. Each step raises the number, a step back too.
 //!
 //! Two of the bounds are on the nodes that a trail has, and are close; they hold with individuals too. The one on all
-//! steps is beyond any budget, and says that no strategy runs for ever.
+//! steps is beyond any budget, and says that without individuals no strategy runs for ever.
 ghost use Rattle.search_laws.specs.ComputedClosure.{ClosureIsComputed, ClosureOfAxiomsIsComputed};
 ghost use Rattle.search_laws.specs.BoundLaws.{ConceptsAreInClosure, PathsAreShort, FewChildren, FewNodes, FewStepsAtFirst, FewMarks, FewSteps, LegalRunsAreBounded};
 

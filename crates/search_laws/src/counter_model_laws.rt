@@ -13,9 +13,9 @@
 //!   and in the interpretation. Were all nodes that one node blocks sent to one element, 'at least 2' would lose a
 //!   successor.
 //! - **A class** has the elements whose blocker, or itself where it is clear, has the name. **A role** has the edges of
-//!   the roles below it, and the chains of such edges for each transitive role below it. **An individual** is the element
-//!   that its node is one with: the first nodes are never blocked, so that each is one with an element that is like
-//!   itself. What axioms assert of individuals is so in the trail, and so true of these elements.
+//!   the roles below it, and the chains of such edges for each transitive role below it. **An individual** is the
+//!   element that its node is one with: the first nodes are never blocked, so that each is one with an element that is
+//!   like itself. What axioms assert of individuals is so in the trail, and so true of these elements.
 //! - **Truth** of what a label has goes by induction on how deep roles nest, and then on the numbers of the table. A
 //!   concept and the normal form of its complement nest equally deep, which 'at most' needs: it counts a successor
 //!   exactly where it chose that the successor is in the filler.

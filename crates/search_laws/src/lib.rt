@@ -1,7 +1,8 @@
 //! Laws of every search, whatever the order of its steps: what holds of trails that legal steps reach.
 //!
 //! - `trail_laws`: what bounds and counter-models both need of reached trails.
-//! - `bound_laws`: every legal search ends, and after how many steps.
+//! - `bound_laws`: how many nodes, marks and kept steps a trail has, and that where there are no individuals every
+//!   legal search ends, and after how many steps.
 //! - `counter_model_laws`: a saturated trail describes a finite interpretation that meets the axioms and refutes the
 //!   query.
 //! - `reuse_laws`: what the run of one search shows of other queries.

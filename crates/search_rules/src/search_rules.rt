@@ -118,8 +118,8 @@ impl<'a> SearchRules<'a> {
         }
     }
 
-    /// The node that a query asks of: that of the individual, or where it speaks of each element, the one after those of
-    /// all individuals. An individual that is not listed has none, and the answer is no first node then.
+    /// The node that a query asks of: that of the individual, or where it speaks of each element, the one after those
+    /// of all individuals. An individual that is not listed has none, and the answer is no first node then.
     pub fn node_in_question(&self, query: &Query) -> u32
         ensures { result ≡ node_in_question (length self.now.ontology.individuals) query.now.on }
     {

@@ -34,9 +34,9 @@ use Rattle.search_trace.specs.Laws.{IsTracedAt}
 use Rattle.search_state.specs.Marked.{marked_in}
 use Rattle.search_state.specs.Branchings.{AreMarks}
 
--- the query, the node in question, the numbers of what it asks, how many first nodes there are, the entries of the trail,
--- what is known of blocked nodes, the trace, the places of the trail's marks, latest first, a clash of the trail, if it has
--- a plain one, and how many steps were made
+-- the query, the node in question, the numbers of what it asks, how many first nodes there are, the entries of the
+-- trail, what is known of blocked nodes, the trace, the places of the trail's marks, latest first, a clash of the
+-- trail, if it has a plain one, and how many steps were made
 pub record ProgressLists : Type 0 where
   pub query : Query
   pub at : ℕ
@@ -64,8 +64,8 @@ asked_of w q at = record { theory = w.theory; sub = q.sub; sup = q.sup; first = 
 abbrev pub asked_by : SearchContext → ProgressLists → Question
 asked_by w s = asked_of w s.query s.at
 
--- the context has what a search for the query needs, the node in question is a first one, and the numbers are those of what
--- the query asks
+-- the context has what a search for the query needs, the node in question is a first one, and the numbers are those of
+-- what the query asks
 pub record IsAsked (w : SearchContext) (q : Query) (at sub not_sup : ℕ) : Type 0 where
   pub is_table : IsTable w.table
   pub is_choice : IsChoice w.theory w.table w.rows

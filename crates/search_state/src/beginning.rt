@@ -19,8 +19,8 @@ use step_agenda::{Agenda, Blocks, blocks_stay};
 use step_finders::{Clash, Rules};
 
 impl<'b, A: Allocator + Copy> Progress<'b, A> {
-    /// A search that begins, whose tree is in `alloc`. The query asks of the first node `at`, and the numbers are those of
-    /// what it asks.
+    /// A search that begins, whose tree is in `alloc`. The query asks of the first node `at`, and the numbers are those
+    /// of what it asks.
     ///
     /// # Errors
     ///

@@ -1,4 +1,5 @@
-//! Facts of all kinds come and go, over one first node or some, and the blocks are compared with those by a plain reading.
+//! Facts of all kinds come and go, over one first node or some, and the blocks are compared with those by a plain
+//! reading.
 ghost use Rattle.std.specs.Prelude.{OnOk};
 ghost use Rattle.completion_tree.specs.Trail.{facts_in};
 ghost use Rattle.blocking.specs.Followed.{IsCurrent};

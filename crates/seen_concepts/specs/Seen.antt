@@ -10,9 +10,9 @@ use Rattle.calculus_specs.specs.declared.facts.Fact.TheVariants.{Has, Edge, Apar
 use Rattle.tableau_specs.specs.declared.Item.{Item}
 use Rattle.search_laws.specs.Runs.{was_ever}
 
--- sets of classes: those that the node in question was given, and those whose complement bears on it: the complement was
--- given to some node, or is a part of a union that the node in question was given. Class numbers begin at 0 and members
--- at 1, so class a stands in a set as a + 1
+-- sets of classes: those that the node in question was given, and those whose complement bears on it: the complement
+-- was given to some node, or is a part of a union that the node in question was given. Class numbers begin at 0 and
+-- members at 1, so class a stands in a set as a + 1
 pub record SeenSets : Type 0 where
   pub at_node : Limited
   pub complements : Limited

@@ -147,8 +147,8 @@ impl<'a> Oracle<'a> {
     }
 
     /// The same as [`test`](Oracle::test), and hands out what the search shows of further classes where the query does
-    /// not follow. It shows some mostly where the query is whether anything is in a class expression, and none where it is
-    /// on an individual.
+    /// not follow. It shows some mostly where the query is whether anything is in a class expression, and none where it
+    /// is on an individual.
     ///
     /// # Errors
     /// Memory may be refused; the log is as before then.

@@ -115,8 +115,8 @@ impl Agenda {
     }
 
     /// A step that can be made whatever is blocked, where one is seen at the facts that were not looked at before:
-    /// given facts before all others; then concepts; then a part of a union of which at most one part does not clash at once; then whether two
-    /// successors are one, where there may be too many. Of each kind, the oldest.
+    /// given facts before all others; then concepts; then a part of a union of which at most one part does not clash at
+    /// once; then whether two successors are one, where there may be too many. Of each kind, the oldest.
     ///
     /// # Errors
     ///

@@ -17,8 +17,8 @@ AreItsConcepts s cs = IsClosure (question_of s) cs
 abbrev pub nodes_of : SearchState → ℕ
 nodes_of s = node_count_from (context_of s).first (facts_of (trail_of s))
 
--- while each mark stands at its first alternative: two steps more than there are concepts, for each node, and one for each
--- fact that the axioms give
+-- while each mark stands at its first alternative: two steps more than there are concepts, for each node, and one for
+-- each fact that the axioms give
 pub record HasFewSteps (s : SearchState) : Type 0 where
   pub few : (cs : List Concept) (facts : List (Fact Concept)) → AreItsConcepts s cs → HasFacts (question_of s) facts → AreAtFirst (trail_of s)
       → s.steps ≤ nodes_of s * (length cs + 2) + length facts

@@ -33,9 +33,9 @@ pub record IsProgressOf (s : SearchState) (p : ProgressLists) : Type 0 where
   pub not_sup : p.not_sup ≡ s.not_sup
   pub steps : p.steps ≡ s.steps
 
--- the ontology and the query are within the limits, the set is one of the ontology's axioms, the numbers are the query's,
--- and unless memory was refused the first nodes are those of the rules, the trail is reached by a run whose classes were
--- noted, the blocks that are known are those of the trail, and it can go on until the search has ended
+-- the ontology and the query are within the limits, the set is one of the ontology's axioms, the numbers are the
+-- query's, and unless memory was refused the first nodes are those of the rules, the trail is reached by a run whose
+-- classes were noted, the blocks that are known are those of the trail, and it can go on until the search has ended
 pub record IsKept (s : SearchState) (p : ProgressLists) : Type 0 where
   pub in_limit : IsInLimit s.rules.ontology s.query
   pub set : s.rules.set.limit ≡ length s.rules.ontology.axioms

@@ -15,9 +15,9 @@ use Rattle.search_rules.specs.RuleLists.{RuleLists, numbers_in, context_in}
 use Rattle.seen_concepts.specs.Runs.{IsRun}
 use Rattle.seen_concepts.specs.Seen.{SeenSets, AreOver, AreSeenIn}
 
--- the rules and the query, the numbers of what the query asks, how many first nodes there are, the entries of the trail,
--- what is known of blocked nodes, the classes with which its run had to do, how many steps were made, whether the search has ended, and whether
--- memory was refused: then nothing more is known of it
+-- the rules and the query, the numbers of what the query asks, how many first nodes there are, the entries of the
+-- trail, what is known of blocked nodes, the classes with which its run had to do, how many steps were made, whether
+-- the search has ended, and whether memory was refused: then nothing more is known of it
 pub record SearchState : Type 0 where
   pub rules : RuleLists
   pub query : Query

@@ -27,8 +27,8 @@ use Rattle.tableau.specs.SearchState.{SearchState, context_of, trail_of}
 
 -- ---- refutations
 
--- it is a valid refutation of the query over axioms of the set, which can be written; of the set it names the role axioms,
--- and those others alone that stand in its lines
+-- it is a valid refutation of the query over axioms of the set, which can be written; of the set it names the role
+-- axioms, and those others alone that stand in its lines
 pub record Refutes (rules : RuleLists) (query : Query) (r : RefutationLists) : Type 0 where
   pub limit : r.axioms.limit ≡ length rules.ontology.axioms
   pub named : IsPart r.axioms.members rules.set.members

@@ -3,8 +3,8 @@
 ghost use Rattle.text_laws.specs.WritingLaws.{WrittenOntologiesAreRead, DocumentsCanBeWritten, DocumentsAreReadAgain, EqualTextsSayTheSame, DocumentsKnowOwl, ClassTextsAreRead, QueryTextsAreRead};
 
 /// The canonical text of an ontology is a document (OWL 2 Structural Specification, section 3.7), which lists the same
-/// classes, roles and individuals in the same order, and the same axioms in the same order. The names of the ontology may
-/// stand in a document, and it is within the limits of documents.
+/// classes, roles and individuals in the same order, and the same axioms in the same order. The names of the ontology
+/// may stand in a document, and it is within the limits of documents.
 pub fn written_ontologies_are_read()
     ensures { WrittenOntologiesAreRead }
 {}
