@@ -1,5 +1,5 @@
 // A plain clash: one that a step makes, or any. It takes no memory.
-ghost use Rattle.std.specs.Prelude.{◌≡◌, ℕ, ◌<◌, ◌↔◌, true, false, MatchOption, IsTrue};
+ghost use Rattle.std.specs.Prelude.{◌≡◌, ℕ, ◌<◌, ◌↔◌, true, false, MatchOption, IsTrue, IfSome, IfOk, OnOk, IfErr};
 ghost use Rattle.std.specs.List.{All};
 ghost use Rattle.calculus_specs.specs.Shape.{shape_of};
 ghost use Rattle.calculus_specs.specs.Shape.Shape.{bottom};
@@ -164,19 +164,51 @@ fn find_at_node<S: State, R: Rules>(state: &S, rules: &R, node: u32, concept: u3
     }
 }
 
-// A clash by an 'at most' with this filler, at a node from which an axiom gives an edge to this one.
-fn find_into<S: State, R: Rules>(state: &S, rules: &R, node: u32, filler: u32) -> Option<Clash>
+// Looks for a clash by an 'at most' of the node with this filler, unless it is the node at which was looked last. Answers
+// the node at which was looked last, or the clash.
+fn look_at_begin<S: State, R: Rules>(
+    state: &S,
+    rules: &R,
+    node: u32,
+    filler: u32,
+    last: Option<u32>,
+) -> Result<Option<u32>, Clash>
     requires one_first { S.first state.now ≡ (R.context rules.now).first }
-    ensures { let w = R.context rules.now in let fs = S.facts state.now in
-        MatchOption result (NoneInto w fs filler node) (IsShown w fs) }
+    requires is_node { node < node_count_from (R.context rules.now).first (S.facts state.now) }
+    requires last { IfSome last (λ z. NoneOverrun (R.context rules.now) (S.facts state.now) z filler) }
+    ensures none { OnOk result (NoneOverrun (R.context rules.now) (S.facts state.now) node filler) }
+    ensures last { IfOk result (λ z. IfSome z (λ z. NoneOverrun (R.context rules.now) (S.facts state.now) z filler)) }
+    ensures clash { IfErr result (IsShown (R.context rules.now) (S.facts state.now)) }
 {
-    for edge in rules.given_into(node) {
-        match find_counting(state, rules, state.representative(edge.1), filler) {
-            Some(clash) => return Some(clash),
-            None => {}
-        }
+    if last == Some(node) {
+        return Ok(last);
     }
-    None
+    match find_counting(state, rules, node, filler) {
+        Some(clash) => Err(clash),
+        None => Ok(Some(node)),
+    }
+}
+
+// Looks for a clash by an 'at most' with this filler, at each node from which an axiom gives an edge to this one. Edges
+// that begin at one node mostly come one after the other, and it is looked at once for them.
+fn look_into<S: State, R: Rules>(
+    state: &S,
+    rules: &R,
+    node: u32,
+    filler: u32,
+    last: Option<u32>,
+) -> Result<Option<u32>, Clash>
+    requires one_first { S.first state.now ≡ (R.context rules.now).first }
+    requires last { IfSome last (λ z. NoneOverrun (R.context rules.now) (S.facts state.now) z filler) }
+    ensures none { OnOk result (NoneInto (R.context rules.now) (S.facts state.now) filler node) }
+    ensures last { IfOk result (λ z. IfSome z (λ z. NoneOverrun (R.context rules.now) (S.facts state.now) z filler)) }
+    ensures clash { IfErr result (IsShown (R.context rules.now) (S.facts state.now)) }
+{
+    let mut last = last;
+    for edge in rules.given_into(node) {
+        last = look_at_begin(state, rules, state.representative(edge.1), filler, last)?;
+    }
+    Ok(last)
 }
 
 // A clash by an 'at most' with this filler, at a node from which an axiom gives an edge to one of these.
@@ -190,10 +222,11 @@ fn find_into_any<S: State, R: Rules>(
     ensures { let w = R.context rules.now in let fs = S.facts state.now in
         MatchOption result (All (NoneInto w fs filler) nodes.now) (IsShown w fs) }
 {
+    let mut last = None;
     for node in nodes {
-        match find_into(state, rules, *node, filler) {
-            Some(clash) => return Some(clash),
-            None => {}
+        match look_into(state, rules, *node, filler, last) {
+            Ok(looked) => last = looked,
+            Err(clash) => return Some(clash),
         }
     }
     None
@@ -209,6 +242,9 @@ fn find_above<S: State, R: Rules>(state: &S, rules: &R, node: u32, concept: u32)
     ensures { let w = R.context rules.now in let fs = S.facts state.now in
         MatchOption result (NoneAbove w fs node concept) (IsShown w fs) }
 {
+    if rules.mosts(concept).is_empty() {
+        return None;
+    }
     match parent_of(state, rules, state.representative(node)) {
         Some(up) => find_counting(state, rules, state.representative(up), concept),
         None => find_into_any(state, rules, members_of(state, rules, node), concept),

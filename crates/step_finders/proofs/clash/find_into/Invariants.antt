@@ -1,7 +1,0 @@
-use Rattle.std.proofs.Common.{ℕ, ◌<◌, get_or}
-use Rattle.calculus_specs.specs.Joins.{rep}
-use Rattle.step_finders.specs.Clashing.{NoneOverrun}
-use Rattle.step_finders.proofs.clash.find_into.Given as goal
-
-abbrev pub invariant-loop-edge : goal.invariant-loop-edge
-invariant-loop-edge g l = (k : ℕ) (d : ℕ × ℕ) → k < l.edge-index → NoneOverrun (g.R.Rules.context l.rules) (g.S.State.facts l.state) (rep (g.S.State.facts l.state) (get_or l.edge-items k d).1) l.filler
