@@ -17,7 +17,7 @@ alone_judged (i ∷ is) (Ok x) s new ts judged = λ known. goes_on s new ts (not
 alone_judged (i ∷ is) (Err e) s new ts judged = λ known. stops s ts (nothing_tests (i ∷ is)) e (judged known)
 
 -- what is known of what was read is known of it alone
-alone_ok : {X : Type 0} (behind : List Item) (r : Result X Refusal) (P : X → Type 0) → IfOk r P → IfOk (read_alone behind r) P
+pub alone_ok : {X : Type 0} (behind : List Item) (r : Result X Refusal) (P : X → Type 0) → IfOk r P → IfOk (read_alone behind r) P
 alone_ok [] r P known = known
 alone_ok (i ∷ is) (Ok x) P known = tt
 alone_ok (i ∷ is) (Err e) P known = tt

@@ -11,3 +11,6 @@ pub mod Few
 pub mod Heads
 pub mod Faulty
 pub mod Simple
+pub mod StillSimple
+pub mod Added
+mod Examples

@@ -12,6 +12,7 @@ use Rattle.ofn_expressions.specs.declared.refusal.Refusal.TheVariants.{Text, Bad
 use Rattle.ofn_reader.specs.Texts.{text_fault, Fails, IsRefusedBy}
 use Rattle.ofn_reader.specs.Documents.{start, document_tests, IsNoDocument}
 use Rattle.ofn_reader.specs.Queries.{query_tests, class_query_tests, IsRefused, IsNoQuery, IsNoClass, long, refused}
+use Rattle.ofn_reader.specs.Additions.{addition_tests, IsNoAddition}
 use Rattle.ofn_reader.proofs.Unique.{some_same, same_items, no_fault}
 
 -- a fault of the text, or a test of its items
@@ -56,3 +57,6 @@ query_refusals ps axioms s text e f why because = one_reason (query_tests ps axi
 
 pub class_refusals : (ps : List Prefix) (axioms : List Numbered) (s : Counts) (text : List ℕ) (e f : Refusal) → IsNoClass ps axioms s text e → IsNoClass ps axioms s text f → e ≡ f
 class_refusals ps axioms s text e f why because = one_reason (class_query_tests ps axioms s (end_line text)) s text e f why because
+
+pub addition_refusals : (ps : List Prefix) (axioms : List Numbered) (s : Counts) (text : List ℕ) (e f : Refusal) → IsNoAddition ps axioms s text e → IsNoAddition ps axioms s text f → e ≡ f
+addition_refusals ps axioms s text e f why because = one_reason (addition_tests ps axioms s (end_line text)) s text e f why because

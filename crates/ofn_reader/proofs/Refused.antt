@@ -13,6 +13,8 @@ use Rattle.ofn_expressions.specs.Names.{Prefix}
 use Rattle.ofn_expressions.proofs.Walks.{walked-cons}
 use Rattle.ofn_reader.specs.Queries.{query_start, IsRefused, refused}
 use Rattle.ofn_reader.specs.Texts.{HasItems, IsRefusedBy}
+use Rattle.ofn_reader.specs.Held.{counts_of}
+use Rattle.ofn_reader.specs.Additions.{addition_tests, addition_walk, IsNoAddition}
 
 -- a test may be refused so
 abbrev is_of_test : Refusal → Bool
@@ -81,3 +83,12 @@ pub query_refused : {T : Type 0} (tests : List Prefix → List Numbered → Coun
     → IfErr r (λ e. e ≢ NoMemory → IsRefused (tests ps o.axioms (query_start o m) (end_line text)) (query_start o m) text e)
 query_refused tests o bytes text items own line n m ps qs r same_text short made same at same_prefixes same_nodes fails =
     subst (λ t. IfErr r (λ e. e ≢ NoMemory → IsRefused (tests ps o.axioms (query_start o m) (end_line t)) (query_start o m) t e)) same_text (query_fails tests o bytes items own made.0 line n m ps qs r short made.1 same at same_prefixes same_nodes fails)
+
+-- so is an axiom that is put into an ontology
+pub addition_refused : (o : Listed) (bytes text : List ℕ) (items own : List Item) (line : ℕ) (ps qs : List Prefix) (e : Refusal) → bytes ≡ text → length bytes ≤ 2 ^ 24 → (place : ℕ) × HasItems bytes items place → own ≡ items → line ≡ end_line bytes → qs ≡ ps
+    → (e ≢ NoMemory → addition_walk qs o line own ≡ Err e) → e ≢ NoMemory → IsNoAddition ps o.axioms (counts_of o) text e
+addition_refused o bytes text items own line ps qs e same_text short made same at same_prefixes fails =
+    let told : e ≢ NoMemory → walked (counts_of o) (addition_tests ps o.axioms (counts_of o) (end_line bytes) items) ≡ Err e =
+    (λ known. (λ i. walked (counts_of o) (addition_tests (sym same_prefixes i) o.axioms (counts_of o) (sym at i) (sym same i))) ∙ fails known) in
+    subst (λ t. e ≢ NoMemory → IsNoAddition ps o.axioms (counts_of o) t e) same_text
+    (λ known. refused e short (fails_refused (addition_tests ps o.axioms (counts_of o) (end_line bytes)) (counts_of o) bytes items made.0 e made.1 told known))

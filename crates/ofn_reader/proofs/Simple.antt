@@ -114,7 +114,7 @@ pub on_err : {X : Type 0} (r : Result X Refusal) (P : Type 0) → P → OnErr r 
 on_err (Ok x) P p = tt
 on_err (Err e) P p = p
 
-cut_back : (n : ℕ) (before grown known : List (List ℕ)) → n ≡ length known → before ≡ known → take (length before) grown ≡ before → take n grown ≡ known
+pub cut_back : (n : ℕ) (before grown known : List (List ℕ)) → n ≡ length known → before ≡ known → take (length before) grown ≡ before → take n grown ≡ known
 cut_back n before grown known count same front = ap (λ k. take k grown) (count ∙ sym (ap length same)) ∙ front ∙ same
 
 -- with the names alone that a document lists, all is as before a query was read

@@ -2,6 +2,7 @@
 use Rattle.std.proofs.Common.{◌≡◌, ℕ, List, [], ◌∷◌, Option, Some, None, Ok, Err, ap, sym, ◌∙◌, subst, arith}
 use Rattle.shq_terms.specs.Concept.{Concept}
 use Rattle.shq_terms.specs.Listed.{Listed}
+use Rattle.shq_terms.specs.declared.axioms.Axiom.{Axiom}
 use Rattle.shq_terms.specs.declared.axioms.Numbered.{Numbered}
 use Rattle.shq_terms.specs.declared.axioms.Query.{Query}
 use Rattle.ofn_tree.specs.Lexemes.{end_line}
@@ -18,6 +19,7 @@ use Rattle.ofn_reader.specs.DocumentContext.{DocumentContext}
 use Rattle.ofn_reader.specs.Texts.{tree_fault, fault_or_else, text_fault, HasItems, Fails, IsRefusedBy}
 use Rattle.ofn_reader.specs.Documents.{start, document_tests, document_axioms, document_prefixes, IsDocument, IsNoDocument}
 use Rattle.ofn_reader.specs.Queries.{query_tests, class_query_tests, first_query, first_class, IsQuery, IsClass, IsNoQuery, IsNoClass, long, refused}
+use Rattle.ofn_reader.specs.Additions.{addition_tests, first_axiom, IsAddition, IsNoAddition}
 use Rattle.ofn_reader.proofs.Faultless.{no_token_fault}
 
 pub some_same : {A : Type 0} (a b : A) → Some a ≡ Some b → a ≡ b
@@ -94,6 +96,13 @@ module _ (ps : List Prefix) (axioms : List Numbered) (s : Counts) (text : List �
       let pairs : c ∷ [] ≡ d ∷ [] = sym x.class ∙ (λ i. first_class ps (behind i) (same i)) ∙ y.class in
       (behind, cc pairs)
 
+  pub additions : (p q : Axiom) → IsAddition ps axioms s text a p → IsAddition ps axioms s text b q → (a ≡ b) × (p ≡ q)
+  additions p q x y =
+      let same = same_items text x.items y.items x.end y.end x.made y.made in
+      let behind = same_walk (addition_tests ps axioms s (end_line text)) s x.items y.items a b same x.holds y.holds in
+      let said : p ∷ [] ≡ q ∷ [] = sym x.says ∙ (λ i. first_axiom ps (behind i) (same i)) ∙ y.says in
+      (behind, cc said)
+
 pub queries_not_refused : (ps : List Prefix) (axioms : List Numbered) (s : Counts) (text : List ℕ) (a : Counts) (q : Query) (e : Refusal) → IsQuery ps axioms s text a q → IsNoQuery ps axioms s text e → ⊥
 queries_not_refused ps axioms s text a q _ x (long more) = let short = x.short in absurd (omega arith)
 queries_not_refused ps axioms s text a q _ x (refused e short why) = not_refused (query_tests ps axioms s (end_line text)) s text x.items x.end a x.made x.holds e why
@@ -101,3 +110,7 @@ queries_not_refused ps axioms s text a q _ x (refused e short why) = not_refused
 pub classes_not_refused : (ps : List Prefix) (axioms : List Numbered) (s : Counts) (text : List ℕ) (a : Counts) (c : Concept) (e : Refusal) → IsClass ps axioms s text a c → IsNoClass ps axioms s text e → ⊥
 classes_not_refused ps axioms s text a c _ x (long more) = let short = x.short in absurd (omega arith)
 classes_not_refused ps axioms s text a c _ x (refused e short why) = not_refused (class_query_tests ps axioms s (end_line text)) s text x.items x.end a x.made x.holds e why
+
+pub additions_not_refused : (ps : List Prefix) (axioms : List Numbered) (s : Counts) (text : List ℕ) (a : Counts) (p : Axiom) (e : Refusal) → IsAddition ps axioms s text a p → IsNoAddition ps axioms s text e → ⊥
+additions_not_refused ps axioms s text a p _ x (long more) = let short = x.short in absurd (omega arith)
+additions_not_refused ps axioms s text a p _ x (refused e short why) = not_refused (addition_tests ps axioms s (end_line text)) s text x.items x.end a x.made x.holds e why

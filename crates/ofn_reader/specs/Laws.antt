@@ -2,6 +2,7 @@
 use Rattle.std.specs.Prelude.{◌≡◌, ℕ, List}
 use Rattle.shq_terms.specs.Concept.{Concept}
 use Rattle.shq_terms.specs.Listed.{Listed}
+use Rattle.shq_terms.specs.declared.axioms.Axiom.{Axiom}
 use Rattle.shq_terms.specs.declared.axioms.Numbered.{Numbered}
 use Rattle.shq_terms.specs.declared.axioms.Query.{Query}
 use Rattle.ofn_expressions.specs.Counts.{Counts}
@@ -10,6 +11,7 @@ use Rattle.ofn_expressions.specs.declared.refusal.Refusal.{Refusal}
 use Rattle.ofn_reader.specs.DocumentContext.{DocumentContext}
 use Rattle.ofn_reader.specs.Documents.{IsDocument, IsNoDocument}
 use Rattle.ofn_reader.specs.Queries.{IsQuery, IsNoQuery, IsClass, IsNoClass}
+use Rattle.ofn_reader.specs.Additions.{IsAddition, IsNoAddition}
 
 -- the ontology of a document, what queries take over, and its end
 abbrev pub DocumentsAreUnique : Type 0
@@ -42,3 +44,13 @@ QueryRefusalsAreUnique = (ps : List Prefix) (axioms : List Numbered) (s : Counts
 
 abbrev pub ClassRefusalsAreUnique : Type 0
 ClassRefusalsAreUnique = (ps : List Prefix) (axioms : List Numbered) (s : Counts) (text : List ℕ) (e f : Refusal) → IsNoClass ps axioms s text e → IsNoClass ps axioms s text f → e ≡ f
+
+-- the counts after an axiom that is put into an ontology, and the axiom
+abbrev pub AdditionsAreUnique : Type 0
+AdditionsAreUnique = (ps : List Prefix) (axioms : List Numbered) (s : Counts) (text : List ℕ) (a b : Counts) (p q : Axiom) → IsAddition ps axioms s text a p → IsAddition ps axioms s text b q → (a ≡ b) × (p ≡ q)
+
+abbrev pub AdditionsAreNotRefused : Type 0
+AdditionsAreNotRefused = (ps : List Prefix) (axioms : List Numbered) (s : Counts) (text : List ℕ) (a : Counts) (p : Axiom) (e : Refusal) → IsAddition ps axioms s text a p → IsNoAddition ps axioms s text e → ⊥
+
+abbrev pub AdditionRefusalsAreUnique : Type 0
+AdditionRefusalsAreUnique = (ps : List Prefix) (axioms : List Numbered) (s : Counts) (text : List ℕ) (e f : Refusal) → IsNoAddition ps axioms s text e → IsNoAddition ps axioms s text f → e ≡ f

@@ -7,5 +7,8 @@ pub mod DocumentContext
 pub mod Texts
 pub mod Documents
 pub mod Queries
+pub mod Held
+pub mod SimpleRoles
+pub mod Additions
 pub mod Refusals
 pub mod Laws

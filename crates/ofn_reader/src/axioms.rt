@@ -1,8 +1,9 @@
 // The axioms of an ontology.
-ghost use Rattle.std.specs.Prelude.{◌≡◌, OnOk, length};
+ghost use Rattle.std.specs.Prelude.{◌≡◌, ◌<◌, ◌+◌, IfOk, OnOk, length};
 ghost use Rattle.ofn_tree.specs.Items.{items_of};
 ghost use Rattle.ofn_expressions.specs.Walk.{Tested};
-ghost use Rattle.ofn_reader.specs.Axioms.{numbered_tests, axiom_items_tests, axiom_tests, axioms_tests, axiom_in, axioms_in, AddsAxioms, AddsAxiomsLater, AddsGroup};
+ghost use Rattle.ofn_reader.specs.Axioms.{numbered_tests, axiom_items_tests, axiom_tests, axioms_tests, axiom_in, axioms_in, AddsAxioms, AddsAxiomsLater, AddsGroup, ItemsSay};
+ghost use Rattle.ofn_reader.specs.Additions.{ListsMore};
 ghost use Rattle.ofn_reader.specs.declared.keywords.AxiomKeyword.TheVariants as W;
 
 use crate::declarations::read_declaration;
@@ -12,7 +13,31 @@ use crate::operands::read_operands;
 use crate::parts::begin_axiom;
 use ofn_expressions::{Prefixes, Reading, Refusal};
 use ofn_tree::{Form, Tree};
+use shq_terms::{Axiom, MAX_AXIOMS};
 use std::alloc::Global;
+
+/// Counts a numbered axiom and reads it.
+///
+/// # Errors
+///
+/// What is wrong first, in the order of the tests, and `NoMemory`.
+pub(crate) fn read_operands_of(
+    alloc: Global,
+    kind: AxiomKind,
+    items: &[Tree<'_>],
+    line: u32,
+    prefixes: &Prefixes,
+    state: &mut Reading,
+) -> Result<Axiom, Refusal>
+    ensures tests { Tested result state.old (numbered_tests prefixes.now kind line (items_of items.now)) state.new }
+    ensures counted { OnOk result (state.new.counts.axioms ≡ state.old.counts.axioms + 1) }
+    ensures within { OnOk result (state.old.counts.axioms < MAX_AXIOMS) }
+    ensures more { ListsMore state.old state.new }
+    ensures value { IfOk result (ItemsSay prefixes.now state.new.counts kind items.now) }
+{
+    begin_axiom(kind, items.len(), line, state)?;
+    read_operands(alloc, kind, items, prefixes, state)
+}
 
 // Reads a numbered axiom and puts it last.
 fn read_numbered(
@@ -28,8 +53,7 @@ fn read_numbered(
     ensures whole { OnOk result (length state.new.read ≡ state.new.counts.axioms) }
     ensures value { OnOk result (AddsGroup prefixes.now state.old state.new (W.Numbered kind) line items.now) }
 {
-    begin_axiom(kind, items.len(), line, state)?;
-    let axiom = read_operands(alloc, kind, items, prefixes, state)?;
+    let axiom = read_operands_of(alloc, kind, items, line, prefixes, state)?;
     state.add_axiom(axiom, line)
 }
 

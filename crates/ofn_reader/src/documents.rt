@@ -52,6 +52,14 @@ impl Context {
     {
         self.nodes
     }
+
+    /// Goes on from another count of nodes.
+    pub(crate) fn set_nodes(&mut self, nodes: u32)
+        requires { nodes ≤ MAX_NODES }
+        ensures { self.new ≡ record self.old { nodes = nodes } }
+    {
+        self.nodes = nodes;
+    }
 }
 
 fn is_prefix_group(tree: &Tree<'_>) -> bool

@@ -1,5 +1,5 @@
 // A text says one thing at most, and is refused only where it says nothing.
-ghost use Rattle.ofn_reader.specs.Laws.{DocumentsAreUnique, DocumentsAreNotRefused, QueriesAreUnique, QueriesAreNotRefused, ClassesAreUnique, ClassesAreNotRefused, DocumentRefusalsAreUnique, QueryRefusalsAreUnique, ClassRefusalsAreUnique};
+ghost use Rattle.ofn_reader.specs.Laws.{DocumentsAreUnique, DocumentsAreNotRefused, QueriesAreUnique, QueriesAreNotRefused, ClassesAreUnique, ClassesAreNotRefused, DocumentRefusalsAreUnique, QueryRefusalsAreUnique, ClassRefusalsAreUnique, AdditionsAreUnique, AdditionsAreNotRefused, AdditionRefusalsAreUnique};
 
 /// A text is the document of one ontology at most, with one list of prefixes, one count of nodes and one end.
 pub fn documents_are_unique()
@@ -44,4 +44,19 @@ pub fn query_refusals_are_unique()
 /// A text is refused as a class expression that is asked about for one reason at most.
 pub fn class_refusals_are_unique()
     ensures { ClassRefusalsAreUnique }
+{}
+
+/// A text is one axiom at most that is put into an ontology, with one list of names after it.
+pub fn additions_are_unique()
+    ensures { AdditionsAreUnique }
+{}
+
+/// No text is such an axiom and refused.
+pub fn additions_are_not_refused()
+    ensures { AdditionsAreNotRefused }
+{}
+
+/// A text is refused as such an axiom for one reason at most.
+pub fn addition_refusals_are_unique()
+    ensures { AdditionRefusalsAreUnique }
 {}

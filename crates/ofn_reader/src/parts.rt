@@ -2,13 +2,14 @@
 ghost use Rattle.std.specs.Prelude.{◌≡◌, ◌≢◌, IfErr, ◌<◌, ◌≤◌, ◌+◌, ◌∷◌, [], OnOk, true};
 ghost use Rattle.ofn_expressions.specs.Walk.{Tested, parts};
 ghost use Rattle.ofn_reader.specs.Axioms.{axiom_fits, pair_count, parts_by_item_count, head_tests};
+ghost use Rattle.ofn_reader.specs.Additions.{CountsAlone};
 
 use crate::keywords::AxiomKind;
 use ofn_expressions::{Reading, Refusal};
 use shq_terms::MAX_AXIOMS;
 
-// More items than may have one part each.
-const MANY: usize = 1_000_000;
+/// More items than may have one part each.
+pub(crate) const MANY: usize = 1_000_000;
 
 fn fits(kind: AxiomKind, count: usize) -> bool
     ensures { result ≡ axiom_fits kind count }
@@ -41,7 +42,8 @@ fn pair_count(count: u64) -> u64
     count * (count - 1) / 2
 }
 
-fn parts_by_item_count(kind: AxiomKind, count: u64) -> u64
+/// How many parts an axiom of this kind has that is written with so many items.
+pub(crate) fn parts_by_item_count(kind: AxiomKind, count: u64) -> u64
     requires { count ≤ 1000000 }
     ensures { result ≡ parts_by_item_count kind count }
 {
@@ -67,6 +69,7 @@ fn count_parts(kind: AxiomKind, count: usize, line: u32, state: &mut Reading) ->
     ensures axioms { OnOk result (state.new.counts.axioms ≡ state.old.counts.axioms) }
     ensures takes_no_memory { IfErr result (λ e. e ≢ Refusal.NoMemory) }
     ensures read { state.new.read ≡ state.old.read }
+    ensures alone { CountsAlone state.old state.new }
 {
     state.count_parts(line, parts_by_item_count(kind, count.min(MANY) as u64))
 }
@@ -88,6 +91,7 @@ pub(crate) fn begin_axiom(
     ensures within { OnOk result (state.old.counts.axioms < MAX_AXIOMS) }
     ensures takes_no_memory { IfErr result (λ e. e ≢ Refusal.NoMemory) }
     ensures read { state.new.read ≡ state.old.read }
+    ensures alone { CountsAlone state.old state.new }
 {
     state.count_axiom(line)?;
     if !fits(kind, count) {

@@ -122,8 +122,12 @@ fn read_axiom_query(
     }
 }
 
-// The items of the text of a query.
-fn read_query_text(alloc: Global, text: &[u8]) -> Result<Vec<Tree<'_>>, Refusal>
+/// The items of the text of a query.
+///
+/// # Errors
+///
+/// The limit `Text`, the first fault of the text, and `NoMemory`.
+pub(crate) fn read_query_text(alloc: Global, text: &[u8]) -> Result<Vec<Tree<'_>>, Refusal>
     ensures short { OnOk result (length text.now ≤ 2 ^ 24) }
     ensures made { IfOk result (λ items. (end : ℕ) × HasItems text.now items.items end) }
     ensures refused { IfErr result (QueryTextIsRefused text.now) }
@@ -135,8 +139,8 @@ fn read_query_text(alloc: Global, text: &[u8]) -> Result<Vec<Tree<'_>>, Refusal>
     Ok(items)
 }
 
-// What was read, unless something stands after it.
-fn alone<T: Drop>(read: Result<T, Refusal>, behind: &[Tree<'_>]) -> Result<T, Refusal>
+/// What was read, unless something stands after it.
+pub(crate) fn alone<T: Drop>(read: Result<T, Refusal>, behind: &[Tree<'_>]) -> Result<T, Refusal>
     ensures { result ≡ read_alone behind.now read }
 {
     if behind.is_empty() {
@@ -190,7 +194,8 @@ fn read_class_items(
     alone(class, items.split_at(1).1)
 }
 
-fn first_line(items: &[Tree<'_>], end_line: u32) -> u32
+/// The line of the first item, or that of the end.
+pub(crate) fn first_line(items: &[Tree<'_>], end_line: u32) -> u32
     ensures { result ≡ first_line end_line items.now }
 {
     match items.first() {
@@ -199,8 +204,8 @@ fn first_line(items: &[Tree<'_>], end_line: u32) -> u32
     }
 }
 
-// What was read, if the roles that it counts are simple.
-fn if_simple<T: Drop>(
+/// What was read, if the roles that it counts are simple.
+pub(crate) fn if_simple<T: Drop>(
     read: T,
     simple: Result<bool, shq_terms::NoMemory>,
     line: u32,
