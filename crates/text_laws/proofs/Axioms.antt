@@ -19,7 +19,8 @@ use Rattle.ofn_expressions.specs.declared.refusal.Refusal.{Refusal}
 use Rattle.ofn_expressions.proofs.Walks.{goes_on}
 use Rattle.ofn_reader.specs.Groups.{is_annotation, without_annotations}
 use Rattle.ofn_reader.specs.Axioms.{pair_count, axiom_tests, axiom_in, numbered_at}
-use Rattle.text_laws.specs.Writable.{expressions, all_expressions, is_named, axiom_expressions}
+use Rattle.ofn_reader.specs.Held.{expressions, all_expressions, axiom_expressions}
+use Rattle.text_laws.specs.Writable.{is_named}
 use Rattle.text_laws.specs.WritingLaws.{KnowsOwl}
 use Rattle.text_laws.proofs.Whole.{is_whole, are_whole, has_whole_items, has_item_count, is_whole_axiom, counted_parts}
 use Rattle.text_laws.proofs.Checks.{le_true, true_lt, true_le, no_more}

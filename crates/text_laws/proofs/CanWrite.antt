@@ -1,6 +1,6 @@
 -- What a document says can be written.
-use Rattle.std.proofs.Common.{◌≡◌, ℕ, zero, suc, ◌≤◌, Bool, true, false, cond, List, [], ◌∷◌, drop, Ok, refl, ap, sym, ◌∙◌, subst, arith, codes}
-use Rattle.std.specs.Prelude.{nat_eq, is_some}
+use Rattle.std.proofs.Common.{◌≡◌, ℕ, zero, suc, ◌≤◌, Bool, true, false, cond, List, [], ◌∷◌, length, drop, Ok, refl, ap, sym, ◌∙◌, subst, arith, codes}
+use Rattle.std.specs.Prelude.{nat_eq, is_some, min}
 use Rattle.std.specs.List.{list_all, prefix_len}
 use Rattle.shq_terms.specs.Listed.{Listed}
 use Rattle.shq_terms.specs.Distinct.{AreDistinct}
@@ -19,10 +19,11 @@ use Rattle.ofn_reader.specs.Prefixes.{declared_name, is_equals, declared_iri, or
 use Rattle.ofn_reader.specs.Axioms.{axioms_tests}
 use Rattle.ofn_reader.specs.Documents.{start, form_tests, all_simple_tests, is_prefix_group, prefix_groups, behind_prefixes, document_prefixes, ontology_tests, ontology_axioms, document_axioms, IsDocument}
 use Rattle.ofn_reader.specs.Queries.{query_start}
+use Rattle.ofn_reader.specs.Held.{expression_count, parts_held, counts_of}
 use Rattle.ofn_writer.specs.Canonical.{ontology_text}
 use Rattle.text_laws.specs.Writable.{CanBeWritten}
 use Rattle.text_laws.specs.WritingLaws.{IsDocumentOf}
-use Rattle.text_laws.proofs.Whole.{limits_from_whole, part_total, expression_total}
+use Rattle.text_laws.proofs.Whole.{limits_from_whole, part_total, held_total, expression_total}
 use Rattle.text_laws.proofs.GoodTokens.{IsGoodItem, AreGoodItems, tokens_good, tree_good}
 use Rattle.text_laws.proofs.GoodNames.{AreGoodPrefixes, predeclared_good, prefixes_good, front_items_good, rest_items_good}
 use Rattle.text_laws.proofs.Counting.{held, Both, both, nothing_held, walked_after, never, IsWithin}
@@ -79,14 +80,14 @@ inner_flat (literal_item n) good deep = record { good = tt; nested = omega arith
 inner_flat (sign_item k n) good deep = record { good = tt; nested = omega arith }
 inner_flat (group_item h is n) good deep = record { good = good; nested = omega (arith, deep) }
 
-ontology_read : (ps : List Prefix) (prefixes : AreGoodPrefixes ps) (f : Counts) (end : ℕ) (is : List Item) → AreGoodItems (items_of is) → nesting_all (items_of is) ≤ 64 → (s new : Counts) → walked s (ontology_tests ps end is) ≡ Ok new → Keeps new f
-    → AreSaid ps prefixes f s new (ontology_axioms ps f is)
-ontology_read ps prefixes f end [] good deep s new h keeps = absurd (never s new (shape end false) [] refl h)
-ontology_read ps prefixes f end (i ∷ is) good deep s new h keeps =
+ontology_read : (ps : List Prefix) (f : Counts) (end : ℕ) (is : List Item) → AreGoodItems (items_of is) → nesting_all (items_of is) ≤ 64 → (s new : Counts) → walked s (ontology_tests ps end is) ≡ Ok new → Keeps new f
+    → AreSaid ps f 62 s new (ontology_axioms ps f is)
+ontology_read ps f end [] good deep s new h keeps = absurd (never s new (shape end false) [] refl h)
+ontology_read ps f end (i ∷ is) good deep s new h keeps =
     let inner : Items = axiom_items (inner_items i) in
     let form = held s (shape (item_line i) (is_group (codes "Ontology") i)) (axioms_tests ps inner) new h in
     let flat : AreFlat inner = behind_flat (behind_name (inner_items i)) (behind_flat (inner_items i) (inner_flat i good.0 (omega (arith, deep)))) in
-    axioms_read ps prefixes f inner flat.good flat.nested s new form.later keeps
+    axioms_read ps f 62 inner flat.good flat.nested s new form.later keeps
 
 -- ---- the document
 
@@ -138,18 +139,18 @@ module _ (text : List ℕ) (o : Listed) (kept : DocumentContext) (end : ℕ) (d 
       let counts_are : after_all start form ≡ d.behind = walked_after start form d.behind form_holds in
       subst (λ s. list_all (counts_simple (all_role_axioms (document_axioms predeclared s d.items))) (document_axioms predeclared s d.items) ≡ true) counts_are simple_part.1
 
-  said : AreSaid (document_prefixes predeclared d.items) prefixes_are d.behind start d.behind (document_axioms predeclared d.behind d.items)
+  said : AreSaid (document_prefixes predeclared d.items) d.behind 62 start d.behind (document_axioms predeclared d.behind d.items)
   said =
       let ps : List Prefix = document_prefixes predeclared d.items in
       let rest : List Item = behind_prefixes d.items in
       let b = both start (prefixes_tests predeclared (prefix_groups d.items)) (ontology_tests ps (end_line text) rest) d.behind form_holds in
       let stays : start ≡ b.mid = prefixes_stay predeclared (prefix_groups d.items) start b.mid b.first in
       let second : walked start (ontology_tests ps (end_line text) rest) ≡ Ok d.behind = ap (λ s. walked s (ontology_tests ps (end_line text) rest)) stays ∙ b.second in
-      ontology_read ps prefixes_are d.behind (end_line text) rest (rest_items_good (prefix_len is_prefix_group d.items) d.items items_good)
+      ontology_read ps d.behind (end_line text) rest (rest_items_good (prefix_len is_prefix_group d.items) d.items items_good)
       (omega (arith, rest_nests (prefix_len is_prefix_group d.items) d.items, d.made.tree.nested)) start d.behind second (keeps_all d.behind)
 
   within : IsWithin d.behind
-  within = said.rises.within start_within
+  within = said.rises.within prefixes_are start_within
 
   written : CanBeWritten (record { axioms = document_axioms predeclared d.behind d.items; classes = d.behind.classes; roles = d.behind.roles; individuals = d.behind.individuals })
   written =
@@ -177,6 +178,20 @@ module _ (text : List ℕ) (o : Listed) (kept : DocumentContext) (end : ℕ) (d 
         nested = said.nested;
         few_expressions = omega (arith, within.few_nodes, said.rises.nodes, expression_total axioms);
       }
+
+  -- what was counted is what a later reader counts
+  counted : d.behind ≡ counts_of (record { axioms = document_axioms predeclared d.behind d.items; classes = d.behind.classes; roles = d.behind.roles; individuals = d.behind.individuals })
+  counted =
+      let axioms : List Numbered = document_axioms predeclared d.behind d.items in
+      let number : d.behind.axioms ≡ length axioms = omega (arith, said.rises.axioms) in
+      let parts_are : d.behind.parts ≡ min (parts_held axioms) 500000 = omega (arith, within.few_parts, said.rises.parts, held_total axioms) in
+      let nodes_are : d.behind.nodes ≡ min (expression_count axioms) 262144 = omega (arith, within.few_nodes, said.rises.nodes, expression_total axioms) in
+      λ i. record { axioms = number i; parts = parts_are i; nodes = nodes_are i; classes = d.behind.classes; roles = d.behind.roles; individuals = d.behind.individuals }
+
+  pub document_counted : (d.behind ≡ counts_of o) × (kept.nodes ≡ (counts_of o).nodes)
+  document_counted =
+      let all : d.behind ≡ counts_of o = counted ∙ ap counts_of (sym d.listed) in
+      (all, ap (λ (k : DocumentContext). k.nodes) d.takes ∙ ap (λ (s : Counts). s.nodes) all)
 
   pub can_be_written : CanBeWritten o
   can_be_written = subst CanBeWritten (sym d.listed) written

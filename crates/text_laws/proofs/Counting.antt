@@ -9,12 +9,14 @@ use Rattle.shq_terms.specs.Distinct.{AreDistinct}
 use Rattle.shq_terms.proofs.Distinct.{pushed_distinct}
 use Rattle.ofn_expressions.specs.Counts.{Counts}
 use Rattle.ofn_expressions.specs.Walk.{Test, numbered, parts, nodes, class, role, individual, holds, refusal, counts_after, after_all, outcomes, first_failing, verdict, walked}
+use Rattle.ofn_expressions.specs.Names.{Prefix}
 use Rattle.ofn_expressions.specs.Classes.{Keeps}
 use Rattle.ofn_expressions.specs.declared.refusal.Refusal.{Refusal}
 use Rattle.ofn_expressions.proofs.Walks.{walked-cons, walked_append, then}
 use Rattle.ofn_expressions.proofs.Kept.{keeps_keeps, walked_keeps}
 use Rattle.text_laws.specs.Writable.{is_iri, is_class_iri, is_role_iri}
 use Rattle.text_laws.proofs.Checks.{true_le}
+use Rattle.text_laws.proofs.GoodNames.{AreGoodPrefixes}
 
 -- ---- lists of tests that hold
 
@@ -190,46 +192,46 @@ parts_within s n k h within = record {
 
 -- ---- how far the counts rise
 
--- by so many axioms, parts and nodes
-pub record Rises (s new : Counts) (x p n : ℕ) : Type 0 where
+-- by so many axioms, parts and nodes; where the prefixes stand for IRIs, so do the names that are listed
+pub record Rises (ps : List Prefix) (s new : Counts) (x p n : ℕ) : Type 0 where
   pub axioms : new.axioms ≡ s.axioms + x
   pub parts : new.parts ≡ s.parts + p
   pub nodes : new.nodes ≡ s.nodes + n
-  pub within : IsWithin s → IsWithin new
+  pub within : AreGoodPrefixes ps → IsWithin s → IsWithin new
 
-pub rises_not : (s : Counts) → Rises s s 0 0 0
-rises_not s = record { axioms = omega arith; parts = omega arith; nodes = omega arith; within = λ h. h }
+pub rises_not : (ps : List Prefix) (s : Counts) → Rises ps s s 0 0 0
+rises_not ps s = record { axioms = omega arith; parts = omega arith; nodes = omega arith; within = λ prefixes h. h }
 
-pub rises_both : (s mid new : Counts) (x p n y q m : ℕ) → Rises s mid x p n → Rises mid new y q m → Rises s new (x + y) (p + q) (n + m)
-rises_both s mid new x p n y q m first second = record {
+pub rises_both : (ps : List Prefix) (s mid new : Counts) (x p n y q m : ℕ) → Rises ps s mid x p n → Rises ps mid new y q m → Rises ps s new (x + y) (p + q) (n + m)
+rises_both ps s mid new x p n y q m first second = record {
   axioms = omega (arith, first.axioms, second.axioms);
   parts = omega (arith, first.parts, second.parts);
   nodes = omega (arith, first.nodes, second.nodes);
-  within = λ h. second.within (first.within h);
+  within = λ prefixes h. second.within prefixes (first.within prefixes h);
 }
 
-pub rises_as : (s new : Counts) (x p n y q m : ℕ) → x ≡ y → p ≡ q → n ≡ m → Rises s new x p n → Rises s new y q m
-rises_as s new x p n y q m a b c rises = record {
+pub rises_as : (ps : List Prefix) (s new : Counts) (x p n y q m : ℕ) → x ≡ y → p ≡ q → n ≡ m → Rises ps s new x p n → Rises ps s new y q m
+rises_as ps s new x p n y q m a b c rises = record {
   axioms = omega (arith, a, rises.axioms);
   parts = omega (arith, b, rises.parts);
   nodes = omega (arith, c, rises.nodes);
   within = rises.within;
 }
 
-pub rises_nodes : (s : Counts) (n k : ℕ) → holds s (nodes n k) ≡ true → Rises s (counts_after s (nodes n k)) 0 0 k
-rises_nodes s n k h = record { axioms = omega arith; parts = omega arith; nodes = refl; within = nodes_within s n k h }
+pub rises_nodes : (ps : List Prefix) (s : Counts) (n k : ℕ) → holds s (nodes n k) ≡ true → Rises ps s (counts_after s (nodes n k)) 0 0 k
+rises_nodes ps s n k h = record { axioms = omega arith; parts = omega arith; nodes = refl; within = λ prefixes. nodes_within s n k h }
 
-pub rises_class : (s : Counts) (n : ℕ) (w : List ℕ) → holds s (class n w) ≡ true → is_class_iri w ≡ true → Rises s (counts_after s (class n w)) 0 0 0
-rises_class s n w h good = record { axioms = omega arith; parts = omega arith; nodes = omega arith; within = class_within s n w h good }
+pub rises_class : (ps : List Prefix) (s : Counts) (n : ℕ) (w : List ℕ) → holds s (class n w) ≡ true → (AreGoodPrefixes ps → is_class_iri w ≡ true) → Rises ps s (counts_after s (class n w)) 0 0 0
+rises_class ps s n w h good = record { axioms = omega arith; parts = omega arith; nodes = omega arith; within = λ prefixes. class_within s n w h (good prefixes) }
 
-pub rises_role : (s : Counts) (n : ℕ) (w : List ℕ) → holds s (role n w) ≡ true → is_role_iri w ≡ true → Rises s (counts_after s (role n w)) 0 0 0
-rises_role s n w h good = record { axioms = omega arith; parts = omega arith; nodes = omega arith; within = role_within s n w h good }
+pub rises_role : (ps : List Prefix) (s : Counts) (n : ℕ) (w : List ℕ) → holds s (role n w) ≡ true → (AreGoodPrefixes ps → is_role_iri w ≡ true) → Rises ps s (counts_after s (role n w)) 0 0 0
+rises_role ps s n w h good = record { axioms = omega arith; parts = omega arith; nodes = omega arith; within = λ prefixes. role_within s n w h (good prefixes) }
 
-pub rises_individual : (s : Counts) (n : ℕ) (w : List ℕ) → holds s (individual n w) ≡ true → is_iri w ≡ true → Rises s (counts_after s (individual n w)) 0 0 0
-rises_individual s n w h good = record { axioms = omega arith; parts = omega arith; nodes = omega arith; within = individual_within s n w h good }
+pub rises_individual : (ps : List Prefix) (s : Counts) (n : ℕ) (w : List ℕ) → holds s (individual n w) ≡ true → (AreGoodPrefixes ps → is_iri w ≡ true) → Rises ps s (counts_after s (individual n w)) 0 0 0
+rises_individual ps s n w h good = record { axioms = omega arith; parts = omega arith; nodes = omega arith; within = λ prefixes. individual_within s n w h (good prefixes) }
 
-pub rises_numbered : (s : Counts) (n : ℕ) → holds s (numbered n) ≡ true → Rises s (counts_after s (numbered n)) 1 0 0
-rises_numbered s n h = record { axioms = refl; parts = omega arith; nodes = omega arith; within = numbered_within s n h }
+pub rises_numbered : (ps : List Prefix) (s : Counts) (n : ℕ) → holds s (numbered n) ≡ true → Rises ps s (counts_after s (numbered n)) 1 0 0
+rises_numbered ps s n h = record { axioms = refl; parts = omega arith; nodes = omega arith; within = λ prefixes. numbered_within s n h }
 
-pub rises_parts : (s : Counts) (n k : ℕ) → holds s (parts n k) ≡ true → Rises s (counts_after s (parts n k)) 0 k 0
-rises_parts s n k h = record { axioms = omega arith; parts = refl; nodes = omega arith; within = parts_within s n k h }
+pub rises_parts : (ps : List Prefix) (s : Counts) (n k : ℕ) → holds s (parts n k) ≡ true → Rises ps s (counts_after s (parts n k)) 0 k 0
+rises_parts ps s n k h = record { axioms = omega arith; parts = refl; nodes = omega arith; within = λ prefixes. parts_within s n k h }

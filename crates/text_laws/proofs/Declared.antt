@@ -20,7 +20,8 @@ use Rattle.ofn_expressions.specs.Individuals.{individual_tests}
 use Rattle.ofn_expressions.specs.declared.construct.Construct.{Construct}
 use Rattle.ofn_expressions.proofs.Walks.{goes_on}
 use Rattle.ofn_reader.specs.Axioms.{axiom_tests, axioms_tests, axioms_in}
-use Rattle.text_laws.specs.Writable.{is_iri, is_class_iri, is_role_iri, axiom_expressions}
+use Rattle.ofn_reader.specs.Held.{axiom_expressions}
+use Rattle.text_laws.specs.Writable.{is_iri, is_class_iri, is_role_iri}
 use Rattle.text_laws.proofs.Whole.{is_whole_axiom, counted_parts, total}
 use Rattle.text_laws.specs.WritingLaws.{axioms_of}
 use Rattle.text_laws.proofs.Checks.{le_true, no_more, one_further}

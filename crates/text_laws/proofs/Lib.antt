@@ -27,6 +27,7 @@ pub mod Simple
 pub mod Names
 pub mod Queries
 pub mod InLimit
+pub mod Additions
 pub mod TextsBehind
 pub mod LastBracket
 pub mod LongerDocuments

@@ -1,15 +1,19 @@
--- Lists of names that keep their places are no shorter.
-use Rattle.std.proofs.Common.{◌≡◌, ℕ, ◌≤◌, List, [], ◌∷◌, length, get_or, Some, arith}
-use Rattle.shq_terms.specs.Distinct.{AreDistinct}
-use Rattle.ofn_expressions.specs.Classes.{place}
-use Rattle.ofn_expressions.proofs.Kept.{place_within}
-use Rattle.text_laws.proofs.Checks.{true_lt}
-use Rattle.text_laws.proofs.Places.{own_place}
+-- Lists of names of which one stands in front of the other.
+use Rattle.std.proofs.Common.{◌≡◌, ◌≤◌, List, [], ◌∷◌, length, take, refl, ◌∙◌, arith}
 
-pub no_shorter : (old new : List (List ℕ)) → AreDistinct old → ((w : List ℕ) (k : ℕ) → place w old ≡ Some k → place w new ≡ Some k) → length old ≤ length new
-no_shorter [] new distinct keeps = omega arith
-no_shorter (v ∷ vs) new distinct keeps =
-    let last : ℕ = length vs in
-    let w : List ℕ = get_or (v ∷ vs) last [] in
-    let there = place_within w new last (keeps w last (own_place (v ∷ vs) last distinct (omega arith))) in
-    omega (arith, true_lt last (length new) there)
+pub front : {A : Type 0} (xs ys zs : List A) → take (length xs) ys ≡ xs → take (length ys) zs ≡ ys → take (length xs) zs ≡ xs
+front [] ys zs a b = refl
+front (x ∷ xs) [] zs a b = let clash : [] ≡ x ∷ xs = a in absurd (cc clash)
+front (x ∷ xs) (y ∷ ys) [] a b = let clash : [] ≡ y ∷ ys = b in absurd (cc clash)
+front (x ∷ xs) (y ∷ ys) (z ∷ zs) a b =
+    let head_a : y ≡ x = cc a in
+    let tail_a : take (length xs) ys ≡ xs = cc a in
+    let head_b : z ≡ y = cc b in
+    let tail_b : take (length ys) zs ≡ ys = cc b in
+    let rest : take (length xs) zs ≡ xs = front xs ys zs tail_a tail_b in
+    λ i. (head_b ∙ head_a) i ∷ rest i
+
+pub no_longer : {A : Type 0} (xs ys : List A) → take (length xs) ys ≡ xs → length xs ≤ length ys
+no_longer [] ys first = omega arith
+no_longer (x ∷ xs) [] first = let clash : [] ≡ x ∷ xs = first in absurd (cc clash)
+no_longer (x ∷ xs) (y ∷ ys) first = let rest : take (length xs) ys ≡ xs = cc first in omega (arith, no_longer xs ys rest)

@@ -27,7 +27,8 @@ use Rattle.ofn_reader.specs.Groups.{axiom_items}
 use Rattle.ofn_reader.specs.Axioms.{axioms_tests, axioms_in}
 use Rattle.ofn_reader.specs.Documents.{start, form_tests, all_simple_tests, document_tests, document_axioms}
 use Rattle.ofn_writer.specs.Canonical.{ontology_text}
-use Rattle.text_laws.specs.Writable.{is_iri, is_class_iri, is_role_iri, axiom_expressions, CanBeWritten}
+use Rattle.ofn_reader.specs.Held.{axiom_expressions}
+use Rattle.text_laws.specs.Writable.{is_iri, is_class_iri, is_role_iri, CanBeWritten}
 use Rattle.text_laws.proofs.Whole.{counted_parts, total, whole_of, part_total, expression_total}
 use Rattle.text_laws.specs.WritingLaws.{axioms_of, IsDocumentOf}
 use Rattle.text_laws.proofs.Checks.{all_at}

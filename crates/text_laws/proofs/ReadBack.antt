@@ -24,7 +24,8 @@ use Rattle.ofn_reader.specs.Keywords.{axiom_keyword}
 use Rattle.ofn_reader.specs.Axioms.{class_and_individual_tests}
 use Rattle.ofn_reader.specs.Queries.{axiom_query_tests, class_form_tests, query_form_tests, first_query, counted_by_first, class_query_tests, query_tests, query_in, pair_in, member_in, roles_test, query_start, IsClass, IsQuery}
 use Rattle.ofn_writer.specs.Canonical.{axiom_text}
-use Rattle.text_laws.specs.Writable.{brackets, axiom_brackets, expressions, axiom_expressions, CanBeWritten}
+use Rattle.ofn_reader.specs.Held.{expressions, axiom_expressions}
+use Rattle.text_laws.specs.Writable.{brackets, axiom_brackets, CanBeWritten}
 use Rattle.text_laws.specs.WritingLaws.{KnowsOwl, axiom_on, HasAxiomOn, ClassTextsAreRead, QueryTextsAreRead}
 use Rattle.text_laws.proofs.Whole.{is_whole, whole_is}
 use Rattle.text_laws.proofs.Phrases.{Phrase, text_of, item_of}

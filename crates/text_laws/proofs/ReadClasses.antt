@@ -21,7 +21,8 @@ use Rattle.ofn_expressions.specs.Individuals.{anonymous_tests, individual_name_t
 use Rattle.ofn_expressions.specs.declared.construct.Construct.{Construct}
 use Rattle.ofn_expressions.specs.declared.construct.Construct.TheVariants.{AnonymousIndividual}
 use Rattle.ofn_expressions.proofs.Kept.{place_listed, place_within}
-use Rattle.text_laws.specs.Writable.{is_iri, is_class_iri, is_role_iri, brackets, most_brackets, expressions, all_expressions, is_named}
+use Rattle.ofn_reader.specs.Held.{expressions, all_expressions}
+use Rattle.text_laws.specs.Writable.{is_iri, is_class_iri, is_role_iri, brackets, most_brackets, is_named}
 use Rattle.text_laws.proofs.Whole.{is_whole, are_whole}
 use Rattle.text_laws.proofs.Checks.{true_le, le_true, eq_true}
 use Rattle.text_laws.proofs.Keywords as keywords
@@ -33,7 +34,7 @@ use Rattle.text_laws.proofs.Words.{NoClass, class_words}
 good_is_iri : (w : List ℕ) → IsGoodIri w → is_iri w ≡ true
 good_is_iri w good = and_from (is_utf8 w) (list_all is_iri_byte w) (is_utf8-from_IsUtf8 w good.utf8) good.bytes
 
-module _ (ps : List Prefix) (prefixes : AreGoodPrefixes ps) (f : Counts) where
+module _ (ps : List Prefix) (f : Counts) where
   -- ---- names
 
   pub names_pass : (i : Item) (s new : Counts) (ts : List Test) → walked s (name_tests ps i ++ ts) ≡ Ok new → walked s ts ≡ Ok new
@@ -46,7 +47,7 @@ module _ (ps : List Prefix) (prefixes : AreGoodPrefixes ps) (f : Counts) where
   names_pass (group_item w is n) s new ts h = absurd (never s new (shape n false) ts refl h)
 
   pub record IsRole (s new : Counts) (r : ℕ) : Type 0 where
-    pub rises : Rises s new 0 0 0
+    pub rises : Rises ps s new 0 0 0
     pub listed : nat_lt r (length f.roles) ≡ true
 
   role_found : (w : List ℕ) (s : Counts) → Keeps (record s { roles = with_name s.roles w }) f → nat_lt (role_named f w) (length f.roles) ≡ true
@@ -54,21 +55,21 @@ module _ (ps : List Prefix) (prefixes : AreGoodPrefixes ps) (f : Counts) where
       let there : place w f.roles ≡ Some (number_of s.roles w) = keeps.roles w (number_of s.roles w) (place_listed w s.roles) in
       ap (λ r. nat_lt (or_zero r) (length f.roles)) there ∙ place_within w f.roles (number_of s.roles w) there
 
-  role_by : (w : List ℕ) (n : ℕ) (s new : Counts) → IsGoodIri w → (e : Option Construct) → excluded_role_name w ≡ e → walked s (listed_role e n w) ≡ Ok new → Keeps new f → IsRole s new (role_named f w)
+  role_by : (w : List ℕ) (n : ℕ) (s new : Counts) → (AreGoodPrefixes ps → IsGoodIri w) → (e : Option Construct) → excluded_role_name w ≡ e → walked s (listed_role e n w) ≡ Ok new → Keeps new f → IsRole s new (role_named f w)
   role_by w n s new good (Some c) is h keeps = absurd (never s new (outside n c) [] refl h)
   role_by w n s new good None is h keeps =
       let test = held s (role n w) [] new h in
       let there : counts_after s (role n w) ≡ new = nothing_held (counts_after s (role n w)) new test.later in
-      let is_role : is_role_iri w ≡ true = and_from (is_iri w) (is_none (excluded_role_name w)) (good_is_iri w good) (ap is_none is) in
+      let is_role : AreGoodPrefixes ps → is_role_iri w ≡ true = (λ prefixes. and_from (is_iri w) (is_none (excluded_role_name w)) (good_is_iri w (good prefixes)) (ap is_none is)) in
       record {
-        rises = subst (λ t. Rises s t 0 0 0) there (rises_role s n w test.now is_role);
+        rises = subst (λ t. Rises ps s t 0 0 0) there (rises_role ps s n w test.now is_role);
         listed = role_found w s (subst (λ t. Keeps t f) (sym there) keeps);
       }
 
   role_name_read : (i : Item) (s new : Counts) → IsGoodItem i → walked s (role_name_tests ps i) ≡ Ok new → Keeps new f → IsRole s new (role_of ps f i)
   role_name_read i s new good h keeps =
       let w : List ℕ = iri_of ps i in
-      role_by w (item_line i) s new (iri_good ps i prefixes good) (excluded_role_name w) refl (names_pass i s new (listed_role (excluded_role_name w) (item_line i) w) h) keeps
+      role_by w (item_line i) s new (λ prefixes. iri_good ps i prefixes good) (excluded_role_name w) refl (names_pass i s new (listed_role (excluded_role_name w) (item_line i) w) h) keeps
 
   no_role_group : (e : Option Construct) (n : ℕ) (s new : Counts) → walked s (role_group_tests e n) ≡ Ok new → ⊥
   no_role_group (Some c) n s new h = never s new (outside n c) [] refl h
@@ -83,23 +84,23 @@ module _ (ps : List Prefix) (prefixes : AreGoodPrefixes ps) (f : Counts) where
   role_read (group_item (Some w) is n) s new good h keeps = absurd (no_role_group (excluded_role w) n s new h)
 
   pub record AreRoles (s new : Counts) (rs : List ℕ) : Type 0 where
-    pub rises : Rises s new 0 0 0
+    pub rises : Rises ps s new 0 0 0
     pub listed : list_all (λ r. nat_lt r (length f.roles)) rs ≡ true
 
   pub roles_read : (is : Items) (s new : Counts) → AreGoodItems is → walked s (roles_tests ps is) ≡ Ok new → Keeps new f → AreRoles s new (roles_of ps f is)
-  roles_read no_items s new good h keeps = record { rises = subst (λ t. Rises s t 0 0 0) (nothing_held s new h) (rises_not s); listed = refl }
+  roles_read no_items s new good h keeps = record { rises = subst (λ t. Rises ps s t 0 0 0) (nothing_held s new h) (rises_not ps s); listed = refl }
   roles_read (item i is) s new good h keeps =
       let b = both s (role_tests ps i) (roles_tests ps is) new h in
       let first = role_read i s b.mid good.0 b.first (keeps_before s b.mid new f (roles_tests ps is) b.second keeps) in
       let rest = roles_read is b.mid new good.1 b.second keeps in
       record {
-        rises = rises_both s b.mid new 0 0 0 0 0 0 first.rises rest.rises;
+        rises = rises_both ps s b.mid new 0 0 0 0 0 0 first.rises rest.rises;
         listed = and_from (nat_lt (role_of ps f i) (length f.roles)) (list_all (λ r. nat_lt r (length f.roles)) (roles_of ps f is)) first.listed rest.listed;
       }
 
   -- a role that is declared
-  pub declared_role_by : (w : List ℕ) (n : ℕ) (s new : Counts) → IsGoodIri w → (e : Option Construct) → excluded_role_name w ≡ e → walked s (classes.unless_excluded e n w) ≡ Ok new → Keeps new f → Rises s new 0 0 0
-  declared_role_by w n s new good (Some c) is h keeps = subst (λ t. Rises s t 0 0 0) (nothing_held s new h) (rises_not s)
+  pub declared_role_by : (w : List ℕ) (n : ℕ) (s new : Counts) → (AreGoodPrefixes ps → IsGoodIri w) → (e : Option Construct) → excluded_role_name w ≡ e → walked s (classes.unless_excluded e n w) ≡ Ok new → Keeps new f → Rises ps s new 0 0 0
+  declared_role_by w n s new good (Some c) is h keeps = subst (λ t. Rises ps s t 0 0 0) (nothing_held s new h) (rises_not ps s)
   declared_role_by w n s new good None is h keeps = (role_by w n s new good None is h keeps).rises
 
   -- ---- individuals
@@ -118,7 +119,7 @@ module _ (ps : List Prefix) (prefixes : AreGoodPrefixes ps) (f : Counts) where
   individual_names_pass (group_item w is n) s new ts h = absurd (never s new (shape n false) ts refl h)
 
   pub record IsIndividual (s new : Counts) (a : ℕ) : Type 0 where
-    pub rises : Rises s new 0 0 0
+    pub rises : Rises ps s new 0 0 0
     pub listed : nat_lt a (length f.individuals) ≡ true
 
   pub individual_read : (i : Item) (s new : Counts) → IsGoodItem i → walked s (individual_tests ps i) ≡ Ok new → Keeps new f → IsIndividual s new (individual_of ps f i)
@@ -130,22 +131,22 @@ module _ (ps : List Prefix) (prefixes : AreGoodPrefixes ps) (f : Counts) where
       let kept : Keeps (counts_after s (individual n w)) f = subst (λ t. Keeps t f) (sym there) keeps in
       let found : place w f.individuals ≡ Some (number_of s.individuals w) = kept.individuals w (number_of s.individuals w) (place_listed w s.individuals) in
       record {
-        rises = subst (λ t. Rises s t 0 0 0) there (rises_individual s n w test.now (good_is_iri w (iri_good ps i prefixes good)));
+        rises = subst (λ t. Rises ps s t 0 0 0) there (rises_individual ps s n w test.now (λ prefixes. good_is_iri w (iri_good ps i prefixes good)));
         listed = ap (λ r. nat_lt (or_zero r) (length f.individuals)) found ∙ place_within w f.individuals (number_of s.individuals w) found;
       }
 
   pub record AreIndividuals (s new : Counts) (as_ : List ℕ) : Type 0 where
-    pub rises : Rises s new 0 0 0
+    pub rises : Rises ps s new 0 0 0
     pub listed : list_all (λ a. nat_lt a (length f.individuals)) as_ ≡ true
 
   pub individuals_read : (is : Items) (s new : Counts) → AreGoodItems is → walked s (individuals_tests ps is) ≡ Ok new → Keeps new f → AreIndividuals s new (individuals_of ps f is)
-  individuals_read no_items s new good h keeps = record { rises = subst (λ t. Rises s t 0 0 0) (nothing_held s new h) (rises_not s); listed = refl }
+  individuals_read no_items s new good h keeps = record { rises = subst (λ t. Rises ps s t 0 0 0) (nothing_held s new h) (rises_not ps s); listed = refl }
   individuals_read (item i is) s new good h keeps =
       let b = both s (individual_tests ps i) (individuals_tests ps is) new h in
       let first = individual_read i s b.mid good.0 b.first (keeps_before s b.mid new f (individuals_tests ps is) b.second keeps) in
       let rest = individuals_read is b.mid new good.1 b.second keeps in
       record {
-        rises = rises_both s b.mid new 0 0 0 0 0 0 first.rises rest.rises;
+        rises = rises_both ps s b.mid new 0 0 0 0 0 0 first.rises rest.rises;
         listed = and_from (nat_lt (individual_of ps f i) (length f.individuals)) (list_all (λ a. nat_lt a (length f.individuals)) (individuals_of ps f is)) first.listed rest.listed;
       }
 
@@ -171,13 +172,13 @@ module _ (ps : List Prefix) (prefixes : AreGoodPrefixes ps) (f : Counts) where
   all_listed cs = parts_use_listed (length f.classes) (length f.roles) cs
 
   pub record IsRead (s new : Counts) (c : Concept) (deep : ℕ) : Type 0 where
-    pub rises : Rises s new 0 0 (expressions c)
+    pub rises : Rises ps s new 0 0 (expressions c)
     pub listed : uses_listed (length f.classes) (length f.roles) c ≡ true
     pub whole : is_whole c ≡ true
     pub nested : brackets c ≤ deep
 
   pub record AreRead (s new : Counts) (cs : Parts) (deep : ℕ) : Type 0 where
-    pub rises : Rises s new 0 0 (all_expressions cs)
+    pub rises : Rises ps s new 0 0 (all_expressions cs)
     pub listed : parts_use_listed (length f.classes) (length f.roles) cs ≡ true
     pub whole : are_whole cs ≡ true
     pub nested : most_brackets cs ≤ deep
@@ -189,18 +190,18 @@ module _ (ps : List Prefix) (prefixes : AreGoodPrefixes ps) (f : Counts) where
   abbrev class_by : Bool → Bool → List ℕ → Concept
   class_by thing nothing w = cond thing top (cond nothing bottom (name (or_zero (place w f.classes))))
 
-  pub listed_by : (w : List ℕ) (n : ℕ) (s new : Counts) → IsGoodIri w → (u v : Bool) → is_thing w ≡ u → is_nothing w ≡ v → walked s (cond u [] (cond v [] (class n w ∷ []))) ≡ Ok new → Keeps new f
-      → Rises s new 0 0 0 × (listed (class_by u v w) ≡ true)
-  listed_by w n s new good true v thing nothing h keeps = (subst (λ t. Rises s t 0 0 0) (nothing_held s new h) (rises_not s), refl)
-  listed_by w n s new good false true thing nothing h keeps = (subst (λ t. Rises s t 0 0 0) (nothing_held s new h) (rises_not s), refl)
+  pub listed_by : (w : List ℕ) (n : ℕ) (s new : Counts) → (AreGoodPrefixes ps → IsGoodIri w) → (u v : Bool) → is_thing w ≡ u → is_nothing w ≡ v → walked s (cond u [] (cond v [] (class n w ∷ []))) ≡ Ok new → Keeps new f
+      → Rises ps s new 0 0 0 × (listed (class_by u v w) ≡ true)
+  listed_by w n s new good true v thing nothing h keeps = (subst (λ t. Rises ps s t 0 0 0) (nothing_held s new h) (rises_not ps s), refl)
+  listed_by w n s new good false true thing nothing h keeps = (subst (λ t. Rises ps s t 0 0 0) (nothing_held s new h) (rises_not ps s), refl)
   listed_by w n s new good false false thing nothing h keeps =
       let test = held s (class n w) [] new h in
       let there : counts_after s (class n w) ≡ new = nothing_held (counts_after s (class n w)) new test.later in
       let named : (not (is_thing w) && not (is_nothing w)) ≡ true = λ i. not (thing i) && not (nothing i) in
-      let is_class : is_class_iri w ≡ true = and_from (is_iri w) (not (is_thing w) && not (is_nothing w)) (good_is_iri w good) named in
+      let is_class : AreGoodPrefixes ps → is_class_iri w ≡ true = (λ prefixes. and_from (is_iri w) (not (is_thing w) && not (is_nothing w)) (good_is_iri w (good prefixes)) named) in
       let kept : Keeps (counts_after s (class n w)) f = subst (λ t. Keeps t f) (sym there) keeps in
       let found : place w f.classes ≡ Some (number_of s.classes w) = kept.classes w (number_of s.classes w) (place_listed w s.classes) in (
-        subst (λ t. Rises s t 0 0 0) there (rises_class s n w test.now is_class),
+        subst (λ t. Rises ps s t 0 0 0) there (rises_class ps s n w test.now is_class),
         ap (λ r. nat_lt (or_zero r) (length f.classes)) found ∙ place_within w f.classes (number_of s.classes w) found,
       )
 
@@ -228,10 +229,10 @@ module _ (ps : List Prefix) (prefixes : AreGoodPrefixes ps) (f : Counts) where
       let named = names_pass i s new (nodes n 1 ∷ listed_class n w) h in
       let count = held s (nodes n 1) (listed_class n w) new named in
       let mid : Counts = counts_after s (nodes n 1) in
-      let told = listed_by w n mid new (iri_good ps i prefixes good) (is_thing w) (is_nothing w) refl refl count.later keeps in
+      let told = listed_by w n mid new (λ prefixes. iri_good ps i prefixes good) (is_thing w) (is_nothing w) refl refl count.later keeps in
       let one = alone_by w in
       record {
-        rises = rises_as s new 0 0 1 0 0 (expressions (class_named f w)) refl refl (sym one.2) (rises_both s mid new 0 0 1 0 0 0 (rises_nodes s n 1 count.now) told.0);
+        rises = rises_as ps s new 0 0 1 0 0 (expressions (class_named f w)) refl refl (sym one.2) (rises_both ps s mid new 0 0 1 0 0 0 (rises_nodes ps s n 1 count.now) told.0);
         listed = told.1;
         whole = one.0;
         nested = omega (arith, one.1);
@@ -247,7 +248,7 @@ module _ (ps : List Prefix) (prefixes : AreGoodPrefixes ps) (f : Counts) where
   AllRead (item i is) = Reads i × AllRead is
 
   pub parts_read : (is : Items) → AllRead is → (s new : Counts) → walked s (joined (each_class ps is)) ≡ Ok new → Keeps new f → AreRead s new (concepts_of ps f is) (nesting_all is)
-  parts_read no_items reads s new h keeps = record { rises = subst (λ t. Rises s t 0 0 0) (nothing_held s new h) (rises_not s); listed = refl; whole = refl; nested = omega arith }
+  parts_read no_items reads s new h keeps = record { rises = subst (λ t. Rises ps s t 0 0 0) (nothing_held s new h) (rises_not ps s); listed = refl; whole = refl; nested = omega arith }
   parts_read (item i is) reads s new h keeps =
       let c : Concept = concept_of ps f i in
       let cs : Parts = concepts_of ps f is in
@@ -255,7 +256,7 @@ module _ (ps : List Prefix) (prefixes : AreGoodPrefixes ps) (f : Counts) where
       let first = reads.0 s b.mid b.first (keeps_before s b.mid new f (joined (each_class ps is)) b.second keeps) in
       let rest = parts_read is reads.1 b.mid new b.second keeps in
       record {
-        rises = rises_both s b.mid new 0 0 (expressions c) 0 0 (all_expressions cs) first.rises rest.rises;
+        rises = rises_both ps s b.mid new 0 0 (expressions c) 0 0 (all_expressions cs) first.rises rest.rises;
         listed = and_from (listed c) (all_listed cs) first.listed rest.listed;
         whole = and_from (is_whole c) (are_whole cs) first.whole rest.whole;
         nested = omega (arith, first.nested, rest.nested);
@@ -276,7 +277,7 @@ module _ (ps : List Prefix) (prefixes : AreGoodPrefixes ps) (f : Counts) where
 
   -- the head of a group holds
   record Opens (s new : Counts) (n k : ℕ) (enough : Bool) (ts : List Test) : Type 0 where
-    rises : Rises s (counts_after s (nodes n k)) 0 0 k
+    rises : Rises ps s (counts_after s (nodes n k)) 0 0 k
     fits : enough ≡ true
     later : walked (counts_after s (nodes n k)) ts ≡ Ok new
 
@@ -284,7 +285,7 @@ module _ (ps : List Prefix) (prefixes : AreGoodPrefixes ps) (f : Counts) where
   opens s new n k enough ts h =
       let count = held s (nodes n k) (shape n enough ∷ ts) new h in
       let form = held (counts_after s (nodes n k)) (shape n enough) ts new count.later in
-      record { rises = rises_nodes s n k count.now; fits = form.now; later = form.later }
+      record { rises = rises_nodes ps s n k count.now; fits = form.now; later = form.later }
 
   -- a group with this word is read
   abbrev GroupReads : List ℕ → Type 0
@@ -300,7 +301,7 @@ module _ (ps : List Prefix) (prefixes : AreGoodPrefixes ps) (f : Counts) where
       let inner = parts_read is reads mid new o.later keeps in
       let many : nat_le 2 (length (part_list cs)) ≡ true = ap (nat_le 2) (count_read is) ∙ o.fits in
       record {
-        rises = rises_as s new 0 0 (1 + all_expressions cs) 0 0 (expressions (con cs)) refl refl (sym (counts cs)) (rises_both s mid new 0 0 1 0 0 (all_expressions cs) o.rises inner.rises);
+        rises = rises_as ps s new 0 0 (1 + all_expressions cs) 0 0 (expressions (con cs)) refl refl (sym (counts cs)) (rises_both ps s mid new 0 0 1 0 0 (all_expressions cs) o.rises inner.rises);
         listed = lists cs ∙ inner.listed;
         whole = wholes cs ∙ and_from (nat_le 2 (length (part_list cs))) (are_whole cs) many inner.whole;
         nested = omega (arith, nests cs, inner.nested);
@@ -339,7 +340,7 @@ module _ (ps : List Prefix) (prefixes : AreGoodPrefixes ps) (f : Counts) where
       let inner = filler_read is (eq_true (item_count is) 1 o.fits) reads mid new o.later keeps in
       let c : Concept = classes.first (concepts_of ps f is) in
       read_as s new (complement c) (concept_of ps f (group_item (Some (codes "ObjectComplementOf")) is n)) (nesting_all is + 1) (complement_value n is)
-      (record { rises = rises_both s mid new 0 0 1 0 0 (expressions c) o.rises inner.rises; listed = inner.listed; whole = inner.whole; nested = omega (arith, inner.nested) })
+      (record { rises = rises_both ps s mid new 0 0 1 0 0 (expressions c) o.rises inner.rises; listed = inner.listed; whole = inner.whole; nested = omega (arith, inner.nested) })
 
   -- a role and a filler
   valued_read : (con : ℕ → Concept → Concept) → ((r : ℕ) (c : Concept) → listed (con r c) ≡ (nat_lt r (length f.roles) && listed c)) → ((r : ℕ) (c : Concept) → is_whole (con r c) ≡ is_whole c) → ((r : ℕ) (c : Concept) → expressions (con r c) ≡ 1 + expressions c)
@@ -354,10 +355,10 @@ module _ (ps : List Prefix) (prefixes : AreGoodPrefixes ps) (f : Counts) where
       let count : item_count is + 1 ≡ 2 = eq_true (item_count is + 1) 2 o.fits in
       let role = role_read r mid b.mid good b.first (keeps_before mid b.mid new f (joined (each_class ps is)) b.second keeps) in
       let inner = filler_read is (omega (arith, count)) reads b.mid new b.second keeps in
-      let rises : Rises s new 0 0 (1 + (0 + expressions c)) = rises_both s mid new 0 0 1 0 0 (0 + expressions c) o.rises (rises_both mid b.mid new 0 0 0 0 0 (expressions c) role.rises inner.rises) in
+      let rises : Rises ps s new 0 0 (1 + (0 + expressions c)) = rises_both ps s mid new 0 0 1 0 0 (0 + expressions c) o.rises (rises_both ps mid b.mid new 0 0 0 0 0 (expressions c) role.rises inner.rises) in
       let total_is : 1 + (0 + expressions c) ≡ expressions (con k c) = omega (arith, counts k c) in
       record {
-        rises = rises_as s new 0 0 (1 + (0 + expressions c)) 0 0 (expressions (con k c)) refl refl total_is rises;
+        rises = rises_as ps s new 0 0 (1 + (0 + expressions c)) 0 0 (expressions (con k c)) refl refl total_is rises;
         listed = lists k c ∙ and_from (nat_lt k (length f.roles)) (listed c) role.listed inner.listed;
         whole = wholes k c ∙ inner.whole;
         nested = omega (arith, nests k c, inner.nested);
@@ -410,9 +411,9 @@ module _ (ps : List Prefix) (prefixes : AreGoodPrefixes ps) (f : Counts) where
       ∷ (number_tests k ++ (role_tests ps r ++ joined (each_class ps is))))
 
   filled_read : (is : Items) → (nat_eq (item_count is + 1 + 1) 2 || nat_eq (item_count is + 1 + 1) 3) ≡ true → AllRead is → (s new : Counts) → walked s (joined (each_class ps is)) ≡ Ok new → Keeps new f
-      → (e : ℕ) × Rises s new 0 0 e × (cond (nat_eq (item_count is + 1 + 1) 2) 2 1 + e ≡ 1 + expressions (classes.first (concepts_of ps f is))) × (listed (classes.first (concepts_of ps f is)) ≡ true) × (is_whole (classes.first (concepts_of ps f is)) ≡ true)
+      → (e : ℕ) × Rises ps s new 0 0 e × (cond (nat_eq (item_count is + 1 + 1) 2) 2 1 + e ≡ 1 + expressions (classes.first (concepts_of ps f is))) × (listed (classes.first (concepts_of ps f is)) ≡ true) × (is_whole (classes.first (concepts_of ps f is)) ≡ true)
       × (brackets (classes.first (concepts_of ps f is)) ≤ nesting_all is)
-  filled_read no_items enough reads s new h keeps = (0, subst (λ t. Rises s t 0 0 0) (nothing_held s new h) (rises_not s), refl, refl, refl, omega arith)
+  filled_read no_items enough reads s new h keeps = (0, subst (λ t. Rises ps s t 0 0 0) (nothing_held s new h) (rises_not ps s), refl, refl, refl, omega arith)
   filled_read (item i no_items) enough reads s new h keeps =
       let read = last_read i reads.0 s new h keeps in
       (expressions (concept_of ps f i), read.rises, refl, read.listed, read.whole, omega (arith, read.nested))
@@ -441,10 +442,10 @@ module _ (ps : List Prefix) (prefixes : AreGoodPrefixes ps) (f : Counts) where
       let inner = filled_read is o.fits reads b.mid new b.second keeps in
       let e : ℕ = inner.0 in
       let sum : head + e ≡ 1 + expressions c = inner.2 in
-      let rises : Rises s new 0 0 (head + (0 + e)) = rises_both s mid new 0 0 head 0 0 (0 + e) o.rises (rises_both mid b.mid new 0 0 0 0 0 e is_role.rises inner.1) in
+      let rises : Rises ps s new 0 0 (head + (0 + e)) = rises_both ps s mid new 0 0 head 0 0 (0 + e) o.rises (rises_both ps mid b.mid new 0 0 0 0 0 e is_role.rises inner.1) in
       let total_is : head + (0 + e) ≡ expressions (con m role c) = omega (arith, sum, counts m role c) in
       record {
-        rises = rises_as s new 0 0 (head + (0 + e)) 0 0 (expressions (con m role c)) refl refl total_is rises;
+        rises = rises_as ps s new 0 0 (head + (0 + e)) 0 0 (expressions (con m role c)) refl refl total_is rises;
         listed = lists m role c ∙ and_from (nat_lt role (length f.roles)) (listed c) is_role.listed inner.3;
         whole = wholes m role c ∙ and_from (nat_le m 100) (is_whole c) (le_true m 100 number.0) inner.4;
         nested = omega (arith, nests m role c, inner.5);

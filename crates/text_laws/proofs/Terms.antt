@@ -19,7 +19,8 @@ use Rattle.ofn_tree.specs.Items.{nesting, nesting_all}
 use Rattle.ofn_expressions.specs.Constructs.{excluded_role_name}
 use Rattle.ofn_expressions.specs.Classes.{is_digit, cardinality_in, is_thing, is_nothing}
 use Rattle.ofn_writer.specs.Canonical.{individual_text, individual_texts, group_text, concept_text, part_texts, role_text, role_texts, axiom_text}
-use Rattle.text_laws.specs.Writable.{is_iri, is_class_iri, is_role_iri, brackets, most_brackets, is_named, axiom_brackets, expressions}
+use Rattle.ofn_reader.specs.Held.{expressions}
+use Rattle.text_laws.specs.Writable.{is_iri, is_class_iri, is_role_iri, brackets, most_brackets, is_named, axiom_brackets}
 use Rattle.text_laws.proofs.Whole.{is_whole, are_whole, has_whole_items}
 use Rattle.text_laws.proofs.Checks.{true_lt, true_le}
 use Rattle.text_laws.proofs.Phrases.{Phrase, word, iri, call, Phrases, none, more, text_of, texts_of, is_name, can_stand, can_all_stand, item_of, all_items}

@@ -15,7 +15,7 @@ use Rattle.ofn_expressions.specs.Constructs.{excluded_role_name}
 use Rattle.ofn_expressions.specs.Classes.{item_count, is_thing, is_nothing, listed_class, listed_role, role_tests, roles_tests, number_tests, number_tests_of, joined, class_tests, each_class, class_name_tests, place}
 use Rattle.ofn_expressions.specs.Individuals.{individual_tests, individuals_tests}
 use Rattle.ofn_expressions.proofs.Walks.{walked-cons, goes_on}
-use Rattle.text_laws.specs.Writable.{expressions, all_expressions}
+use Rattle.ofn_reader.specs.Held.{expressions, all_expressions}
 use Rattle.text_laws.specs.WritingLaws.{owl_iri, KnowsOwl}
 use Rattle.text_laws.proofs.Whole.{is_whole, are_whole}
 use Rattle.text_laws.proofs.Checks.{le_true, true_lt, true_le}

@@ -17,7 +17,8 @@ use Rattle.shq_nnf.proofs.Pairs.{length_equivalent, length_union}
 use Rattle.ontology_limits.specs.Limits.{has_enough_parts, have_enough_parts, has_enough_items, part_count}
 use Rattle.ofn_reader.specs.Axioms.{pair_count}
 use Rattle.text_laws.proofs.Counted.{pairs_counted, same_counted, apart_counted}
-use Rattle.text_laws.specs.Writable.{is_named, is_readable, axiom_expressions, expression_count, CanBeWritten}
+use Rattle.ofn_reader.specs.Held.{axiom_expressions, expression_count, parts_in, parts_held}
+use Rattle.text_laws.specs.Writable.{is_named, is_readable, CanBeWritten}
 
 -- both tests of an expression: two parts at least, and cardinalities of 100 at most
 abbrev mutual
@@ -213,6 +214,27 @@ parts_are (Different as_) = let facts = apart_counted as_ (length as_) refl in o
 pub part_total : (xs : List Numbered) → total counted_parts xs ≡ part_count xs
 part_total [] = refl
 part_total (a ∷ xs) = omega (arith, parts_are a.axiom, part_total xs)
+
+held_is : (a : Axiom) → counted_parts a ≡ parts_in a
+held_is (SubClassOf c d) = refl
+held_is (EquivalentClasses cs) = refl
+held_is (DisjointClasses cs) = refl
+held_is (DisjointUnion c cs) = let less : length cs ≡ length cs + 1 - 1 = omega arith in ap (λ n. length cs + 1 + pair_count n) less
+held_is (SubRole r s) = refl
+held_is (EquivalentRoles rs) = refl
+held_is (Domain r c) = refl
+held_is (Range r c) = refl
+held_is (Functional r) = refl
+held_is (Transitive r) = refl
+held_is (Member c a) = refl
+held_is (Pair r a b) = refl
+held_is (SameAll as_) = refl
+held_is (Different as_) = refl
+
+-- what a later reader counts
+pub held_total : (xs : List Numbered) → total counted_parts xs ≡ parts_held xs
+held_total [] = refl
+held_total (a ∷ xs) = omega (arith, held_is a.axiom, held_total xs)
 
 pub expression_total : (xs : List Numbered) → total axiom_expressions xs ≡ expression_count xs
 expression_total [] = refl

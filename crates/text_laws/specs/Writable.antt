@@ -1,5 +1,5 @@
 -- Which ontologies can be written: those within the limits whose names may stand between `<` and `>`.
-use Rattle.std.specs.Prelude.{◌≡◌, ℕ, ◌+◌, ◌≤◌, max, Bool, true, false, not, ◌&&◌, List, [], ◌∷◌, nat_le, is_none}
+use Rattle.std.specs.Prelude.{◌≡◌, ℕ, ◌+◌, ◌≤◌, max, Bool, true, false, not, ◌&&◌, List, nat_le, is_none}
 use Rattle.std.specs.List.{list_all}
 use Rattle.std.specs.Str.{is_utf8}
 use Rattle.shq_terms.specs.Concept.{Concept, top, bottom, name, complement, intersection, union, some_of, all_of, at_least, at_most, exactly, Parts, no_parts, part, parts_of}
@@ -12,6 +12,7 @@ use Rattle.ontology_limits.specs.Limits.{IsOntologyInLimit}
 use Rattle.ofn_tree.specs.Lexemes.{is_iri_byte}
 use Rattle.ofn_expressions.specs.Constructs.{excluded_role_name}
 use Rattle.ofn_expressions.specs.Classes.{is_thing, is_nothing}
+use Rattle.ofn_reader.specs.Held.{expression_count}
 
 -- ---- names
 
@@ -48,25 +49,6 @@ abbrev mutual
   most_brackets no_parts = 0
   most_brackets (part c cs) = max (brackets c) (most_brackets cs)
 
--- how many class expressions there are in one, itself among them
-abbrev mutual
-  pub expressions : Concept → ℕ
-  expressions top = 1
-  expressions bottom = 1
-  expressions (name a) = 1
-  expressions (complement c) = 1 + expressions c
-  expressions (intersection cs) = 1 + all_expressions cs
-  expressions (union cs) = 1 + all_expressions cs
-  expressions (some_of r c) = 1 + expressions c
-  expressions (all_of r c) = 1 + expressions c
-  expressions (at_least n r c) = 1 + expressions c
-  expressions (at_most n r c) = 1 + expressions c
-  expressions (exactly n r c) = 1 + expressions c
-
-  pub all_expressions : Parts → ℕ
-  all_expressions no_parts = 0
-  all_expressions (part c cs) = expressions c + all_expressions cs
-
 -- ---- axioms
 
 -- a class that is named, and no group
@@ -92,22 +74,6 @@ axiom_brackets (Pair r a b) = 1
 axiom_brackets (SameAll as_) = 1
 axiom_brackets (Different as_) = 1
 
-abbrev pub axiom_expressions : Axiom → ℕ
-axiom_expressions (SubClassOf c d) = expressions c + expressions d
-axiom_expressions (EquivalentClasses cs) = all_expressions (parts_of cs)
-axiom_expressions (DisjointClasses cs) = all_expressions (parts_of cs)
-axiom_expressions (DisjointUnion c cs) = 1 + all_expressions (parts_of cs)
-axiom_expressions (SubRole r s) = 0
-axiom_expressions (EquivalentRoles rs) = 0
-axiom_expressions (Domain r c) = expressions c
-axiom_expressions (Range r c) = expressions c
-axiom_expressions (Functional r) = 0
-axiom_expressions (Transitive r) = 0
-axiom_expressions (Member c a) = expressions c
-axiom_expressions (Pair r a b) = 0
-axiom_expressions (SameAll as_) = 0
-axiom_expressions (Different as_) = 0
-
 -- whether an axiom of this form is read: the class of a disjoint union has to be named
 abbrev pub is_readable : Axiom → Bool
 is_readable (SubClassOf c d) = true
@@ -126,11 +92,6 @@ is_readable (SameAll as_) = true
 is_readable (Different as_) = true
 
 -- ---- ontologies
-
--- how many class expressions axioms have together
-abbrev pub expression_count : List Numbered → ℕ
-expression_count [] = 0
-expression_count (a ∷ more) = axiom_expressions a.axiom + expression_count more
 
 -- The ontology can be written so that it is read again. It is within the limits, and its names are IRIs that may stand
 -- in a document, each once. The bracket after `Ontology` is open round each axiom.

@@ -14,7 +14,8 @@ use Rattle.ofn_reader.specs.DocumentContext.{DocumentContext}
 use Rattle.ofn_reader.specs.Documents.{IsDocument}
 use Rattle.ofn_reader.specs.Queries.{IsQuery, IsClass, query_start}
 use Rattle.ofn_writer.specs.Canonical.{concept_text, axiom_text, ontology_text}
-use Rattle.text_laws.specs.Writable.{brackets, axiom_brackets, expressions, axiom_expressions, CanBeWritten}
+use Rattle.ofn_reader.specs.Held.{expressions, axiom_expressions}
+use Rattle.text_laws.specs.Writable.{brackets, axiom_brackets, CanBeWritten}
 
 -- the axioms without their lines
 abbrev pub axioms_of : List Numbered → List Axiom
