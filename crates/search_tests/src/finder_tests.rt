@@ -224,24 +224,65 @@ fn rules_of(heap: Global, ontology: &Ontology) -> Result<SearchRules<'_>, NoMemo
     SearchRules::build(heap, ontology, &set)
 }
 
-fn are_counted(heap: Global, ontology: &Ontology) -> Result<bool, NoMemory>
-    requires { IsOntologyInLimit ontology.now }
-{
-    let rules = rules_of(heap, ontology)?;
-    let mut tree = Tree::new_in(heap, rules.first())?;
-    let mut agenda = Agenda::new(heap);
-    let are_given = give_each(heap, &mut agenda, &mut tree, &rules, EDGES)?;
-    Ok(are_given && is_overrun(heap, &mut agenda, &mut tree, &rules)?)
+/// A walk of the tests.
+#[derive(Clone, Copy)]
+enum Walk {
+    /// Edges between individuals, of which one has too many then.
+    Edges,
+    /// Two individuals that are one, and different.
+    One,
 }
 
-fn are_different(heap: Global, ontology: &Ontology) -> Result<bool, NoMemory>
+// Whether the walk goes as it should, over a tree that has the first nodes alone.
+fn goes_as_it_should(
+    heap: Global,
+    agenda: &mut Agenda,
+    tree: &mut Tree<Global>,
+    rules: &SearchRules<'_>,
+    walk: Walk,
+) -> Result<bool, NoMemory> {
+    match walk {
+        Walk::Edges => go_over_edges(heap, agenda, tree, rules),
+        Walk::One => go_over_one(heap, agenda, tree, rules),
+    }
+}
+
+fn go_over_edges(
+    heap: Global,
+    agenda: &mut Agenda,
+    tree: &mut Tree<Global>,
+    rules: &SearchRules<'_>,
+) -> Result<bool, NoMemory> {
+    let are_given = give_each(heap, agenda, tree, rules, EDGES)?;
+    Ok(are_given && is_overrun(heap, agenda, tree, rules)?)
+}
+
+fn go_over_one(
+    heap: Global,
+    agenda: &mut Agenda,
+    tree: &mut Tree<Global>,
+    rules: &SearchRules<'_>,
+) -> Result<bool, NoMemory> {
+    let are_given = give_each(heap, agenda, tree, rules, ONE)?;
+    Ok(are_given && clash(tree, rules) == Some(Clash::Differ(0, 0)))
+}
+
+fn go_by_rules(heap: Global, rules: &SearchRules<'_>, walk: Walk) -> Result<bool, NoMemory> {
+    let mut tree = Tree::new_in(heap, rules.first())?;
+    let mut agenda = Agenda::new(heap);
+    let outcome = goes_as_it_should(heap, &mut agenda, &mut tree, rules, walk);
+    drop(agenda);
+    drop(tree);
+    outcome
+}
+
+fn go(heap: Global, ontology: &Ontology, walk: Walk) -> Result<bool, NoMemory>
     requires { IsOntologyInLimit ontology.now }
 {
     let rules = rules_of(heap, ontology)?;
-    let mut tree = Tree::new_in(heap, rules.first())?;
-    let mut agenda = Agenda::new(heap);
-    let are_given = give_each(heap, &mut agenda, &mut tree, &rules, ONE)?;
-    Ok(are_given && clash(&tree, &rules) == Some(Clash::Differ(0, 0)))
+    let outcome = go_by_rules(heap, &rules, walk);
+    drop(rules);
+    outcome
 }
 
 #[test]
@@ -249,7 +290,7 @@ fn edges_between_individuals_are_counted(rt: HostRuntime) -> Result<(), Fail> {
     let mut ontology = Ontology::new(rt.alloc());
     add_edges(rt.alloc(), &mut ontology)?;
     assert!(rt;
-        are_counted(rt.alloc(), &ontology)?,
+        go(rt.alloc(), &ontology, Walk::Edges)?,
         "two by a functional role"
     );
     Ok(())
@@ -259,6 +300,6 @@ fn edges_between_individuals_are_counted(rt: HostRuntime) -> Result<(), Fail> {
 fn individuals_that_are_one_do_not_differ(rt: HostRuntime) -> Result<(), Fail> {
     let mut ontology = Ontology::new(rt.alloc());
     add_one(rt.alloc(), &mut ontology)?;
-    assert!(rt; are_different(rt.alloc(), &ontology)?, "one, and different");
+    assert!(rt; go(rt.alloc(), &ontology, Walk::One)?, "one, and different");
     Ok(())
 }
