@@ -3,7 +3,7 @@ use Rattle.ontology_limits.specs.Limits.{IsInLimit}
 use Rattle.text_laws.proofs.InLimit.{queries_in_limit}
 use Rattle.job_tests.proofs.reading.read.Goals as goal
 
-pub returns-clause-in_limit : goal.returns-clause-in_limit
-returns-clause-in_limit c =
+pub returns : goal.returns
+returns c =
     let x = c.in_ok-query.ensures.query in
-    subst (λ l. IsInLimit l c.in_ok-query.query) (sym x.3) (queries_in_limit _ c.in_ok-ontology.ontology c.in_ok-ontology.context _ c.in_ok-ontology.ensures.document _ x.0 c.in_ok-query.query x.1)
+    record { in_limit = subst (λ l. IsInLimit l c.in_ok-query.query) (sym x.3) (queries_in_limit _ c.in_ok-ontology.ontology c.in_ok-ontology.context _ c.in_ok-ontology.ensures.document _ x.0 c.in_ok-query.query x.1) }
