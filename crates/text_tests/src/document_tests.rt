@@ -10,7 +10,7 @@ use std::process::Abort;
 use std::test::Fail;
 
 // The bytes of a text, which is short in each test.
-fn short_bytes(text: &str) -> &[u8]
+pub(crate) fn short_bytes(text: &str) -> &[u8]
     ensures { length result.now ≤ 4294967293 }
 {
     if text.len() > 4_000_000 {
@@ -48,7 +48,7 @@ fn kind(axiom: &Axiom) -> u32 {
     }
 }
 
-fn first_axiom(ontology: &Ontology) -> Option<(u32, u32)> {
+pub(crate) fn first_axiom(ontology: &Ontology) -> Option<(u32, u32)> {
     let numbered = ontology.axioms().first()?;
     Some((kind(&numbered.axiom), numbered.line))
 }
@@ -168,7 +168,7 @@ const DOCUMENTS: &[(&str, Told)] = &[
 ];
 
 /// Axioms, by the places of their kinds.
-const KINDS: &[(u32, &str)] = &[
+pub(crate) const KINDS: &[(u32, &str)] = &[
     (0, "SubClassOf(:A :B)"),
     (1, "EquivalentClasses(:A :B :C)"),
     (2, "DisjointClasses(:A :B :C)"),
@@ -205,20 +205,20 @@ const WRITTEN: &[(&str, &str)] = &[
     ),
 ];
 
-const HEAD: &str = "Prefix(:=<e:>)\nOntology(\n";
+pub(crate) const HEAD: &str = "Prefix(:=<e:>)\nOntology(\n";
 
-const ROLES: &str =
+pub(crate) const ROLES: &str =
     "Prefix(:=<e:>)\nOntology(\nTransitiveObjectProperty(:r)SubObjectPropertyOf(:q :r)SubObjectPropertyOf(:r :s)\n";
 
-const TAIL: &str = "\n)\n";
+pub(crate) const TAIL: &str = "\n)\n";
 
-const DISJOINT: &str = "Prefix(:=<e:>)\nOntology(\nDisjointClasses(";
+pub(crate) const DISJOINT: &str = "Prefix(:=<e:>)\nOntology(\nDisjointClasses(";
 
-const SAME_CLASSES: &str = "Ontology(\nEquivalentClasses(";
+pub(crate) const SAME_CLASSES: &str = "Ontology(\nEquivalentClasses(";
 
-const SAME: &str = "Ontology(\nSameIndividual(";
+pub(crate) const SAME: &str = "Ontology(\nSameIndividual(";
 
-const DIFFERENT: &str = "Ontology(\nDifferentIndividuals(";
+pub(crate) const DIFFERENT: &str = "Ontology(\nDifferentIndividuals(";
 
 const SAME_ROLES: &str = "Ontology(\nEquivalentObjectProperties(";
 
@@ -574,7 +574,7 @@ fn put_piece(alloc: Global, text: &mut String, piece: &str, number: u32) -> Resu
     text.push_str(&name)
 }
 
-fn document_of(
+pub(crate) fn document_of(
     alloc: Global,
     head: &str,
     piece: &str,

@@ -2,6 +2,8 @@
 #![tactic(auto)]
 
 #[cfg(test)]
+mod addition_tests;
+#[cfg(test)]
 mod document_tests;
 #[cfg(test)]
 mod line_tests;
