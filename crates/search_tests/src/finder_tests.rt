@@ -61,7 +61,7 @@ fn add_names(ontology: &mut Ontology) -> Result<(), AddFault> {
     Ok(())
 }
 
-// An edge leads from individual 0 to 1 and one to 3, which are different, by a role that is functional.
+// An edge leads from individual 0 to 1 and one to 3, which are different.
 fn add_edges(alloc: Global, ontology: &mut Ontology) -> Result<(), AddFault>
     ensures { OnOk result (IsOntologyInLimit ontology.new) }
 {
@@ -71,8 +71,7 @@ fn add_edges(alloc: Global, ontology: &mut Ontology) -> Result<(), AddFault>
     }
     push(ontology, Axiom::Pair(0, 0, 1))?;
     push(ontology, Axiom::Pair(0, 0, 3))?;
-    push(ontology, Axiom::Different(pair(alloc, 1, 3)?))?;
-    push(ontology, Axiom::Functional(0))
+    push(ontology, Axiom::Different(pair(alloc, 1, 3)?))
 }
 
 // Individuals 0 and 2 are one, and different.
@@ -198,25 +197,6 @@ const EDGES: &[(u32, Fact<u32>)] = &[
 /// Those that the second gives.
 const ONE: &[(u32, Fact<u32>)] = &[(1, Fact::Same(0, 2)), (2, Fact::Apart(2, 0))];
 
-// After the given facts node 0 gets the 'at most' of each node, and then its edges are too many.
-fn is_overrun(
-    heap: Global,
-    agenda: &mut Agenda,
-    tree: &mut Tree<Global>,
-    rules: &SearchRules<'_>,
-) -> Result<bool, NoMemory> {
-    match next(heap, agenda, tree, rules)? {
-        Some((Step::Add(addition), _)) if addition.node == 0 => {
-            let concept = addition.concept;
-            let is_before = clash(tree, rules) == None && clash_of_edge(tree, rules) == None;
-            put(tree, Fact::Has(0, concept))?;
-            let most = Some(Clash::Most { node: 0, concept });
-            Ok(is_before && clash(tree, rules) == most && clash_of_edge(tree, rules) == most)
-        }
-        _ => Ok(false),
-    }
-}
-
 fn rules_of(heap: Global, ontology: &Ontology) -> Result<SearchRules<'_>, NoMemory>
     requires { IsOntologyInLimit ontology.now }
 {
@@ -227,7 +207,7 @@ fn rules_of(heap: Global, ontology: &Ontology) -> Result<SearchRules<'_>, NoMemo
 /// A walk of the tests.
 #[derive(Clone, Copy)]
 enum Walk {
-    /// Edges between individuals, of which one has too many then.
+    /// Edges between individuals, and two that are different.
     Edges,
     /// Two individuals that are one, and different.
     One,
@@ -254,7 +234,7 @@ fn go_over_edges(
     rules: &SearchRules<'_>,
 ) -> Result<bool, NoMemory> {
     let are_given = give_each(heap, agenda, tree, rules, EDGES)?;
-    Ok(are_given && is_overrun(heap, agenda, tree, rules)?)
+    Ok(are_given && clash(tree, rules) == None && clash_of_edge(tree, rules) == None)
 }
 
 fn go_over_one(
@@ -286,12 +266,12 @@ fn go(heap: Global, ontology: &Ontology, walk: Walk) -> Result<bool, NoMemory>
 }
 
 #[test]
-fn edges_between_individuals_are_counted(rt: HostRuntime) -> Result<(), Fail> {
+fn edges_between_individuals_are_given_in_order(rt: HostRuntime) -> Result<(), Fail> {
     let mut ontology = Ontology::new(rt.alloc());
     add_edges(rt.alloc(), &mut ontology)?;
     assert!(rt;
         go(rt.alloc(), &ontology, Walk::Edges)?,
-        "two by a functional role"
+        "edges, and two that are different"
     );
     Ok(())
 }
