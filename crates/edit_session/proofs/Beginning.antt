@@ -1,0 +1,40 @@
+-- New sessions.
+use Rattle.std.proofs.Common.{◌≡◌, ℕ, ◌≤◌, List, [], refl, ap, ◌∙◌, arith}
+use Rattle.std.proofs.lemmas.List.Elements.{All-nil}
+use Rattle.lane_sieve.specs.Sets.{NumberSet}
+use Rattle.axiom_sets.specs.Sets.{IsFull}
+use Rattle.pinpointing_specs.specs.Smallest.{numbers_to}
+use Rattle.set_questions.proofs.Rest.{full_is}
+use Rattle.shq_terms.specs.Listed.{Listed}
+use Rattle.ofn_reader.specs.DocumentContext.{DocumentContext}
+use Rattle.run_log.specs.declared.entry.Entry.{Entry}
+use Rattle.edit_session.specs.Noted.{Noted, nothing_noted}
+use Rattle.edit_session.specs.Sessions.{SessionLists, state_of, begun}
+use Rattle.edit_session.specs.SessionLog.{IsHonestThen}
+use Rattle.edit_session.specs.Held.{IsOfHeld, Holds}
+use Rattle.edit_session.specs.Laws.{NewSessionsMayGoOn}
+use Rattle.std.specs.Prelude.{length}
+
+pub new_may_go_on : NewSessionsMayGoOn
+new_may_go_on o kept budget = (
+  record {
+    within = omega arith;
+    goes_on = refl;
+    of_held = All-nil (IsOfHeld (length o.axioms));
+    hold = All-nil (Holds o.axioms);
+    noted = record { within = omega arith; filed = λ place s q steps e lt at. absurd (omega (arith, lt)) };
+  },
+  record {
+    within = omega arith;
+    honest = All-nil (IsHonestThen o);
+    ends = record { is_last = λ place e at is. cc; is_whole = λ any. cc };
+    new = λ place s q steps e at. cc;
+  },
+)
+
+-- each axiom is live, and nothing is noted
+pub new_lists : (o : Listed) (kept : DocumentContext) (n : ℕ) (full : NumberSet) (noted : Noted) → n ≡ length o.axioms → IsFull n full → noted.seen ≡ 0 → noted.places ≡ []
+    → ◌≡◌ {A = SessionLists} (record { state = state_of o kept full; noted = noted }) (record { state = begun o kept; noted = nothing_noted })
+new_lists o kept n full noted count is seen places =
+    let all : full ≡ numbers_to (length o.axioms) = full_is n full is ∙ ap numbers_to count in
+    λ i. record { state = state_of o kept (all i); noted = record { seen = seen i; places = places i } }

@@ -1,0 +1,12 @@
+pub mod NoText
+pub mod Members
+pub mod Standing
+pub mod Filed
+pub mod Honest
+pub mod Limits
+pub mod Deciding
+pub mod Telling
+pub mod Sessions
+pub mod Scripted
+pub mod Scratch
+pub mod Beginning

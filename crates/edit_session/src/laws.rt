@@ -1,0 +1,18 @@
+// What follows of sessions.
+ghost use Rattle.edit_session.specs.Laws.{EntriesStayHonest, AnswersAreFromScratch, NewSessionsMayGoOn};
+
+/// An entry of a log that was honest is honest still where axioms are added and other names are listed.
+pub fn entries_stay_honest()
+    ensures { EntriesStayHonest }
+{}
+
+/// A query is answered with no exactly where it does not follow from the live axioms alone, as a new run on them says;
+/// else it is answered with yes.
+pub fn answers_are_from_scratch()
+    ensures { AnswersAreFromScratch }
+{}
+
+/// A new session may go on with an empty log, which is honest.
+pub fn new_sessions_may_go_on()
+    ensures { NewSessionsMayGoOn }
+{}
