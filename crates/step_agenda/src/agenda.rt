@@ -7,7 +7,7 @@ use crate::additions::{first_addition, first_general};
 use crate::branchings::{Wanted, first_branching};
 use crate::forced::first_forced;
 use crate::givings::first_giving;
-use crate::makings::{Held, first_held, first_making};
+use crate::makings::{Held, first_below_first, first_held, first_making};
 use crate::watched::UnionIndex;
 use blocking::least_changed;
 use completion_tree::Tree;
@@ -24,6 +24,9 @@ struct Cursors {
     additions: u32,
     forced: u32,
     pairs: u32,
+    // For new nodes below first nodes, and for unions of these.
+    first_makings: u32,
+    first_unions: u32,
     makings: u32,
     unions: u32,
     mosts: u32,
@@ -41,6 +44,8 @@ impl Cursors {
             additions: 0,
             forced: 0,
             pairs: 0,
+            first_makings: 0,
+            first_unions: 0,
             makings: 0,
             unions: 0,
             mosts: 0,
@@ -204,7 +209,7 @@ impl Agenda {
         }
     }
 
-    // Whether two successors are one.
+    // Whether two successors are one, or what comes after that.
     fn next_pair<A: Allocator + Copy, S: State, R: Rules>(
         &mut self,
         heap: Global,
@@ -226,6 +231,57 @@ impl Agenda {
         self.count_looks(self.cursors.pairs, place);
         self.cursors.pairs = place;
         match pair {
+            Some(choosing) => Ok(Some(Step::Choose(choosing))),
+            None if rules.first() == 1 => Ok(None),
+            None => self.next_below_first(heap, tree, state, rules),
+        }
+    }
+
+    // New nodes below first nodes, or what comes after that. Here and in what follows first nodes are those of
+    // individuals: what is said of one of them mostly changes no other, but the blocks of all nodes after it would have
+    // to be found again.
+    fn next_below_first<A: Allocator + Copy, S: State, R: Rules>(
+        &mut self,
+        heap: Global,
+        tree: &Tree<A>,
+        state: &S,
+        rules: &R,
+    ) -> Result<Option<Step>, NoMemory>
+        requires one_first { S.first state.now ≡ (R.context rules.now).first }
+        ensures { IfOk result (λ found. IfSome found (IsStep (R.context rules.now) (S.facts state.now) (R.files rules.now))) }
+    {
+        let from = self.cursors.first_makings;
+        let (place, making) = first_below_first(heap, tree, state, rules, from)?;
+        self.count_looks(from, place);
+        self.cursors.first_makings = place;
+        match making {
+            Some(new) => Ok(Some(Step::Generate(new))),
+            None => self.next_first_union(heap, tree, state, rules),
+        }
+    }
+
+    // A part of a union of a first node.
+    fn next_first_union<A: Allocator + Copy, S: State, R: Rules>(
+        &mut self,
+        heap: Global,
+        tree: &Tree<A>,
+        state: &S,
+        rules: &R,
+    ) -> Result<Option<Step>, NoMemory>
+        requires one_first { S.first state.now ≡ (R.context rules.now).first }
+        ensures { IfOk result (λ found. IfSome found (IsStep (R.context rules.now) (S.facts state.now) (R.files rules.now))) }
+    {
+        let (place, union) = first_branching(
+            heap,
+            tree,
+            state,
+            rules,
+            Wanted::FirstPart,
+            self.cursors.first_unions,
+        )?;
+        self.count_looks(self.cursors.first_unions, place);
+        self.cursors.first_unions = place;
+        match union {
             Some(choosing) => Ok(Some(Step::Choose(choosing))),
             None => Ok(None),
         }

@@ -16,6 +16,8 @@ pub(crate) enum Wanted {
     Pair,
     /// A union of which a part is to be chosen.
     Part,
+    /// Such a union of a first node.
+    FirstPart,
     /// A successor of which a filler or its complement is to be chosen, or a pair.
     Most,
 }
@@ -57,7 +59,8 @@ fn branching_by<S: State, R: Rules>(
 {
     match wanted {
         Wanted::Pair => pair_by(heap, item, state, rules),
-        Wanted::Part => Ok(union_by(item, state, rules)),
+        Wanted::Part => Ok(union_by(item, state, rules, u32::MAX)),
+        Wanted::FirstPart => Ok(union_by(item, state, rules, rules.first())),
         Wanted::Most => most_by(heap, item, state, rules),
     }
 }
@@ -118,15 +121,16 @@ fn most_at<S: State, R: Rules>(
     find_most_at(heap, state, rules, node)
 }
 
-// The union of the entry, where a part of it is to be chosen.
-fn union_by<S: State, R: Rules>(item: Item, state: &S, rules: &R) -> Option<Choosing>
+// The union of the entry, where a part of it is to be chosen, and its node is below this one.
+fn union_by<S: State, R: Rules>(item: Item, state: &S, rules: &R, below: u32) -> Option<Choosing>
     requires one_first { S.first state.now ≡ (R.context rules.now).first }
     ensures { IfSome result (IsChoosable (R.context rules.now) (S.facts state.now)) }
 {
     match item {
-        Item::Fact(Fact::Has(node, concept)) => {
+        Item::Fact(Fact::Has(node, concept)) if node < below => {
             union_of(state, rules, state.representative(node), concept)
         }
+        Item::Fact(Fact::Has(_, _)) => None,
         Item::Fact(Fact::Edge(_, _, _)) => None,
         Item::Fact(Fact::Apart(_, _)) => None,
         Item::Fact(Fact::Same(_, _)) => None,

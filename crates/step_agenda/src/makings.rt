@@ -1,5 +1,7 @@
 // Nodes that a fact asks for.
-ghost use Rattle.std.specs.Prelude.{◌≡◌, ◌<◌, IfOk, IfSome};
+ghost use Rattle.std.specs.Prelude.{◌≡◌, ◌<◌, true, IsTrue, IfOk, IfSome};
+ghost use Rattle.calculus_specs.specs.Joins.{rep};
+ghost use Rattle.calculus_specs.specs.State.{node_count_from, has as holds};
 ghost use Rattle.step_finders.specs.Making.{IsMaking};
 
 use crate::NoMemory;
@@ -7,7 +9,7 @@ use calculus_specs::Fact;
 use completion_tree::{Item, Tree};
 use shq_nnf::Shape;
 use std::alloc::{Allocator, Global};
-use step_finders::{NewNodes, Rules, StateWithBlocks, count_of, find_making_by};
+use step_finders::{NewNodes, Rules, State, StateWithBlocks, count_of, find_making_by};
 
 /// An entry that asks for nodes, as far as its node was not clear.
 #[derive(Clone, Copy, Debug, PartialEq, Eq)]
@@ -127,19 +129,87 @@ fn making_at<S: StateWithBlocks, R: Rules>(
     requires one_first { S.first state.now ≡ (R.context rules.now).first }
     ensures { IfOk result (λ found. IfSome found (IsMaking (R.context rules.now) (S.facts state.now))) }
 {
-    if !asks(rules, concept) {
-        return Ok(None);
-    }
-    if node >= count_of(state, rules) || !state.has(node, concept) {
-        return Ok(None);
-    }
-    if state.representative(node) != node {
-        return Ok(None);
-    }
-    if !state.is_clear(node) {
+    if !is_asked(state, rules, node, concept) || !state.is_clear(node) {
         return Ok(None);
     }
     find_making_by(heap, state, rules, node, concept)
+}
+
+/// Looks from this entry on for new nodes below a first node. Answers the entry for which they are to be made, or the
+/// length of the trail, and the nodes. First nodes are clear, whatever blocks others.
+///
+/// # Errors
+///
+/// Want of memory.
+pub(crate) fn first_below_first<A: Allocator + Copy, S: State, R: Rules>(
+    heap: Global,
+    tree: &Tree<A>,
+    state: &S,
+    rules: &R,
+    from: u32,
+) -> Result<(u32, Option<NewNodes>), NoMemory>
+    requires one_first { S.first state.now ≡ (R.context rules.now).first }
+    ensures { IfOk result (λ p. IfSome p.1 (IsMaking (R.context rules.now) (S.facts state.now))) }
+{
+    for place in from..tree.len() {
+        match below_first_by(heap, tree.item(place), state, rules)? {
+            Some(making) => return Ok((place, Some(making))),
+            None => {}
+        }
+    }
+    Ok((tree.len(), None))
+}
+
+// What nodes below a first node the entry asks for.
+fn below_first_by<S: State, R: Rules>(
+    heap: Global,
+    item: Item,
+    state: &S,
+    rules: &R,
+) -> Result<Option<NewNodes>, NoMemory>
+    requires one_first { S.first state.now ≡ (R.context rules.now).first }
+    ensures { IfOk result (λ found. IfSome found (IsMaking (R.context rules.now) (S.facts state.now))) }
+{
+    match item {
+        Item::Fact(Fact::Has(node, concept)) => {
+            below_first(heap, state, rules, state.representative(node), concept)
+        }
+        Item::Fact(Fact::Edge(_, _, _)) => Ok(None),
+        Item::Fact(Fact::Apart(_, _)) => Ok(None),
+        Item::Fact(Fact::Same(_, _)) => Ok(None),
+        Item::Mark(_) => Ok(None),
+    }
+}
+
+// What nodes are to be made since the node has the concept, where it is a first node and a representative.
+#[tactic(auto, using(crate::proofs::BlockLists::first_is_clear))]
+fn below_first<S: State, R: Rules>(
+    heap: Global,
+    state: &S,
+    rules: &R,
+    node: u32,
+    concept: u32,
+) -> Result<Option<NewNodes>, NoMemory>
+    requires one_first { S.first state.now ≡ (R.context rules.now).first }
+    ensures { IfOk result (λ found. IfSome found (IsMaking (R.context rules.now) (S.facts state.now))) }
+{
+    if node >= rules.first() || !is_asked(state, rules, node, concept) {
+        return Ok(None);
+    }
+    find_making_by(heap, state, rules, node, concept)
+}
+
+// Whether the node is a representative, has the concept, and is asked for successors by it.
+fn is_asked<S: State, R: Rules>(state: &S, rules: &R, node: u32, concept: u32) -> bool
+    requires one_first { S.first state.now ≡ (R.context rules.now).first }
+    ensures node { IsTrue result → node < node_count_from (R.context rules.now).first (S.facts state.now) }
+    ensures representative { IsTrue result → rep (S.facts state.now) node ≡ node }
+    ensures holds { IsTrue result → holds (S.facts state.now) node concept ≡ true }
+{
+    asks(rules, concept)
+        && node < count_of(state, rules)
+        && state.representative(node) == node
+        && state.has(node, concept)
 }
 
 // Whether the concept asks for successors.
