@@ -4,7 +4,7 @@
 //! `empty` where it has none.
 #![tactic(auto)]
 
-ghost use Rattle.std.specs.Prelude.{◌≡◌, ◌++◌, ◌∷◌, [], List, OnOk, decimal, map};
+ghost use Rattle.std.specs.Prelude.{◌≡◌, ◌++◌, ◌∷◌, [], List, OnErr, OnOk, decimal, map};
 ghost use Rattle.ofn_writer.specs.Canonical.{spaced};
 ghost use Rattle.answer_pieces.specs.SetText.{numbers_text, set_text};
 
@@ -15,7 +15,7 @@ use std::alloc::Global;
 /// Puts the numbers of a set last.
 ///
 /// # Errors
-/// Memory may be refused; a front of the numbers was put then.
+/// Memory may be refused.
 pub fn put_set(alloc: Global, out: &mut Vec<u8>, set: &AxiomSet) -> Result<(), NoMemory>
     ensures { OnOk result (out.new.items ≡ out.old.items ++ set_text set.now) }
 {
@@ -50,7 +50,8 @@ fn put_spaced(alloc: Global, out: &mut Vec<u8>, numbers: Numbers<'_>) -> Result<
 /// # Errors
 /// Memory may be refused; nothing was put then.
 pub fn put(out: &mut Vec<u8>, bytes: &[u8]) -> Result<(), NoMemory>
-    ensures { OnOk result (out.new.items ≡ out.old.items ++ bytes.now) }
+    ensures put { OnOk result (out.new.items ≡ out.old.items ++ bytes.now) }
+    ensures unwritten { OnErr result (out.new.items ≡ out.old.items) }
 {
     out.extend_from_slice(bytes)?;
     Ok(())
@@ -61,7 +62,8 @@ pub fn put(out: &mut Vec<u8>, bytes: &[u8]) -> Result<(), NoMemory>
 /// # Errors
 /// Memory may be refused; nothing was put then.
 pub fn put_number(alloc: Global, out: &mut Vec<u8>, number: u32) -> Result<(), NoMemory>
-    ensures { OnOk result (out.new.items ≡ out.old.items ++ decimal number) }
+    ensures put { OnOk result (out.new.items ≡ out.old.items ++ decimal number) }
+    ensures unwritten { OnErr result (out.new.items ≡ out.old.items) }
 {
     let digits = format!(in alloc; "{number}")?;
     put(out, digits.as_bytes())
