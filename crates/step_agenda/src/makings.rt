@@ -182,7 +182,7 @@ fn below_first_by<S: State, R: Rules>(
 }
 
 // What nodes are to be made since the node has the concept, where it is a first node and a representative.
-#[tactic(auto, using(crate::proofs::BlockLists::first_is_clear))]
+#[tactic(auto, using(blocking::proofs::BlockLists::first_is_clear))]
 fn below_first<S: State, R: Rules>(
     heap: Global,
     state: &S,
