@@ -5,7 +5,8 @@ use Rattle.lane_sieve.specs.Sets.{passing}
 use Rattle.shq_terms.specs.Listed.{Listed}
 use Rattle.ofn_writer.specs.Canonical.{line}
 use Rattle.classification_jobs.specs.TaxonomyLists.{GroupLists}
-use Rattle.classification_jobs.specs.Taxonomies.{Parthood, group_of, hierarchy_of, taxonomy_of}
+use Rattle.class_groups.specs.Groups.{Parthood}
+use Rattle.classification_jobs.specs.Taxonomies.{group_of, hierarchy_of, taxonomy_of}
 use Rattle.classification_jobs.specs.TaxonomyText.{taxonomy_text}
 use Rattle.classification_jobs.specs.declared.groups.Taxonomy.TheVariants.{Consistent}
 
@@ -70,7 +71,8 @@ diamond_groups =
     ∷ record { classes = 3 ∷ []; parents = 1 ∷ 2 ∷ [] }
     ∷ []
 
-pub diamond_has_two_sides : taxonomy_of 4 diamond ≡ Consistent (record { nothing = []; thing = []; groups = diamond_groups })
+pub diamond_has_two_sides : taxonomy_of 4 diamond
+    ≡ Consistent (record { nothing = []; thing = []; groups = diamond_groups })
 unfolding passing group_of hierarchy_of
 diamond_has_two_sides = refl
 
@@ -90,7 +92,8 @@ abbrev two_groups : List GroupLists
 two_groups = record { classes = 0 ∷ []; parents = 1 ∷ [] } ∷ record { classes = 1 ∷ 2 ∷ []; parents = [] } ∷ []
 
 -- B and C are no edges to each other, and one parent together
-pub equal_parents_are_one : taxonomy_of 3 equal_parents ≡ Consistent (record { nothing = []; thing = []; groups = two_groups })
+pub equal_parents_are_one : taxonomy_of 3 equal_parents
+    ≡ Consistent (record { nothing = []; thing = []; groups = two_groups })
 unfolding passing group_of hierarchy_of
 equal_parents_are_one = refl
 
@@ -122,16 +125,19 @@ full = by_rows (
     )
 
 -- a class that is equal to owl:Thing is no parent
-pub full_is_no_parent : taxonomy_of 2 full ≡ Consistent (record { nothing = []; thing = 1 ∷ []; groups = record { classes = 0 ∷ []; parents = [] } ∷ [] })
+pub full_is_no_parent : taxonomy_of 2 full
+    ≡ Consistent (record { nothing = []; thing = 1 ∷ []; groups = record { classes = 0 ∷ []; parents = [] } ∷ [] })
 unfolding passing group_of hierarchy_of
 full_is_no_parent = refl
 
 -- ---- no classes, and nothing at all
 
 pub no_classes_have_a_text :
-    taxonomy_text (listing []) (taxonomy_of 0 (by_rows ((0 ∷ []) ∷ (0 ∷ 1 ∷ []) ∷ []))) ≡ line (codes "consistent") ++ (line (codes "nothing") ++ (line (codes "thing") ++ []))
+    taxonomy_text (listing []) (taxonomy_of 0 (by_rows ((0 ∷ []) ∷ (0 ∷ 1 ∷ []) ∷ [])))
+    ≡ line (codes "consistent") ++ (line (codes "nothing") ++ (line (codes "thing") ++ []))
 unfolding passing group_of hierarchy_of
 no_classes_have_a_text = refl
 
-pub no_element_is_inconsistent : taxonomy_text (listing (codes "A" ∷ [])) (taxonomy_of 1 (λ x y. 0 == 0)) ≡ line (codes "inconsistent")
+pub no_element_is_inconsistent : taxonomy_text (listing (codes "A" ∷ [])) (taxonomy_of 1 (λ x y. 0 == 0))
+    ≡ line (codes "inconsistent")
 no_element_is_inconsistent = refl

@@ -5,7 +5,6 @@ pub mod TaxonomyLists
 pub mod Taxonomies
 pub mod TaxonomyText
 pub mod Listing
-pub mod ClassSets
 pub mod TaxonomyLaws
 pub mod Examples
 pub use Rattle.job_inputs.specs.Answer

@@ -1,18 +1,17 @@
 -- Whether the classes of a taxonomy are listed: their numbers are below a count.
-use Rattle.std.specs.Prelude.{ℕ, true, Bool, List, ◌&&◌, nat_lt}
+use Rattle.std.specs.Prelude.{ℕ, true, Bool, ◌&&◌}
 use Rattle.std.specs.List.{list_all}
+use Rattle.class_groups.specs.ClassNames.{are_listed}
 use Rattle.classification_jobs.specs.TaxonomyLists.{GroupLists, HierarchyLists}
 use Rattle.classification_jobs.specs.declared.groups.Taxonomy.{Taxonomy}
 use Rattle.classification_jobs.specs.declared.groups.Taxonomy.TheVariants.{Inconsistent, Consistent}
-
-abbrev pub are_listed : ℕ → List ℕ → Bool
-are_listed count classes = list_all (λ x. nat_lt x count) classes
 
 abbrev pub group_is_listed : ℕ → GroupLists → Bool
 group_is_listed count g = are_listed count g.classes && are_listed count g.parents
 
 abbrev pub hierarchy_is_listed : ℕ → HierarchyLists → Bool
-hierarchy_is_listed count h = are_listed count h.nothing && (are_listed count h.thing && list_all (group_is_listed count) h.groups)
+hierarchy_is_listed count h =
+    are_listed count h.nothing && (are_listed count h.thing && list_all (group_is_listed count) h.groups)
 
 abbrev pub is_listed : ℕ → Taxonomy → Bool
 is_listed count Inconsistent = true

@@ -2,38 +2,10 @@
 -- numbers below their count, owl:Thing has the count as its number, and owl:Nothing the next one.
 use Rattle.std.specs.Prelude.{ℕ, ◌+◌, ◌==◌, Bool, List, not, ◌&&◌, map, if◌then◌else◌}
 use Rattle.lane_sieve.specs.Sets.{passing}
-use Rattle.shq_meaning.specs.Below.{all_below}
+use Rattle.class_groups.specs.Groups.{Parthood, is_empty, holds_all, is_equal, is_first, holds_no_other, is_lowest}
 use Rattle.classification_jobs.specs.TaxonomyLists.{GroupLists, HierarchyLists}
 use Rattle.classification_jobs.specs.declared.groups.Taxonomy.{Taxonomy}
 use Rattle.classification_jobs.specs.declared.groups.Taxonomy.TheVariants.{Inconsistent, Consistent}
-
--- which number is part of which
-abbrev pub Parthood : Type 0
-Parthood = ℕ → ℕ → Bool
-
--- ---- classes
-
--- the class is part of owl:Nothing
-abbrev pub is_empty : ℕ → Parthood → ℕ → Bool
-is_empty count r x = r x (count + 1)
-
--- owl:Thing is part of the class
-abbrev pub holds_all : ℕ → Parthood → ℕ → Bool
-holds_all count r x = r count x
-
--- neither is so
-abbrev pub is_between : ℕ → Parthood → ℕ → Bool
-is_between count r x = not (is_empty count r x) && not (holds_all count r x)
-
--- ---- groups of equal classes, by their first class
-
--- y is one of the classes of the group of x: each of the two is part of the other one
-abbrev pub is_equal : ℕ → Parthood → ℕ → ℕ → Bool
-is_equal count r x y = is_between count r y && (r x y && r y x)
-
--- x is the first class of a group
-abbrev pub is_first : ℕ → Parthood → ℕ → Bool
-is_first count r x = is_between count r x && all_below x (λ y. not (is_equal count r x y))
 
 -- p is the first class of another group than that of x, and holds x
 abbrev pub is_above : ℕ → Parthood → ℕ → ℕ → Bool
@@ -41,17 +13,18 @@ is_above count r x p = is_first count r p && (not (p == x) && r x p)
 
 -- no third group that holds x lies in that of p
 abbrev pub is_next : ℕ → Parthood → ℕ → ℕ → Bool
-is_next count r x p = all_below count (λ q. not (is_above count r x q && (not (q == p) && r q p)))
+is_next count r x p = holds_no_other count r (is_above count r x) p
 
 -- the group of p is directly above that of x
 abbrev pub is_parent : ℕ → Parthood → ℕ → ℕ → Bool
-is_parent count r x p = is_above count r x p && is_next count r x p
+is_parent count r x p = is_lowest count r (is_above count r x) p
 
 -- ---- the whole
 
 -- the group whose first class is x
 unfoldable pub group_of : ℕ → Parthood → ℕ → GroupLists
-group_of count r x = record { classes = passing (is_equal count r x) 0 count; parents = passing (is_parent count r x) 0 count }
+group_of count r x =
+    record { classes = passing (is_equal count r x) 0 count; parents = passing (is_parent count r x) 0 count }
 
 -- a group for each class that is the first of its group
 abbrev pub groups_of : ℕ → Parthood → List GroupLists

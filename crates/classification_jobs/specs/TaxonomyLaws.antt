@@ -2,7 +2,8 @@
 use Rattle.std.specs.Prelude.{◌≡◌, length}
 use Rattle.shq_terms.specs.Listed.{Listed}
 use Rattle.classifier.specs.Subsumption.{IsSubsumption}
-use Rattle.classification_jobs.specs.Taxonomies.{Parthood, taxonomy_of}
+use Rattle.class_groups.specs.Groups.{Parthood}
+use Rattle.classification_jobs.specs.Taxonomies.{taxonomy_of}
 use Rattle.classification_jobs.specs.TaxonomyText.{taxonomy_text}
 use Rattle.classification_jobs.specs.declared.groups.Taxonomy.{Taxonomy}
 
@@ -12,8 +13,10 @@ taxonomy_by o r = taxonomy_of (length o.classes) r
 
 -- whatever relation says which class is part of which, the taxonomy is the same
 abbrev pub HaveOneTaxonomy : Type 0
-HaveOneTaxonomy = (o : Listed) (r s : Parthood) → IsSubsumption o r → IsSubsumption o s → taxonomy_by o r ≡ taxonomy_by o s
+HaveOneTaxonomy = (o : Listed) (r s : Parthood) → IsSubsumption o r → IsSubsumption o s
+    → taxonomy_by o r ≡ taxonomy_by o s
 
 -- and so is its text
 abbrev pub HaveOneText : Type 0
-HaveOneText = (o : Listed) (r s : Parthood) → IsSubsumption o r → IsSubsumption o s → taxonomy_text o (taxonomy_by o r) ≡ taxonomy_text o (taxonomy_by o s)
+HaveOneText = (o : Listed) (r s : Parthood) → IsSubsumption o r → IsSubsumption o s
+    → taxonomy_text o (taxonomy_by o r) ≡ taxonomy_text o (taxonomy_by o s)

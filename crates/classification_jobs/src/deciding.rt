@@ -5,7 +5,7 @@ ghost use Rattle.classifier.specs.HonestLog.{IsClassificationLog};
 ghost use Rattle.classifier.specs.Rows.{holds};
 ghost use Rattle.classifier.specs.ClassificationClassified.{IsClassified};
 ghost use Rattle.classifier.specs.Excluded.{AsksNoExcluded};
-ghost use Rattle.classifier.specs.Classified.{IsStop};
+ghost use Rattle.classifier.specs.Stops.{IsStop};
 ghost use Rattle.classification_jobs.specs.Taxonomies.{taxonomy_of};
 ghost use Rattle.classification_jobs.specs.TaxonomyText.{taxonomy_text};
 ghost use Rattle.job_inputs.specs.Answer.{text_bytes};
@@ -53,7 +53,9 @@ pub(crate) fn text_of(
     ontology: &Ontology,
 ) -> Result<Text, NoMemory>
     requires { relation.count ≡ length ontology.now.classes }
-    ensures { IfOk result (λ text. text_bytes text ≡ taxonomy_text ontology.now (taxonomy_of (length ontology.now.classes) (holds relation))) }
+    ensures { IfOk result
+        (λ text. text_bytes text
+        ≡ taxonomy_text ontology.now (taxonomy_of (length ontology.now.classes) (holds relation))) }
 {
     let taxonomy = Taxonomy::of(alloc, &relation)?;
     let mut out = Vec::new(alloc);

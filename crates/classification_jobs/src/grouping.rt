@@ -1,15 +1,18 @@
 // From a relation of classes to its taxonomy.
-ghost use Rattle.std.specs.Prelude.{◌≡◌, ℕ, ◌<◌, ◌==◌, ◌&&◌, not, true, IfOk, IsTrue, map};
-ghost use Rattle.shq_meaning.specs.Below.{all_below};
+ghost use Rattle.std.specs.Prelude.{◌≡◌, ◌<◌, IfOk, IsTrue};
 ghost use Rattle.lane_sieve.specs.Sets.{passing};
 ghost use Rattle.classifier.specs.Rows.{holds};
-ghost use Rattle.classification_jobs.specs.ClassSets.{has_class, HoldsClasses};
+ghost use Rattle.class_groups.specs.ClassSets.{HoldsClasses};
+ghost use Rattle.class_groups.specs.Groups.{is_empty, holds_all, is_between, is_first};
 ghost use Rattle.classification_jobs.specs.Listing.{is_listed};
-ghost use Rattle.classification_jobs.specs.Taxonomies.{is_empty, holds_all, is_between, is_equal, is_first, is_above, is_parent, group_of, groups_of, hierarchy_of, taxonomy_of};
+ghost use Rattle.classification_jobs.specs.Taxonomies.{is_above, is_parent, group_of, groups_of, hierarchy_of};
+ghost use Rattle.classification_jobs.specs.Taxonomies.{taxonomy_of};
 
-use crate::class_sets::{classes_of, has_none_before, keep, push_if, put_if};
 use crate::groups::{Group, Hierarchy, Taxonomy};
 use axiom_sets::AxiomSet;
+use class_groups::{
+    classes_between, classes_of, equal_classes, first_classes, keep, lowest, push_if,
+};
 use classifier::Relation;
 use shq_terms::NoMemory;
 use std::alloc::Global;
@@ -43,7 +46,8 @@ fn hierarchy(alloc: Global, relation: &Relation) -> Result<Hierarchy, NoMemory>
 
 // The classes that are part of `owl:Nothing`.
 fn empty_classes(alloc: Global, relation: &Relation) -> Result<Vec<u32>, NoMemory>
-    ensures { IfOk result (λ cs. cs.items ≡ passing (is_empty relation.now.count (holds relation.now)) 0 relation.now.count) }
+    ensures { IfOk result
+        (λ cs. cs.items ≡ passing (is_empty relation.now.count (holds relation.now)) 0 relation.now.count) }
 {
     let count = relation.class_count();
     let mut classes = Vec::new(alloc);
@@ -55,7 +59,8 @@ fn empty_classes(alloc: Global, relation: &Relation) -> Result<Vec<u32>, NoMemor
 
 // The classes that `owl:Thing` is part of.
 fn full_classes(alloc: Global, relation: &Relation) -> Result<Vec<u32>, NoMemory>
-    ensures { IfOk result (λ cs. cs.items ≡ passing (holds_all relation.now.count (holds relation.now)) 0 relation.now.count) }
+    ensures { IfOk result
+        (λ cs. cs.items ≡ passing (holds_all relation.now.count (holds relation.now)) 0 relation.now.count) }
 {
     let count = relation.class_count();
     let mut classes = Vec::new(alloc);
@@ -79,62 +84,6 @@ fn groups(alloc: Global, relation: &Relation) -> Result<Vec<Group>, NoMemory>
     Ok(groups)
 }
 
-// The classes that are not equal to `owl:Nothing` and not to `owl:Thing`.
-fn classes_between(alloc: Global, relation: &Relation) -> Result<AxiomSet, NoMemory>
-    ensures { IfOk result (HoldsClasses relation.now.count (is_between relation.now.count (holds relation.now))) }
-{
-    let count = relation.class_count();
-    let mut between = AxiomSet::empty(alloc, count + 2)?;
-    for class in 0..count {
-        let passes = !relation.relates(class, count + 1) && !relation.relates(count, class);
-        put_if(&mut between, class, passes);
-    }
-    Ok(between)
-}
-
-// Those of these classes that are equal to none before them.
-fn first_classes(
-    alloc: Global,
-    relation: &Relation,
-    between: &AxiomSet,
-) -> Result<AxiomSet, NoMemory>
-    requires { HoldsClasses relation.now.count (is_between relation.now.count (holds relation.now)) between.now }
-    ensures { IfOk result (HoldsClasses relation.now.count (is_first relation.now.count (holds relation.now))) }
-{
-    let count = relation.class_count();
-    let mut firsts = AxiomSet::empty(alloc, count + 2)?;
-    for class in 0..count {
-        let passes = is_first(relation, between, class)?;
-        put_if(&mut firsts, class, passes);
-    }
-    Ok(firsts)
-}
-
-fn is_first(relation: &Relation, between: &AxiomSet, class: u32) -> Result<bool, NoMemory>
-    requires class { class < relation.now.count }
-    requires between { HoldsClasses relation.now.count (is_between relation.now.count (holds relation.now)) between.now }
-    ensures { IfOk result (λ passes. passes ≡ is_first relation.now.count (holds relation.now) class) }
-{
-    let _limit = between.limit();
-    if !between.has(class + 1) {
-        return Ok(false);
-    }
-    let equal = equal_classes(relation, between, class)?;
-    Ok(has_none_before(&equal, class))
-}
-
-// The classes of the group of a class.
-fn equal_classes(relation: &Relation, between: &AxiomSet, class: u32) -> Result<AxiomSet, NoMemory>
-    requires class { class < relation.now.count }
-    requires between { HoldsClasses relation.now.count (is_between relation.now.count (holds relation.now)) between.now }
-    ensures { IfOk result (HoldsClasses relation.now.count (is_equal relation.now.count (holds relation.now) class)) }
-{
-    let mut equal = between.try_clone()?;
-    keep(&mut equal, relation.above(class))?;
-    keep(&mut equal, relation.below(class))?;
-    Ok(equal)
-}
-
 // The group whose first class is this one.
 fn group(
     alloc: Global,
@@ -144,7 +93,8 @@ fn group(
     class: u32,
 ) -> Result<Group, NoMemory>
     requires class { class < relation.now.count }
-    requires between { HoldsClasses relation.now.count (is_between relation.now.count (holds relation.now)) between.now }
+    requires between { HoldsClasses relation.now.count (is_between relation.now.count (holds relation.now))
+        between.now }
     requires firsts { HoldsClasses relation.now.count (is_first relation.now.count (holds relation.now)) firsts.now }
     ensures { IfOk result (λ g. g ≡ group_of relation.now.count (holds relation.now) class) }
 {
@@ -163,16 +113,11 @@ fn parents(
 ) -> Result<Vec<u32>, NoMemory>
     requires class { class < relation.now.count }
     requires firsts { HoldsClasses relation.now.count (is_first relation.now.count (holds relation.now)) firsts.now }
-    ensures { IfOk result (λ ps. ps.items ≡ passing (is_parent relation.now.count (holds relation.now) class) 0 relation.now.count) }
+    ensures { IfOk result
+        (λ ps. ps.items ≡ passing (is_parent relation.now.count (holds relation.now) class) 0 relation.now.count) }
 {
-    let mut above = classes_above(relation, firsts, class)?;
-    let candidates = classes_of(alloc, &above)?;
-    let mut parents = Vec::new(alloc);
-    for candidate in &candidates {
-        let lowest = is_lowest(relation, &mut above, *candidate);
-        push_if(&mut parents, *candidate, lowest)?;
-    }
-    Ok(parents)
+    let above = classes_above(relation, firsts, class)?;
+    lowest(alloc, relation, &above)
 }
 
 // The first classes of the other groups that hold a class.
@@ -185,20 +130,4 @@ fn classes_above(relation: &Relation, firsts: &AxiomSet, class: u32) -> Result<A
     above.take(class + 1);
     keep(&mut above, relation.above(class))?;
     Ok(above)
-}
-
-// Whether no other class of the set is part of this one, which is in it. The set is as before.
-fn is_lowest(relation: &Relation, set: &mut AxiomSet, class: u32) -> bool
-    requires class { class < relation.now.count }
-    requires set { HoldsClasses relation.now.count (has_class set.old) set.old }
-    requires member { has_class set.old class ≡ true }
-    ensures lowest { result ≡ all_below relation.now.count (λ x. not (has_class set.old x && (not (x == class) && holds relation.now x class))) }
-    ensures limit { set.new.limit ≡ set.old.limit }
-    ensures same { (x : ℕ) → has_class set.new x ≡ has_class set.old x }
-{
-    let _limit = set.limit();
-    set.take(class + 1);
-    let lowest = !relation.below(class).meets(set);
-    set.put(class + 1);
-    lowest
 }

@@ -9,7 +9,6 @@
 #![tactic(auto)]
 
 mod answering;
-mod class_sets;
 mod deciding;
 mod grouping;
 mod groups;

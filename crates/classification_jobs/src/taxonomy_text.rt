@@ -1,11 +1,13 @@
 // The text of a taxonomy.
-ghost use Rattle.std.specs.Prelude.{◌≡◌, ◌<◌, ◌++◌, OnOk, OnErr, IsTrue, length};
+ghost use Rattle.std.specs.Prelude.{◌≡◌, ◌++◌, OnOk, OnErr, IsTrue, length};
 ghost use Rattle.std.specs.List.{list_all};
-ghost use Rattle.ofn_writer.specs.Canonical.{class_text, line};
-ghost use Rattle.classification_jobs.specs.TaxonomyText.{names_text, parents_text, group_line, group_lines, hierarchy_text, taxonomy_text};
-ghost use Rattle.classification_jobs.specs.Listing.{are_listed, group_is_listed, hierarchy_is_listed, is_listed};
+ghost use Rattle.ofn_writer.specs.Canonical.{line};
+ghost use Rattle.class_groups.specs.ClassNames.{are_listed, names_text};
+ghost use Rattle.classification_jobs.specs.TaxonomyText.{group_line, group_lines, hierarchy_text, taxonomy_text};
+ghost use Rattle.classification_jobs.specs.Listing.{group_is_listed, hierarchy_is_listed, is_listed};
 
 use crate::groups::{Group, Hierarchy, Taxonomy};
+use class_groups::{put, put_names, put_names_or_thing};
 use shq_terms::{NoMemory, Ontology};
 
 impl Taxonomy {
@@ -86,49 +88,8 @@ fn put_group(out: &mut Vec<u8>, group: &Group, ontology: &Ontology) -> Result<()
     put(out, b"class")?;
     put_names(out, group.classes(), ontology)?;
     put(out, b" under")?;
-    put_parents(out, group.parents(), ontology)?;
+    put_names_or_thing(out, group.parents(), ontology)?;
     put(out, b"\n")
-}
-
-// Puts parents last, each after one blank.
-fn put_parents(out: &mut Vec<u8>, parents: &[u32], ontology: &Ontology) -> Result<(), NoMemory>
-    requires { IsTrue (are_listed (length ontology.now.classes) parents.now) }
-    ensures { OnOk result (out.new.items ≡ out.old.items ++ parents_text ontology.now parents.now) }
-{
-    if parents.is_empty() {
-        put(out, b" owl:Thing")
-    } else {
-        put_names(out, parents, ontology)
-    }
-}
-
-// Puts classes last, each after one blank.
-fn put_names(out: &mut Vec<u8>, classes: &[u32], ontology: &Ontology) -> Result<(), NoMemory>
-    requires { IsTrue (are_listed (length ontology.now.classes) classes.now) }
-    ensures { OnOk result (out.new.items ≡ out.old.items ++ names_text ontology.now classes.now) }
-{
-    for class in classes {
-        put(out, b" ")?;
-        put_class(out, *class, ontology)?;
-    }
-    Ok(())
-}
-
-fn put_class(out: &mut Vec<u8>, class: u32, ontology: &Ontology) -> Result<(), NoMemory>
-    requires { class < length ontology.now.classes }
-    ensures { OnOk result (out.new.items ≡ out.old.items ++ class_text ontology.now class) }
-{
-    put(out, b"<")?;
-    put(out, ontology.class_name(class).as_bytes())?;
-    put(out, b">")
-}
-
-// Puts bytes last.
-fn put(out: &mut Vec<u8>, bytes: &[u8]) -> Result<(), NoMemory>
-    ensures { OnOk result (out.new.items ≡ out.old.items ++ bytes.now) }
-{
-    out.extend_from_slice(bytes)?;
-    Ok(())
 }
 
 // Puts a whole text last, or changes nothing.

@@ -1,15 +1,1 @@
-pub mod Advanced
-pub mod Counting
-pub mod Ended
-pub mod Open
-pub mod Tested
-pub mod Bounded
-pub mod Order
-pub mod United
-pub mod Chains
-pub mod InLimit
-pub mod Logged
-pub mod Mirrored
 pub mod Settled
-pub mod Firsts
-pub mod Begun

@@ -1,84 +1,37 @@
 -- Where each pair is settled, the classification is done.
-use Rattle.std.proofs.Common.{◌≡◌, ◌⊎◌, ℕ, ◌+◌, ◌<◌, ◌||◌, true, List, length, sym, subst, arith, inl, inr}
-use Rattle.std.proofs.lemmas.Bool.{or_cases}
-use Rattle.std.proofs.lemmas.List.Elements.{All-contains}
+use Rattle.std.proofs.Common.{◌≡◌, ◌⊎◌, ℕ, ◌+◌, ◌<◌, ◌||◌, true, List, length, subst}
 use Rattle.shq_terms.specs.Concept.{Concept}
-use Rattle.shq_terms.proofs.Bools.{none_outside}
 use Rattle.shq_terms.specs.Listed.{Listed}
-use Rattle.shq_terms.specs.declared.axioms.Axiom.{Axiom}
-use Rattle.shq_terms.specs.declared.axioms.On.{On}
-use Rattle.shq_terms.specs.declared.axioms.On.TheVariants.{Any}
-use Rattle.shq_meaning.specs.Truth.{holds as has_element, Entails}
-use Rattle.refutation_truth.specs.Theory.{all_axioms}
 use Rattle.run_log.specs.declared.entry.Entry.{Entry}
-use Rattle.run_log.specs.declared.entry.Entry.TheVariants.{Test}
-use Rattle.run_log.specs.declared.entry.TestEnd.TheVariants.{No}
-use Rattle.run_log.specs.HonestLog.{IsHonestEntry, IsClassTest, IsChain, IsClassificationLog}
-use Rattle.run_log.specs.HonestLog.IsChain.{none}
+use Rattle.run_log.specs.HonestLog.{IsChain, IsClassificationLog}
 use Rattle.run_log.specs.Shown.{IsRuledOut, ShowsClasses}
-use Rattle.run_log.proofs.Told.{chain_is_true}
-use Rattle.run_log.proofs.Named.{whole}
-use Rattle.classifier.specs.Matrices.{Matrix, has}
-use Rattle.classifier.specs.Rows.{Rows, holds, IsOrder}
-use Rattle.classifier.specs.Subsumption.{class_at, query_at, IsSubsumption}
+use Rattle.subsumption.specs.Matrices.{Matrix, has}
+use Rattle.subsumption.specs.Rows.{Rows, holds}
+use Rattle.subsumption.specs.Subsumption.{class_at}
+use Rattle.subsumption.specs.Mirrors.{Mirrors}
+use Rattle.subsumption.specs.Settled.{IsSettled, IsShownPair}
+use Rattle.subsumption.proofs.InLimit.{HasNumber, has_number}
+use Rattle.subsumption.proofs.Settled.{is_settled}
 use Rattle.classifier.specs.ClassificationClassified.{IsClassified}
-use Rattle.classifier.specs.Mirrors.{Mirrors}
-use Rattle.classifier.proofs.Chains.{then_chain}
-use Rattle.classifier.proofs.InLimit.{HasNumber, has_number}
 
-pub part_of_part : (axioms : List Axiom) (x y z : Concept) → Entails axioms (record { sub = x; sup = y; on = Any }) → Entails axioms (record { sub = y; sup = z; on = Any }) → Entails axioms (record { sub = x; sup = z; on = Any })
-part_of_part axioms x y z h k i some placed meets v lt = none_outside (has_element i x v) (has_element i y v) (has_element i z v) (h i some placed meets v lt) (k i some placed meets v lt)
+-- each class has a number
+shows : (o : Listed) (log : List Entry)
+    → ((x y : ℕ) → x < length o.classes + 2 → y < length o.classes + 2 → IsShownPair (length o.classes) log x y)
+    → ShowsClasses o log
+shows o log shown x y cx cy differ = at (has_number o x cx) (has_number o y cy)
+  where
+    at : HasNumber o x → HasNumber o y → IsChain log x y ⊎ IsRuledOut log x y
+    at (a, la, ea) (b, lb, eb) =
+        let n = length o.classes in
+        subst (λ (z : Concept). IsChain log z y ⊎ IsRuledOut log z y) ea
+        (subst (λ (z : Concept). IsChain log (class_at n a) z ⊎ IsRuledOut log (class_at n a) z) eb (shown a b la lb))
 
-module _ (o : Listed) (budget : ℕ) (log : List Entry) (honest : IsClassificationLog o budget log) where
-  -- what is ruled out does not follow
-  pub ruled_out_is_true : (x y : Concept) → IsRuledOut log x y → Entails (all_axioms o.axioms) (record { sub = x; sup = y; on = Any }) → ⊥
-  ruled_out_is_true x y r h =
-      let all = all_axioms o.axioms in
-      let q = r.query in
-      let so = All-contains (IsHonestEntry o) log (Test r.tested q r.steps No) honest.budget_kept.honest r.is_no in
-      let test = All-contains (IsClassTest o) log (Test r.tested q r.steps No) honest.tests r.is_no in
-      let lower = chain_is_true o log q.sub x honest.budget_kept.honest honest.tests r.lower in
-      let upper = chain_is_true o log y q.sup honest.budget_kept.honest honest.tests r.upper in
-      let part : Entails all (record { sub = q.sub; sup = q.sup; on = Any }) = part_of_part all q.sub x q.sup lower (part_of_part all x y q.sup h upper) in
-      let follows : Entails all q = subst (λ (on : On). Entails all (record { sub = q.sub; sup = q.sup; on = on })) (sym r.of_all) part in
-      so.1.follows_not (subst (λ (as_ : List Axiom). Entails as_ q) (sym (whole o r.tested test.0)) follows)
+pub classified : (o : Listed) (log : List Entry) (r : Rows) → IsSettled o log r → IsClassified o log r
+classified o log r s = record { count_is = s.count_is; order = s.order; is_so = s.is_so; shown = shows o log s.shown }
 
-  module _ (known : Rows) (ruled_out : Matrix) (m : Mirrors o log known ruled_out)
-      (settled : (x y : ℕ) → x < length o.classes + 2 → y < length o.classes + 2 → (holds known x y || has ruled_out x y) ≡ true) where
-    abbrev c : ℕ → Concept
-    c a = class_at (length o.classes) a
-
-    shown_at : (x y : ℕ) → x < length o.classes + 2 → y < length o.classes + 2 → IsChain log (c x) (c y) ⊎ IsRuledOut log (c x) (c y)
-    shown_at x y lx ly = elim (or_cases (holds known x y) (has ruled_out x y) (settled x y lx ly)) [
-      | inl h ↦ inl ((m.known_is x y lx ly).0 h)
-      | inr h ↦ inr ((m.ruled_out_is x y lx ly).0 h)
-    ]
-
-    shows : ShowsClasses o log
-    shows x y cx cy differ = at (has_number o x cx) (has_number o y cy)
-      where
-        at : HasNumber o x → HasNumber o y → IsChain log x y ⊎ IsRuledOut log x y
-        at (a, la, ea) (b, lb, eb) = subst (λ (z : Concept). IsChain log z y ⊎ IsRuledOut log z y) ea (subst (λ (z : Concept). IsChain log (c a) z ⊎ IsRuledOut log (c a) z) eb (shown_at a b la lb))
-
-    is_order : IsOrder (length o.classes + 2) (holds known)
-    is_order = record {
-      reflexive = λ x lx. (m.known_is x x lx lx).1 (none (c x));
-      transitive = λ x y z lx ly lz h k. (m.known_is x z lx lz).1 (then_chain log (c x) (c y) (c z) ((m.known_is x y lx ly).0 h) ((m.known_is y z ly lz).0 k));
-    }
-
-    is_part : (x y : ℕ) → x < length o.classes + 2 → y < length o.classes + 2 → Entails (all_axioms o.axioms) (query_at (length o.classes) x y) → holds known x y ≡ true
-    is_part x y lx ly h = elim (or_cases (holds known x y) (has ruled_out x y) (settled x y lx ly)) [
-      | inl k ↦ k
-      | inr k ↦ absurd (ruled_out_is_true (c x) (c y) ((m.ruled_out_is x y lx ly).0 k) h)
-    ]
-
-    is_subsumption : IsSubsumption o (holds known)
-    is_subsumption x y lx ly =
-        let kx : x < length o.classes + 2 = omega (arith, lx) in
-        let ky : y < length o.classes + 2 = omega (arith, ly) in (
-          λ h. chain_is_true o log (c x) (c y) honest.budget_kept.honest honest.tests ((m.known_is x y kx ky).0 h),
-          λ h. is_part x y kx ky h,
-        )
-
-    pub is_classified : IsClassified o log known
-    is_classified = record { count_is = m.count_is; order = is_order; is_so = is_subsumption; shown = shows }
+pub is_classified : (o : Listed) (budget : ℕ) (log : List Entry) → IsClassificationLog o budget log
+    → (known : Rows) (ruled_out : Matrix) → Mirrors o log known ruled_out
+    → ((x y : ℕ) → x < length o.classes + 2 → y < length o.classes + 2 → (holds known x y || has ruled_out x y) ≡ true)
+    → IsClassified o log known
+is_classified o budget log honest known ruled_out m settled =
+    classified o log known (is_settled o budget log honest known ruled_out m settled)

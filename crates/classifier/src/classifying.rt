@@ -2,17 +2,15 @@
 ghost use Rattle.std.specs.Prelude.{◌≡◌, [], IfOk, IfErr};
 ghost use Rattle.ontology_limits.specs.Limits.{IsOntologyInLimit};
 ghost use Rattle.run_log.specs.HonestLog.{IsClassificationLog};
-ghost use Rattle.classifier.specs.ClassificationClassified.{IsClassified, all_in_none, BeginsWith};
-ghost use Rattle.classifier.specs.Excluded.{AsksNoExcluded};
-ghost use Rattle.classifier.specs.Classified.{IsStop};
+ghost use Rattle.subsumption.specs.LogEnds.{all_in_none, BeginsWith};
+ghost use Rattle.subsumption.specs.Excluded.{AsksNoExcluded};
+ghost use Rattle.subsumption.specs.Stops.{IsStop};
+ghost use Rattle.classifier.specs.ClassificationClassified.{IsClassified};
 
-use crate::Relation;
-use crate::progress::Progress;
-use crate::stop::Stop;
-use crate::told::Told;
 use shq_oracle::Oracle;
 use shq_terms::Ontology;
 use std::alloc::Global;
+use subsumption::{Relation, Stop, settle};
 
 /// Which class of the ontology is part of which, by all of its axioms (OWL 2 Direct Semantics, section 2.5), where the
 /// oracle is one for this ontology that was asked nothing yet. The log shows each pair. The first question is whether
@@ -40,8 +38,5 @@ pub fn classify(
     ensures same_ontology { oracle.new.ontology ≡ oracle.old.ontology }
     ensures same_budget { oracle.new.budget ≡ oracle.old.budget }
 {
-    let told = Told::by(alloc, ontology)?;
-    let mut progress = Progress::new(alloc, ontology)?;
-    progress.settle_all(oracle, told.inclusions())?;
-    Ok(progress.into_known())
+    settle(alloc, oracle, ontology)
 }

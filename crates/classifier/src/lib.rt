@@ -1,44 +1,20 @@
-//! Classification: which class of an ontology is part of which, decided by an oracle that answers one question at a
-//! time.
+//! Classification: the hierarchy of all classes of an ontology, as a relation that says of each two whether the one is
+//! part of the other, with a log that shows each pair (Franz Baader, Bernhard Hollunder, Bernhard Nebel, Hans-Jürgen
+//! Profitlich and Enrico Franconi, "An Empirical Analysis of Optimization Techniques for Terminological Representation
+//! Systems", Applied Intelligence 4, 1994).
 //!
-//! What is asked is only what no earlier answer settles. An answer that a class is part of another settles all that
-//! follows of it; one that it is not rules out each pair that would imply it. The first questions are whether all
-//! things are in the class of none, and whether what axioms say in so many words is so. Then come the classes below
-//! which none is known, and then the others: what is ruled out for a class is so for all above it.
-//!
-//! Of each class is asked first whether it is part of the class of none. The search for that answers for many other
-//! classes too: it shows of those with which it had nothing to do that the class is no part of them ([`Oracle`]'s
-//! `test_apart`). Where one of these is asked about, its answer is put into the log (`note_apart`), and nothing is
-//! searched.
-//!
-//! The next question of a class is about a most general one of the classes that are open, so that whole parts of the
-//! hierarchy are ruled out by one answer, as in "An Empirical Analysis of Optimization Techniques for Terminological
-//! Representation Systems" (Franz Baader, Bernhard Hollunder, Bernhard Nebel, Hans-Jürgen Profitlich and Enrico
-//! Franconi, Applied Intelligence 4, 1994), and "A Novel Approach to Ontology Classification" (Birte Glimm, Ian
-//! Horrocks, Boris Motik, Rob Shearer and Giorgos Stoilos, Journal of Web Semantics 14, 2012).
-//!
-//! The order of the questions is no part of any contract. What is promised is the relation itself, that the log of the
-//! oracle shows each of its pairs, and that no question was asked whose answer followed from the answers before.
-//!
-//! What is known is kept as one row of bits for each class ([`Relation`]); `classification_laws` say what tests settle.
+//! The questions are those of `subsumption`, which asks until each pair is settled. A reader of the log needs to trust
+//! neither their order nor the relation: for each two different classes, a chain of answers leads from the one to the
+//! other, or some answer rules that out. `classification_laws` say what the tests of a classification lead to.
 #![tactic(auto)]
 
 mod classification_laws;
 mod classifying;
-mod finding;
-mod matrix;
-mod progress;
-mod relation;
-mod relation_laws;
-mod stop;
-mod testing;
-mod told;
 
 pub use classification_laws::{exclusions_are_true, questions_are_in_limit, settled_is_classified};
 pub use classifying::classify;
-pub use matrix::BitMatrix;
-pub use relation::Relation;
-pub use relation_laws::{first_is_order, relating_keeps_order, subsumption_is_one};
 pub use shq_oracle::{Oracle, RunLog};
 pub use shq_terms::NoMemory;
-pub use stop::Stop;
+pub use subsumption::{
+    BitMatrix, Relation, Stop, first_is_order, relating_keeps_order, subsumption_is_one,
+};

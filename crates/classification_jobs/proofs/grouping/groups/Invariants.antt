@@ -1,12 +1,15 @@
 use Rattle.std.proofs.Common.{◌≡◌, ◌++◌, drop, map, true}
 use Rattle.lane_sieve.specs.Sets.{passing}
 use Rattle.classifier.specs.Rows.{holds}
-use Rattle.classification_jobs.specs.Listing.{are_listed}
-use Rattle.classification_jobs.specs.Taxonomies.{is_first, group_of}
+use Rattle.class_groups.specs.ClassNames.{are_listed}
+use Rattle.class_groups.specs.Groups.{is_first}
+use Rattle.classification_jobs.specs.Taxonomies.{group_of}
 use Rattle.classification_jobs.proofs.grouping.groups.Given as goal
 
 abbrev pub invariant-loop-class : goal.invariant-loop-class
 invariant-loop-class l = record {
-  made : l.groups.items ++ map (group_of l.relation.count (holds l.relation)) (drop l.class-index l.class-items) ≡ map (group_of l.relation.count (holds l.relation)) (passing (is_first l.relation.count (holds l.relation)) 0 l.relation.count);
+  made : l.groups.items ++ map (group_of l.relation.count (holds l.relation)) (drop l.class-index l.class-items)
+      ≡ map (group_of l.relation.count (holds l.relation))
+      (passing (is_first l.relation.count (holds l.relation)) 0 l.relation.count);
   listed : are_listed l.relation.count (drop l.class-index l.class-items) ≡ true;
 }

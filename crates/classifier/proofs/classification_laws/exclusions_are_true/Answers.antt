@@ -1,4 +1,4 @@
-use Rattle.classifier.proofs.Settled.{ruled_out_is_true}
+use Rattle.subsumption.proofs.Settled.{ruled_out_is_true}
 use Rattle.classifier.proofs.classification_laws.exclusions_are_true.Goals as goal
 
 pub returns : goal.returns

@@ -1,0 +1,5 @@
+pub mod Passing
+pub mod Members
+pub mod NoneBelow
+pub mod Grouped
+pub mod Same

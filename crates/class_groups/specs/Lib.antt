@@ -1,0 +1,3 @@
+pub mod ClassSets
+pub mod Groups
+pub mod ClassNames

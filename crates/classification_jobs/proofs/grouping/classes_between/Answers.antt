@@ -1,9 +1,0 @@
-use Rattle.std.proofs.Common.{ℕ, ◌+◌, ◌∙◌, ap}
-use Rattle.classifier.specs.Rows.{holds}
-use Rattle.classification_jobs.specs.Taxonomies.{is_between}
-use Rattle.classification_jobs.proofs.Members.{holds_none}
-use Rattle.classification_jobs.proofs.grouping.classes_between.Goals as goal
-
-pub loop-class-init : goal.loop-class-init
-loop-class-init c =
-    holds_none (is_between c.args.relation.now.count (holds c.args.relation.now)) (c.args.relation.now.count + 2) c.in_ok-between.between (c.in_ok-between.ensures.limit ∙ ap (λ (n : ℕ). n + 2) c.class_count-count.ensures.count) c.in_ok-between.ensures.members

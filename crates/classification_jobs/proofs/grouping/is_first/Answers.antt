@@ -1,9 +1,0 @@
-use Rattle.std.proofs.Common.{◌∙◌, sym}
-use Rattle.classifier.specs.Rows.{holds}
-use Rattle.classification_jobs.proofs.Grouped.{first_where_none}
-use Rattle.classification_jobs.proofs.grouping.is_first.Goals as goal
-
-pub returns : goal.returns
-returns c =
-    first_where_none c.args.relation.now.count (holds c.args.relation.now) c.args.class c.has_none_before.result c.in_ok-equal.equal c.requires.class
-    (sym (c.requires.between.inside c.args.class c.requires.class) ∙ sym c.has.ensures ∙ c.if-not-has.false) c.in_ok-equal.ensures c.has_none_before.ensures

@@ -1,5 +1,0 @@
-use Rattle.classifier.proofs.United.{AreBlank}
-use Rattle.classifier.proofs.matrix.BitMatrix.empty.Given as goal
-
-abbrev pub invariant-loop : goal.invariant-loop
-invariant-loop l = AreBlank l.size l.counter l.rows.items

@@ -1,6 +1,0 @@
-use Rattle.classifier.specs.Matrices.{IsMatrix}
-use Rattle.classifier.proofs.Bounded.{bounded_below}
-use Rattle.classifier.proofs.relation.bounded.Given as goal
-
-abbrev pub invariant-loop-x : goal.invariant-loop-x
-invariant-loop-x l = IsMatrix l.size (bounded_below l.greatest l.least l.x) l.matrix

@@ -1,5 +1,0 @@
-use Rattle.classifier.proofs.Order.{first_order}
-use Rattle.classifier.proofs.relation_laws.first_is_order.Goals as goal
-
-pub returns : goal.returns
-returns c = first_order

@@ -1,5 +1,0 @@
-use Rattle.classifier.proofs.Order.{relating_order}
-use Rattle.classifier.proofs.relation_laws.relating_keeps_order.Goals as goal
-
-pub returns : goal.returns
-returns c = relating_order

@@ -1,0 +1,11 @@
+pub mod Truths
+pub mod Places
+pub mod Chains
+pub mod Logged
+pub mod Typed
+pub mod Begun
+pub mod Found
+pub mod Realized
+pub mod Counting
+pub mod Pruned
+pub mod Unique

@@ -1,0 +1,6 @@
+use Rattle.std.proofs.Common.{◌+◌, true}
+use Rattle.class_groups.proofs.Members.{HoldsBelow}
+use Rattle.realizer.proofs.typing.full_row.Given as goal
+
+abbrev pub invariant-loop-class : goal.invariant-loop-class
+invariant-loop-class l = HoldsBelow l.class (λ x. true) (l.classes + 2) l.row

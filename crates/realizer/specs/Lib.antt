@@ -1,0 +1,12 @@
+pub mod Instances
+pub mod TypeLists
+pub mod Realization
+pub mod Listing
+pub mod Places
+pub mod RealizationLogs
+pub mod Examples
+pub mod LogExamples
+pub mod TypeRows
+pub mod Candidates
+pub mod Asked
+pub mod RealizationLaws

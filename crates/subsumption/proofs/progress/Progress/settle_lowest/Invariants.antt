@@ -1,0 +1,12 @@
+use Rattle.std.proofs.Common.{◌≡◌}
+use Rattle.subsumption.specs.Tests.{AreAlike}
+use Rattle.subsumption.specs.Progress.{IsGoing, StaysSettled}
+use Rattle.subsumption.proofs.progress.Progress.settle_lowest.Given as goal
+
+abbrev pub invariant-loop-class : goal.invariant-loop-class
+invariant-loop-class l = record {
+  going : IsGoing l.oracle l.self;
+  count_is : l.self.known.count ≡ l.fn.self.known.count;
+  stays : StaysSettled l.fn.self l.self;
+  alike : AreAlike l.fn.oracle l.oracle;
+}

@@ -1,0 +1,12 @@
+pub mod LogEnds
+pub mod Stops
+pub mod Tests
+pub mod Progress
+pub mod Told
+pub mod Matrices
+pub mod Rows
+pub mod Subsumption
+pub mod RelationLaws
+pub mod Excluded
+pub mod Mirrors
+pub mod Settled
