@@ -21,7 +21,7 @@ use Rattle.job_inputs.specs.Questions.{Text, follows, document, query, IsDocumen
 use Rattle.job_inputs.proofs.OneReading.{questions_not_refused}
 use Rattle.job_inputs.proofs.ReadInLimit.{question_in_limit}
 use Rattle.pinpointing_jobs.specs.declared.asking.Input.{Input}
-use Rattle.pinpointing_jobs.specs.Asked.{IsInput, IsNoInput}
+use Rattle.pinpointing_jobs.specs.Asked.{IsInputOf, IsNoInputOf, IsInput, IsNoInput}
 use Rattle.pinpointing_jobs.specs.declared.wanted.Wanted.{Wanted}
 use Rattle.pinpointing_jobs.specs.Memory.{UnlessNoMemory}
 use Rattle.pinpointing_jobs.specs.Answers.{IsPinpointed, AnswersPinpointing, workload_query}
@@ -29,39 +29,39 @@ use Rattle.run_log.specs.HonestLog.{IsPinpointingLog}
 use Rattle.pinpointing_jobs.specs.Begun.{HasSearched}
 use Rattle.pinpointing_jobs.specs.Laws.{WorkloadsAreQuestions}
 
-pub is_input : (statement bytes : List ℕ) (o : Listed) (kept : DocumentContext) (input : Input) → IsDocumentAlone bytes o kept → IsReadQuestion o kept (follows statement) input.ontology input.query → IsInput statement bytes input
-is_input statement bytes o kept input d x = record {
+pub is_input : (question : Text) (bytes : List ℕ) (o : Listed) (kept : DocumentContext) (input : Input) → IsDocumentAlone bytes o kept → IsReadQuestion o kept question input.ontology input.query → IsInputOf question bytes input
+is_input question bytes o kept input d x = record {
   is_question = record { document = o; kept = kept; counts = x.counts; is_document = d; is_asked = x.is_asked; both_are = x.both_are };
-  in_limit = question_in_limit bytes o kept (follows statement) input.ontology input.query d x;
+  in_limit = question_in_limit bytes o kept question input.ontology input.query d x;
 }
 
-pub no_document : (statement bytes : List ℕ) (u : Unread) → IsUnreadDocument bytes u → IsNoInput statement bytes u
-no_document statement bytes (U.Document e) why = document e why
-no_document statement bytes (U.Query e) why = absurd why
-no_document statement bytes (U.Line n) why = absurd why
-no_document statement bytes U.NoMemory why = tt
+pub no_document : (question : Text) (bytes : List ℕ) (u : Unread) → IsUnreadDocument bytes u → IsNoInputOf question bytes u
+no_document question bytes (U.Document e) why = document e why
+no_document question bytes (U.Query e) why = absurd why
+no_document question bytes (U.Line n) why = absurd why
+no_document question bytes U.NoMemory why = tt
 
-pub no_query : (statement bytes : List ℕ) (o : Listed) (kept : DocumentContext) (u : Unread) → IsDocumentAlone bytes o kept → IsUnreadQuestion o kept (follows statement) u → IsNoInput statement bytes u
-no_query statement bytes o kept (U.Query e) d why = query o kept e d why
-no_query statement bytes o kept (U.Document e) d why = absurd why
-no_query statement bytes o kept (U.Line n) d why = absurd why
-no_query statement bytes o kept U.NoMemory d why = tt
+pub no_query : (question : Text) (bytes : List ℕ) (o : Listed) (kept : DocumentContext) (u : Unread) → IsDocumentAlone bytes o kept → IsUnreadQuestion o kept question u → IsNoInputOf question bytes u
+no_query question bytes o kept (U.Query e) d why = query o kept e d why
+no_query question bytes o kept (U.Document e) d why = absurd why
+no_query question bytes o kept (U.Line n) d why = absurd why
+no_query question bytes o kept U.NoMemory d why = tt
 
 -- ---- what was asked of an input
 
 -- nothing was asked, or this is so of what was
-pub has_begun : {E : Type 0} (statement bytes : List ℕ) (input : Input) (log : List E) (is_so : Listed → Asked → Type 0) → IsInput statement bytes input → (log ≡ []) ⊎ is_so input.ontology input.query → HasBegun (follows statement) bytes log is_so
-has_begun statement bytes input log is_so read (inl none) = nothing none
-has_begun statement bytes input log is_so read (inr so) = asked input.ontology input.query read.is_question so
+pub has_begun : {E : Type 0} (question : Text) (bytes : List ℕ) (input : Input) (log : List E) (is_so : Listed → Asked → Type 0) → IsInputOf question bytes input → (log ≡ []) ⊎ is_so input.ontology input.query → HasBegun question bytes log is_so
+has_begun question bytes input log is_so read (inl none) = nothing none
+has_begun question bytes input log is_so read (inr so) = asked input.ontology input.query read.is_question so
 
 pub begun : (statement bytes : List ℕ) (budget : ℕ) (input : Input) (log : List Entry) → IsInput statement bytes input → HasSearched input.ontology input.query budget log → HasBegun (follows statement) bytes log (λ o q. IsPinpointingLog o q budget log)
-begun statement bytes budget input log = has_begun statement bytes input log (λ o q. IsPinpointingLog o q budget log)
+begun statement bytes budget input log = has_begun (follows statement) bytes input log (λ o q. IsPinpointingLog o q budget log)
 
-pub no_input : {E : Type 0} (statement bytes : List ℕ) (log : List E) (is_so : Listed → Asked → Type 0) (u : Unread) → log ≡ [] → IsNoInput statement bytes u → IsUnanswered (follows statement) bytes log is_so u
-no_input statement bytes log is_so (U.Document e) none why = (why, none)
-no_input statement bytes log is_so (U.Query e) none why = (why, none)
-no_input statement bytes log is_so (U.Line n) none why = absurd why
-no_input statement bytes log is_so U.NoMemory none why = nothing none
+pub no_input : {E : Type 0} (question : Text) (bytes : List ℕ) (log : List E) (is_so : Listed → Asked → Type 0) (u : Unread) → log ≡ [] → IsNoInputOf question bytes u → IsUnanswered question bytes log is_so u
+no_input question bytes log is_so (U.Document e) none why = (why, none)
+no_input question bytes log is_so (U.Query e) none why = (why, none)
+no_input question bytes log is_so (U.Line n) none why = absurd why
+no_input question bytes log is_so U.NoMemory none why = nothing none
 
 -- ---- answers
 
@@ -70,7 +70,7 @@ is_no_memory NoMemory = true
 is_no_memory s = false
 
 -- an answer that was given, or that memory was refused for its text
-unless_refused : (a : Answer) (out : List ℕ) (s : Status) (log_is fact : Type 0) → Gives a out s → log_is → (IsAnswer a out s → fact) → UnlessNoMemory s out log_is fact
+pub unless_refused : (a : Answer) (out : List ℕ) (s : Status) (log_is fact : Type 0) → Gives a out s → log_is → (IsAnswer a out s → fact) → UnlessNoMemory s out log_is fact
 unless_refused a out Done log_is fact gives so answer = answer gives
 unless_refused a out Rejected log_is fact gives so answer = answer gives
 unless_refused a out BadWords log_is fact gives so answer = answer gives
@@ -83,7 +83,7 @@ unless_refused a out Undecided log_is fact gives so answer = answer gives
 unless_refused a out NoMemory log_is fact gives so answer = record { text = gives; log_is = so }
 
 -- that memory was refused is an answer of its own
-out_of_memory : (out : List ℕ) (s : Status) (log_is fact : Type 0) → Gives (NoMemory, no_memory) out s → log_is → UnlessNoMemory s out log_is fact
+pub out_of_memory : (out : List ℕ) (s : Status) (log_is fact : Type 0) → Gives (NoMemory, no_memory) out s → log_is → UnlessNoMemory s out log_is fact
 out_of_memory out s log_is fact gives so = by s gives
   where
     other : (s : Status) → is_no_memory s ≡ false → ◌≡◌ {A = Answer} (s, out) (NoMemory, no_memory) → ⊥

@@ -51,7 +51,7 @@ module _ (o : Listed) (q : Asked) (budget : ℕ) (log : List Entry) (f : Found) 
 
   -- ---- a finished search
 
-  all_justifications : f.finished ≡ true → HasAll Justifications o q f.justifications.items
+  pub all_justifications : f.finished ≡ true → HasAll Justifications o q f.justifications.items
   all_justifications finished = record {
     order = s.order;
     all = λ j. (
@@ -82,7 +82,7 @@ module _ (o : Listed) (q : Asked) (budget : ℕ) (log : List Entry) (f : Found) 
     );
   }
 
-  shows_all : f.finished ≡ true → ShowsAll o q log
+  pub shows_all : f.finished ≡ true → ShowsAll o q log
   shows_all finished = record {
     shown = s.shown finished;
     taken = λ r x. s.leaf_taken (of_axioms o.axioms r) (repair_is_leaf finished (of_axioms o.axioms r) refl x);
@@ -90,7 +90,7 @@ module _ (o : Listed) (q : Asked) (budget : ℕ) (log : List Entry) (f : Found) 
 
   -- ---- one that spent the budget
 
-  are_known : f.finished ≡ false → AreKnown o q log f.justifications.items
+  pub are_known : f.finished ≡ false → AreKnown o q log f.justifications.items
   are_known unfinished = record { tree = s.nodes; shown = s.all_shown; left_open = s.left_open unfinished }
 
   some_justifications : f.finished ≡ false → HasSome Justifications o q log f.justifications.items

@@ -1,9 +1,11 @@
 -- From what an asker answered to what a search found.
-use Rattle.std.proofs.Common.{◌≡◌, ◌⊎◌, ℕ, zero, suc, ◌+◌, ◌-◌, ◌*◌, ◌^◌, ◌<◌, ◌≤◌, Bool, true, false, List, [], ◌∷◌, ◌++◌, length, get_or, Result, Ok, Err, refl, ap, sym, ◌∙◌, subst, arith, inl, inr}
-use Rattle.std.specs.Prelude.{IfOk, OnErr}
-use Rattle.std.specs.List.{Contains}
+use Rattle.std.proofs.Common.{◌≡◌, ◌⊎◌, ℕ, zero, suc, ◌+◌, ◌-◌, ◌*◌, ◌^◌, ◌<◌, ◌≤◌, Bool, true, false, List, [], ◌∷◌, ◌++◌, length, get_or, Result, Ok, Err, refl, ap, sym, ◌∙◌, subst, arith, inl, inr, length-append}
+use Rattle.std.specs.Prelude.{◌||◌, slice_get, IfOk, OnErr}
+use Rattle.std.specs.List.{Contains, list_any}
+use Rattle.std.proofs.Math.Bool.{or-true}
 use Rattle.std.proofs.Math.Nat.{mul-le-mul_right}
-use Rattle.std.proofs.lemmas.List.Sums.{sum_by-cons}
+use Rattle.std.proofs.lemmas.List.Folds.{list_any-append}
+use Rattle.std.proofs.lemmas.List.Sums.{sum_by-cons, sum_by-append}
 use Rattle.std.proofs.lemmas.Bool.{and_parts, cases_Bool, true≢false}
 use Rattle.std.proofs.lemmas.List.Elements.{All-contains, Contains-get_or}
 use Rattle.std.specs.Cmp.{nat_cmp_total}
@@ -27,7 +29,7 @@ use Rattle.pinpointing_specs.proofs.Kept.{keeps, grows, intersection_part}
 use Rattle.run_log.specs.declared.entry.Entry.{Entry}
 use Rattle.run_log.specs.declared.entry.Entry.TheVariants.{Test, Node}
 use Rattle.run_log.specs.declared.entry.TestEnd.TheVariants as E
-use Rattle.run_log.specs.Entries.{cost_of, spent_of, nodes_of, IsAnswered}
+use Rattle.run_log.specs.Entries.{cost_of, spent_of, nodes_of, is_spent, IsAnswered}
 use Rattle.run_log.specs.HonestLog.{IsAxiomSet, IsHonestEntry, EachIsHonest, IsJustificationSet, EndsWhenSpent, AreTreeNodes, AsksFewPerNode, IsHonestWithin, IsPinpointingLog}
 use Rattle.run_log.specs.Shown.{IsShownYes, IsShownNo}
 use Rattle.query_asker.specs.OracleLists.{OracleLists}
@@ -37,6 +39,7 @@ use Rattle.query_asker.proofs.Answering.{yes_by_log, no_by_log}
 use Rattle.pinpointing_jobs.specs.Begun.{HasSearched}
 use Rattle.pinpointing_jobs.specs.Known.{IsShownJustification, HasAllShown, LeavesSomeOpen}
 use Rattle.pinpointing_jobs.specs.Searched.{IsLeaf, IsSearched}
+use Rattle.pinpointing_jobs.specs.Gained.{HasGained, GainsSearch, GainsBegun}
 use Rattle.pinpointing_jobs.proofs.RepairSets.{to_justification}
 
 -- ---- counts
@@ -56,15 +59,35 @@ few_asks size nodes asks small within few =
 
 -- ---- the log
 
-module _ (a : AskerLists) (is_log : IsAskerLog a) (none : a.before ≡ []) where
-  whole : a.before ++ a.gained ≡ a.gained
-  whole = ap (λ (l : List Entry). l ++ a.gained) none
+-- what stands behind the items of another list
+slice_get-append : {X : Type 0} (xs ys : List X) (place : ℕ) → slice_get (xs ++ ys) (length xs + place) ≡ slice_get ys place
+slice_get-append {X = X} [] ys place = let e : 0 + place ≡ place = omega arith in ap (slice_get ys) e
+slice_get-append {X = X} (x ∷ xs) ys place =
+    let e : length (x ∷ xs) + place ≡ suc (length xs + place) = omega arith in
+    ap (slice_get (x ∷ (xs ++ ys))) e ∙ slice_get-append xs ys place
 
-  within : spent_of a.gained ≤ a.budget
-  within = subst (λ (l : List Entry). spent_of l ≤ a.budget) whole is_log.within
+-- what was left of the budget when the asker began
+abbrev pub left_at_first : AskerLists → ℕ
+left_at_first a = a.budget - spent_of a.before
 
-  pub budget_kept : IsHonestWithin a.ontology a.budget a.gained
-  budget_kept = record { within = within; honest = is_log.honest; ends = subst (EndsWhenSpent a.budget) whole is_log.ends }
+module _ (a : AskerLists) (is_log : IsAskerLog a) where
+  pub spent_both : spent_of (a.before ++ a.gained) ≡ spent_of a.before + spent_of a.gained
+  spent_both = sum_by-append cost_of a.before a.gained
+
+  within : spent_of a.gained ≤ left_at_first a
+  within = omega (arith, is_log.within, spent_both)
+
+  spent_before : list_any is_spent a.gained ≡ true → list_any is_spent (a.before ++ a.gained) ≡ true
+  spent_before any = list_any-append is_spent a.before a.gained ∙ ap (λ (b : Bool). list_any is_spent a.before || b) any ∙ or-true (list_any is_spent a.before)
+
+  ends : EndsWhenSpent (left_at_first a) a.gained
+  ends = record {
+    is_last = λ place e at spent. omega (arith, is_log.ends.is_last (length a.before + place) e (slice_get-append a.before a.gained place ∙ at) spent, length-append a.before a.gained);
+    is_whole = λ any. omega (arith, is_log.ends.is_whole (spent_before any), spent_both);
+  }
+
+  pub budget_kept : IsHonestWithin a.ontology (left_at_first a) a.gained
+  budget_kept = record { within = within; honest = is_log.honest; ends = ends }
 
 -- ---- what the log shows
 
@@ -190,11 +213,11 @@ module _ (a : AskerLists) (is_log : IsAskerLog a) (is_module : IsLocalModule a.o
 
 -- ---- the log and the lists
 
-module _ (a : AskerLists) (is_log : IsAskerLog a) (none : a.before ≡ [])
+module _ (a : AskerLists) (is_log : IsAskerLog a)
     (asked : a.asks ≤ (length a.ontology.axioms + 1) * length (nodes_of a.gained)) (small : length a.ontology.axioms ≤ 20000) (budget_small : a.budget < 2 ^ 32) where
   pub few : AsksFewPerNode a.ontology a.gained
   few =
-      let nodes_few : length (nodes_of a.gained) < 2 ^ 32 = omega (arith, nodes_cost a.gained, within a is_log none, budget_small) in
+      let nodes_few : length (nodes_of a.gained) < 2 ^ 32 = omega (arith, nodes_cost a.gained, within a is_log, budget_small) in
       elim is_log.few [
         | inl le ↦ omega (arith, le, asked)
         | inr full ↦ absurd (omega (arith, full, few_asks (length a.ontology.axioms) (length (nodes_of a.gained)) a.asks small nodes_few asked))
@@ -209,23 +232,23 @@ module _ (a : AskerLists) (labels : List Limited) (limits : (j : Limited) → Co
   pub tree : AreNodes labels (nodes_of a.gained) → AreTreeNodes a.ontology a.query a.gained
   tree nodes = record { labels = labels; justifications = λ k d lt. just (get_or labels k d) (Contains-get_or labels k d lt); nodes = nodes }
 
-module _ (a : AskerLists) (is_log : IsAskerLog a) (none : a.before ≡ []) (is_module : IsLocalModule a.ontology.axioms a.query a.local_part)
+module _ (a : AskerLists) (is_log : IsAskerLog a) (is_module : IsLocalModule a.ontology.axioms a.query a.local_part)
     (asked : a.asks ≤ (length a.ontology.axioms + 1) * length (nodes_of a.gained)) (small : length a.ontology.axioms ≤ 20000) (budget_small : a.budget < 2 ^ 32) where
-  honest_by : AreTreeNodes a.ontology a.query a.gained → IsPinpointingLog a.ontology a.query a.budget a.gained
+  honest_by : AreTreeNodes a.ontology a.query a.gained → IsPinpointingLog a.ontology a.query (left_at_first a) a.gained
   honest_by nodes = record {
-    budget_kept = budget_kept a is_log none;
+    budget_kept = budget_kept a is_log;
     tests = is_log.tests;
     new = is_log.new;
     nodes = nodes;
-    few = few a is_log none asked small budget_small;
+    few = few a is_log asked small budget_small;
     in_module = record { local_part = a.local_part; is_module = is_module; within = is_log.in_module };
   }
 
-module _ (a : AskerLists) (f : Found) (is_log : IsAskerLog a) (found : IsFound (asker_meaning a) f) (none : a.before ≡ []) (is_module : IsLocalModule a.ontology.axioms a.query a.local_part)
+module _ (a : AskerLists) (f : Found) (is_log : IsAskerLog a) (found : IsFound (asker_meaning a) f) (is_module : IsLocalModule a.ontology.axioms a.query a.local_part)
     (asked : a.asks ≤ (length a.ontology.axioms + 1) * length (nodes_of a.gained)) (small : length a.ontology.axioms ≤ 20000) (budget_small : a.budget < 2 ^ 32)
     (begun : AskerLists) (fresh_log : begun.gained ≡ []) (lists : ListsAllShown (asker_meaning begun) (asker_meaning a) f) where
-  honest : IsPinpointingLog a.ontology a.query a.budget a.gained
-  honest = honest_by a is_log none is_module asked small budget_small (tree a f.justifications.items found.just_limits found.smallest found.nodes)
+  honest : IsPinpointingLog a.ontology a.query (left_at_first a) a.gained
+  honest = honest_by a is_log is_module asked small budget_small (tree a f.justifications.items found.just_limits found.smallest found.nodes)
 
   leaf : (l : Limited) → Contains f.leaves.items l → IsLeaf a.ontology a.query l
   leaf l listed = record { limit_is = found.leaf_limits l listed; within = (found.ends l listed).0; ends = (found.ends l listed).1 }
@@ -249,7 +272,7 @@ module _ (a : AskerLists) (f : Found) (is_log : IsAskerLog a) (found : IsFound (
         has_rest = λ k in_m out_r. let inside = is.within k in_m in shown.has_part k (to_rest s k inside.0 inside.1 out_r) (is.least a.local_part is_module.closed k in_m);
       }
 
-  pub searched : IsSearched a.ontology a.query a.budget a.gained f
+  pub searched : IsSearched a.ontology a.query (left_at_first a) a.gained f
   searched = record {
     honest = honest;
     order = found.order;
@@ -263,39 +286,39 @@ module _ (a : AskerLists) (f : Found) (is_log : IsAskerLog a) (found : IsFound (
     left_open = leaves_open a is_log is_module f found;
     explored = found.explored;
     shown = λ finished. record { justifications = yes_shown finished; repairs = no_shown finished };
-    spent = λ unfinished. omega (arith, found.spent unfinished, is_log.within, ap spent_of (whole a is_log none));
+    spent = λ unfinished. omega (arith, found.spent unfinished, is_log.within, spent_both a is_log);
   }
 
 -- ---- of what a call answers
 
 -- what an asker is made of
-pub record IsMadeOf (o : Listed) (q : Asked) (budget : ℕ) (m : NumberSet) (a : AskerLists) : Type 0 where
+pub record IsMadeOf (o : Listed) (q : Asked) (budget : ℕ) (m : NumberSet) (before : List Entry) (a : AskerLists) : Type 0 where
   pub ontology : a.ontology ≡ o
   pub query : a.query ≡ q
   pub budget_is : a.budget ≡ budget
   pub local_part : a.local_part ≡ m
-  pub none : a.before ≡ []
+  pub before_is : a.before ≡ before
 
-pub is_made_of : (o : Listed) (q : Asked) (budget : ℕ) (m : NumberSet) (a : AskerLists) → origin_of a ≡ record { ontology = o; query = q; budget = budget; local_part = m; before = [] } → IsMadeOf o q budget m a
-is_made_of o q budget m a e = record {
+pub is_made_of : (o : Listed) (q : Asked) (budget : ℕ) (m : NumberSet) (before : List Entry) (a : AskerLists) → origin_of a ≡ record { ontology = o; query = q; budget = budget; local_part = m; before = before } → IsMadeOf o q budget m before a
+is_made_of o q budget m before a e = record {
   ontology = ap (λ (x : AskerOrigin). x.ontology) e;
   query = ap (λ (x : AskerOrigin). x.query) e;
   budget_is = ap (λ (x : AskerOrigin). x.budget) e;
   local_part = ap (λ (x : AskerOrigin). x.local_part) e;
-  none = ap (λ (x : AskerOrigin). x.before) e;
+  before_is = ap (λ (x : AskerOrigin). x.before) e;
 }
 
-abbrev pub fresh : Listed → Asked → ℕ → NumberSet → AskerLists
-fresh o q budget m = record { ontology = o; query = q; budget = budget; local_part = m; before = []; gained = []; asks = 0 }
+pub left_is : (o : Listed) (q : Asked) (budget : ℕ) (m : NumberSet) (before : List Entry) (a : AskerLists) → IsMadeOf o q budget m before a → left_at_first a ≡ budget - spent_of before
+left_is o q budget m before a of = ap (λ (n : ℕ). n - spent_of a.before) of.budget_is ∙ ap (λ (log : List Entry). budget - spent_of log) of.before_is
 
--- one that was made of an oracle with an empty log
-pub made_fresh : (o : Listed) (q : Asked) (budget : ℕ) (m : NumberSet) (oracle : OracleLists) (log : List Entry) (begun : AskerLists)
-    → begun ≡ record { ontology = oracle.ontology; query = q; budget = oracle.budget; local_part = m; before = oracle.log; gained = []; asks = 0 } → oracle ≡ record { ontology = o; budget = budget; log = log } → log ≡ []
-    → begun ≡ fresh o q budget m
-made_fresh o q budget m oracle log begun made is none =
-    made
-    ∙ ap (λ (x : OracleLists). record { ontology = x.ontology; query = q; budget = x.budget; local_part = m; before = x.log; gained = []; asks = 0 }) is
-    ∙ ap (λ (l : List Entry). record { ontology = o; query = q; budget = budget; local_part = m; before = l; gained = []; asks = 0 }) none
+abbrev pub fresh : Listed → Asked → ℕ → NumberSet → List Entry → AskerLists
+fresh o q budget m before = record { ontology = o; query = q; budget = budget; local_part = m; before = before; gained = []; asks = 0 }
+
+-- one that was made of an oracle
+pub made_fresh : (o : Listed) (q : Asked) (budget : ℕ) (m : NumberSet) (before : List Entry) (oracle : OracleLists) (begun : AskerLists)
+    → begun ≡ record { ontology = oracle.ontology; query = q; budget = oracle.budget; local_part = m; before = oracle.log; gained = []; asks = 0 } → oracle ≡ record { ontology = o; budget = budget; log = before } → begun ≡ fresh o q budget m before
+made_fresh o q budget m before oracle begun made is =
+    made ∙ ap (λ (x : OracleLists). record { ontology = x.ontology; query = q; budget = x.budget; local_part = m; before = x.log; gained = []; asks = 0 }) is
 
 -- what follows is told within the local module
 pub module_keeps_answers : (o p : Listed) (q : Asked) (m : NumberSet) → p ≡ o → IsLocalModule o.axioms q m → KeepsAnswers p.axioms q m
@@ -303,10 +326,10 @@ module_keeps_answers o p q m e is =
     subst (λ (l : Listed). KeepsAnswers l.axioms q m) (sym e) (λ s. (keeps o.axioms q m is s, grows o.axioms q (set.intersection s m) s (intersection_part s m)))
 
 -- an asker that begins with no asks and no nodes makes few asks for each node
-pub asks_few : (o : Listed) (q : Asked) (budget : ℕ) (m : NumberSet) (begun ended : AskerLists) → begun ≡ fresh o q budget m → AsksFew (length ended.ontology.axioms) (asker_meaning begun) (asker_meaning ended)
+pub asks_few : (o : Listed) (q : Asked) (budget : ℕ) (m : NumberSet) (before : List Entry) (begun ended : AskerLists) → begun ≡ fresh o q budget m before → AsksFew (length ended.ontology.axioms) (asker_meaning begun) (asker_meaning ended)
     → ended.asks ≤ (length ended.ontology.axioms + 1) * length (nodes_of ended.gained)
-asks_few o q budget m begun ended e few =
-    let from : AsksFew (length ended.ontology.axioms) (asker_meaning (fresh o q budget m)) (asker_meaning ended) = subst (λ (x : AskerLists). AsksFew (length ended.ontology.axioms) (asker_meaning x) (asker_meaning ended)) e few in
+asks_few o q budget m before begun ended e few =
+    let from : AsksFew (length ended.ontology.axioms) (asker_meaning (fresh o q budget m before)) (asker_meaning ended) = subst (λ (x : AskerLists). AsksFew (length ended.ontology.axioms) (asker_meaning x) (asker_meaning ended)) e few in
     omega (arith, from)
 
 pub along : (P : Listed → Asked → ℕ → List Entry → Type 0) (o p : Listed) (q r : Asked) (b c : ℕ) (log more : List Entry) → o ≡ p → q ≡ r → b ≡ c → log ≡ more → P o q b log → P p r c more
@@ -316,33 +339,67 @@ along P o p q r b c log more same_o same_q same_b same_log h =
     (subst (λ (n : ℕ). P o q n more) same_b
     (subst (λ (l : List Entry). P o q b l) same_log h)))
 
-module _ (o : Listed) (q : Asked) (budget : ℕ) (m : NumberSet) (begun ended : AskerLists) (log : List Entry) (made : begun ≡ fresh o q budget m) (same : origin_of ended ≡ origin_of begun) (is_log : IsAskerLog ended)
+module _ (o : Listed) (q : Asked) (budget : ℕ) (m : NumberSet) (before : List Entry) (begun ended : AskerLists) (log : List Entry) (made : begun ≡ fresh o q budget m before) (same : origin_of ended ≡ origin_of begun) (is_log : IsAskerLog ended)
     (log_is : log ≡ ended.before ++ ended.gained) (is_module : IsLocalModule o.axioms q m) where
-  of : IsMadeOf o q budget m ended
-  of = is_made_of o q budget m ended (same ∙ ap origin_of made)
+  of : IsMadeOf o q budget m before ended
+  of = is_made_of o q budget m before ended (same ∙ ap origin_of made)
 
   moved : IsLocalModule ended.ontology.axioms ended.query ended.local_part
   moved =
       subst (λ (l : Listed). IsLocalModule l.axioms ended.query ended.local_part) (sym of.ontology)
       (subst (λ (k : Asked). IsLocalModule o.axioms k ended.local_part) (sym of.query) (subst (λ (s : NumberSet). IsLocalModule o.axioms q s) (sym of.local_part) is_module))
 
-  logged : ended.gained ≡ log
-  logged = sym (ap (λ (l : List Entry). l ++ ended.gained) of.none) ∙ sym log_is
+  more : log ≡ before ++ ended.gained
+  more = log_is ∙ ap (λ (l : List Entry). l ++ ended.gained) of.before_is
+
+  left : left_at_first ended ≡ budget - spent_of before
+  left = left_is o q budget m before ended of
 
   pub all_begun : length o.axioms ≤ 20000 → budget < 2 ^ 32 → (r : Result Found NoMemory) → OnErr r (HasTree (asker_meaning ended)) → AsksFew (length ended.ontology.axioms) (asker_meaning begun) (asker_meaning ended)
-      → OnErr r (HasSearched o q budget log)
+      → OnErr r (GainsBegun o q budget before log)
   all_begun small budget_small (Ok f) begun_tree asked = tt
   all_begun small budget_small (Err e) begun_tree asked =
       let count : length ended.ontology.axioms ≡ length o.axioms = ap (λ (l : Listed). length l.axioms) of.ontology in
-      inr (along IsPinpointingLog ended.ontology o ended.query q ended.budget budget ended.gained log of.ontology of.query of.budget_is logged
-      (honest_by ended is_log of.none moved (asks_few o q budget m begun ended made asked) (omega (arith, small, count)) (omega (arith, budget_small, of.budget_is))
-      (tree ended begun_tree.labels begun_tree.limits begun_tree.smallest begun_tree.nodes)))
+      record {
+        gained = ended.gained;
+        is_more = more;
+        so = inr (along IsPinpointingLog ended.ontology o ended.query q (left_at_first ended) (budget - spent_of before) ended.gained ended.gained of.ontology of.query left refl
+            (honest_by ended is_log moved (asks_few o q budget m before begun ended made asked) (omega (arith, small, count)) (omega (arith, budget_small, of.budget_is))
+            (tree ended begun_tree.labels begun_tree.limits begun_tree.smallest begun_tree.nodes)));
+      }
 
   pub all_searched : length o.axioms ≤ 20000 → budget < 2 ^ 32 → (r : Result Found NoMemory) → IfOk r (IsFound (asker_meaning ended)) → IfOk r (ListsAllShown (asker_meaning begun) (asker_meaning ended))
-      → AsksFew (length ended.ontology.axioms) (asker_meaning begun) (asker_meaning ended) → IfOk r (IsSearched o q budget log)
+      → AsksFew (length ended.ontology.axioms) (asker_meaning begun) (asker_meaning ended) → IfOk r (GainsSearch o q budget before log)
   all_searched small budget_small (Err e) found lists asked = tt
   all_searched small budget_small (Ok f) found lists asked =
       let count : length ended.ontology.axioms ≡ length o.axioms = ap (λ (l : Listed). length l.axioms) of.ontology in
-      along (λ l k n es. IsSearched l k n es f) ended.ontology o ended.query q ended.budget budget ended.gained log of.ontology of.query of.budget_is logged
-      (searched ended f is_log found of.none moved (asks_few o q budget m begun ended made asked) (omega (arith, small, count)) (omega (arith, budget_small, of.budget_is))
-      begun (ap (λ (x : AskerLists). x.gained) made) lists)
+      record {
+        gained = ended.gained;
+        is_more = more;
+        so = along (λ l k n es. IsSearched l k n es f) ended.ontology o ended.query q (left_at_first ended) (budget - spent_of before) ended.gained ended.gained of.ontology of.query left refl
+            (searched ended f is_log found moved (asks_few o q budget m before begun ended made asked) (omega (arith, small, count)) (omega (arith, budget_small, of.budget_is))
+            begun (ap (λ (x : AskerLists). x.gained) made) lists);
+      }
+
+-- ---- with an empty log
+
+-- a log that was empty has just what it gained, and the whole budget was left
+gained_alone : (budget : ℕ) (old new : List Entry) (is_so : ℕ → List Entry → Type 0) → old ≡ [] → HasGained budget old new is_so → is_so budget new
+gained_alone budget old new is_so none h =
+    let left : budget - spent_of old ≡ budget = ap (λ (l : List Entry). budget - spent_of l) none ∙ omega arith in
+    let log : h.gained ≡ new = sym (h.is_more ∙ ap (λ (l : List Entry). l ++ h.gained) none) in
+    subst (λ (n : ℕ). is_so n new) left (subst (is_so (budget - spent_of old)) log h.so)
+
+-- of an oracle that began with an empty log
+module _ (o : Listed) (q : Asked) (budget : ℕ) (oracle : OracleLists) (old new log : List Entry) (made : oracle ≡ record { ontology = o; budget = budget; log = old }) (none : old ≡ []) (log_is : log ≡ new) where
+  alone : (is_so : Listed → ℕ → List Entry → Type 0) → HasGained oracle.budget oracle.log new (is_so oracle.ontology) → is_so o budget log
+  alone is_so h =
+      subst (is_so o budget) (sym log_is) (gained_alone budget old new (is_so o) none (subst (λ (x : OracleLists). HasGained x.budget x.log new (is_so x.ontology)) made h))
+
+  pub alone_begun : (r : Result Found NoMemory) → OnErr r (GainsBegun oracle.ontology q oracle.budget oracle.log new) → OnErr r (HasSearched o q budget log)
+  alone_begun (Ok f) h = tt
+  alone_begun (Err e) h = alone (λ l left entries. HasSearched l q left entries) h
+
+  pub alone_searched : (r : Result Found NoMemory) → IfOk r (GainsSearch oracle.ontology q oracle.budget oracle.log new) → IfOk r (IsSearched o q budget log)
+  alone_searched (Err e) h = tt
+  alone_searched (Ok f) h = alone (λ l left entries. IsSearched l q left entries f) h

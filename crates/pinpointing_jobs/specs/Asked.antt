@@ -4,17 +4,25 @@ use Rattle.ontology_limits.specs.Limits.{IsInLimit}
 use Rattle.job_inputs.specs.Asked.{refused_document, refused_query}
 use Rattle.job_inputs.specs.declared.unread.Unread.{Unread}
 use Rattle.job_inputs.specs.declared.unread.Unread.TheVariants as U
-use Rattle.job_inputs.specs.Questions.{follows, IsQuestion, IsRefusedQuestion}
+use Rattle.job_inputs.specs.Questions.{Text, follows, IsQuestion, IsRefusedQuestion}
 use Rattle.pinpointing_jobs.specs.declared.asking.Input.{Input}
 
--- the statement is this query on the document that the bytes are, within the limits
-pub record IsInput (statement bytes : List ℕ) (input : Input) : Type 0 where
-  pub is_question : IsQuestion (follows statement) bytes input.ontology input.query
+-- the question is this query on the document that the bytes are, within the limits
+pub record IsInputOf (question : Text) (bytes : List ℕ) (input : Input) : Type 0 where
+  pub is_question : IsQuestion question bytes input.ontology input.query
   pub in_limit : IsInLimit input.ontology input.query
 
 -- why it is none: the document or the query is refused, unless memory was
+abbrev pub IsNoInputOf : Text → List ℕ → Unread → Type 0
+IsNoInputOf question bytes (U.Document e) = IsRefusedQuestion question bytes (refused_document e)
+IsNoInputOf question bytes (U.Query e) = IsRefusedQuestion question bytes (refused_query e)
+IsNoInputOf question bytes (U.Line n) = ⊥
+IsNoInputOf question bytes U.NoMemory = Unit {0}
+
+-- ---- statements
+
+abbrev pub IsInput : List ℕ → List ℕ → Input → Type 0
+IsInput statement bytes input = IsInputOf (follows statement) bytes input
+
 abbrev pub IsNoInput : List ℕ → List ℕ → Unread → Type 0
-IsNoInput statement bytes (U.Document e) = IsRefusedQuestion (follows statement) bytes (refused_document e)
-IsNoInput statement bytes (U.Query e) = IsRefusedQuestion (follows statement) bytes (refused_query e)
-IsNoInput statement bytes (U.Line n) = ⊥
-IsNoInput statement bytes U.NoMemory = Unit {0}
+IsNoInput statement bytes u = IsNoInputOf (follows statement) bytes u

@@ -9,6 +9,7 @@ pub mod Wanted
 pub mod Listings
 pub mod Counts
 pub mod Searched
+pub mod Gained
 pub mod Written
 pub mod ListLaws
 pub mod SetLists

@@ -1,22 +1,14 @@
 -- Lists of sets of axioms, as they are written.
-use Rattle.std.specs.Prelude.{ℕ, ◌+◌, Bool, List, [], ◌∷◌, ◌++◌, map, length, codes, decimal, if◌then◌else◌}
+use Rattle.std.specs.Prelude.{ℕ, ◌+◌, Bool, List, [], ◌∷◌, ◌++◌, length, codes, decimal, if◌then◌else◌}
 use Rattle.std.specs.List.{list_any}
 use Rattle.std.specs.FinSet as set
-use Rattle.axiom_sets.specs.Sets.{Limited, member_list}
+use Rattle.axiom_sets.specs.Sets.{Limited}
 use Rattle.shq_terms.specs.Listed.{Listed}
 use Rattle.shq_terms.specs.declared.axioms.Numbered.{Numbered}
 use Rattle.ofn_writer.specs.Canonical.{items_text, line, axiom_text}
+use Rattle.answer_pieces.specs.SetText.{set_text}
 
 -- ---- the sets
-
--- numbers with one blank between; none of them are the word `empty`
-abbrev pub numbers_text : List ℕ → List ℕ
-numbers_text [] = codes "empty"
-numbers_text (k ∷ ks) = items_text (map decimal (k ∷ ks))
-
--- the members, ascending
-abbrev pub set_text : Limited → List ℕ
-set_text s = numbers_text (member_list s)
 
 -- a line for each set
 abbrev pub set_lines : List Limited → List ℕ

@@ -1,7 +1,7 @@
 // The document and the query of a run.
-ghost use Rattle.std.specs.Prelude.{◌≡◌, ◌≤◌, IfOk, IfErr, length};
-ghost use Rattle.job_inputs.specs.Questions.{follows, IsDocumentAlone, IsReadQuestion, IsUnreadQuestion};
-ghost use Rattle.pinpointing_jobs.specs.Asked.{IsInput, IsNoInput};
+ghost use Rattle.std.specs.Prelude.{◌≤◌, IfOk, IfErr, length};
+ghost use Rattle.job_inputs.specs.Questions.{question_text, IsDocumentAlone};
+ghost use Rattle.pinpointing_jobs.specs.Asked.{IsInputOf, IsNoInputOf, IsInput, IsNoInput};
 
 use job_inputs::{Question, Unread, read_document, read_question};
 use ofn_reader::Context;
@@ -25,26 +25,43 @@ pub fn read_input(alloc: Global, statement: &str, bytes: &[u8]) -> Result<Input,
     ensures input { IfOk result (IsInput statement.now bytes.now) }
     ensures unread { IfErr result (IsNoInput statement.now bytes.now) }
 {
+    read_question_input(alloc, Question::Follows(statement), bytes)
+}
+
+/// The same of any question.
+///
+/// # Errors
+///
+/// What is refused, the document before the question, and `NoMemory`.
+pub fn read_question_input(
+    alloc: Global,
+    question: Question<'_>,
+    bytes: &[u8],
+) -> Result<Input, Unread>
+    requires { length bytes.now ≤ 4294967293 }
+    ensures input { IfOk result (IsInputOf (question_text question.entry) bytes.now) }
+    ensures unread { IfErr result (IsNoInputOf (question_text question.entry) bytes.now) }
+{
     let (ontology, context) = read_document(alloc, bytes)?;
-    let outcome = read_query(alloc, statement, bytes, ontology, &context);
+    let outcome = read_query(alloc, question, bytes, ontology, &context);
     drop(context);
     outcome
 }
 
-// Reads a statement on a document.
+// Reads a question on a document.
 fn read_query(
     alloc: Global,
-    statement: &str,
+    question: Question<'_>,
     bytes: &[u8],
     mut ontology: Ontology,
     context: &Context,
 ) -> Result<Input, Unread>
     requires { IsDocumentAlone bytes.now ontology context.now }
-    ensures input { IfOk result (IsInput statement.now bytes.now) }
-    ensures unread { IfErr result (IsNoInput statement.now bytes.now) }
+    ensures input { IfOk result (IsInputOf (question_text question.entry) bytes.now) }
+    ensures unread { IfErr result (IsNoInputOf (question_text question.entry) bytes.now) }
 {
     let _document = bytes;
-    match read_question(alloc, Question::Follows(statement), &mut ontology, context) {
+    match read_question(alloc, question, &mut ontology, context) {
         Ok(query) => Ok(Input { ontology, query }),
         Err(unread) => {
             drop(ontology);

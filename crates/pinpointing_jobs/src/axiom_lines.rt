@@ -1,12 +1,12 @@
 // The lines of the axioms that some listed set has.
-ghost use Rattle.std.specs.Prelude.{◌≡◌, ◌+◌, ◌≤◌, ◌++◌, ◌∷◌, [], IsTrue, IfOk, OnOk, length, codes, if◌then◌else◌};
+ghost use Rattle.std.specs.Prelude.{◌≡◌, ℕ, ◌+◌, ◌≤◌, ◌||◌, ◌++◌, [], IsTrue, IfOk, OnOk, length, if◌then◌else◌};
 ghost use Rattle.std.specs.List.{All};
 ghost use Rattle.std.specs.FinSet as sets_of;
 ghost use Rattle.shq_terms.specs.Uses.{axiom_uses_listed};
 ghost use Rattle.pinpointing_jobs.specs.SetLists.{is_listed, axiom_line, axiom_lines};
 
 use crate::NoMemory;
-use crate::pieces::{put, put_number};
+use answer_pieces::{put, put_number};
 use axiom_sets::AxiomSet;
 use ofn_writer::axiom_text;
 use shq_terms::{Numbered, Ontology};
@@ -34,14 +34,24 @@ fn union_of(alloc: Global, limit: u32, sets: &[AxiomSet]) -> Result<AxiomSet, No
     ensures members { IfOk result (λ s. sets_of.contains s.members ≡ is_listed sets.now) }
 {
     let mut union = AxiomSet::empty(alloc, limit)?;
-    for set in sets {
-        union.put_all(set);
-    }
+    unite_with(&mut union, sets);
     Ok(union)
 }
 
-// Puts a line for each axiom of the set last.
-fn put_members(
+/// Puts the numbers of each of the sets in.
+pub fn unite_with(union: &mut AxiomSet, sets: &[AxiomSet])
+    requires { All (λ s. s.limit ≡ union.old.limit) sets.now }
+    ensures limit { union.new.limit ≡ union.old.limit }
+    ensures members { (k : ℕ) → sets_of.contains union.new.members k
+        ≡ (sets_of.contains union.old.members k || is_listed sets.now k) }
+{
+    for set in sets {
+        union.put_all(set);
+    }
+}
+
+/// Puts a line for each axiom of the set last.
+pub(crate) fn put_members(
     alloc: Global,
     out: &mut Vec<u8>,
     ontology: &Ontology,
@@ -49,7 +59,8 @@ fn put_members(
 ) -> Result<(), NoMemory>
     requires { set.now.limit ≡ length ontology.now.axioms }
     ensures { OnOk result
-        (out.new.items ≡ out.old.items ++ axiom_lines ontology.now (sets_of.contains set.now.members) 1 ontology.now.axioms) }
+        (out.new.items ≡ out.old.items
+        ++ axiom_lines ontology.now (sets_of.contains set.now.members) 1 ontology.now.axioms) }
 {
     let mut number = 0;
     for numbered in ontology.axioms() {

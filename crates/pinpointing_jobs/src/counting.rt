@@ -1,11 +1,11 @@
 // The numbers of the sets.
-ghost use Rattle.std.specs.Prelude.{◌≡◌, ◌++◌, ◌∷◌, [], IfOk, OnOk};
-ghost use Rattle.pinpointing_jobs.specs.SetLists.{heading_line};
+ghost use Rattle.std.specs.Prelude.{◌≡◌, IfOk};
 ghost use Rattle.job_inputs.specs.Answer.{text_bytes};
 ghost use Rattle.pinpointing_jobs.specs.Counts.{counts_text};
 ghost use Rattle.pinpointing_jobs.specs.Written.{AreOfAxioms, IsWrittenCount, IsToldCount};
 
 use crate::NoMemory;
+use crate::whole_text::put_heading;
 use job_inputs::{Status, Text};
 use repair_list::{Found, repairs};
 use shq_terms::Ontology;
@@ -59,21 +59,9 @@ fn counts_text(
     ensures { IfOk result (λ text. text_bytes text ≡ counts_text number axioms justifications repairs) }
 {
     let mut out = Vec::new(alloc);
-    put_count(alloc, &mut out, b"workload", number as usize)?;
-    put_count(alloc, &mut out, b"axioms", axioms as usize)?;
-    put_count(alloc, &mut out, b"justifications", justifications)?;
-    put_count(alloc, &mut out, b"repairs", repairs)?;
+    put_heading(alloc, &mut out, b"workload", number as usize)?;
+    put_heading(alloc, &mut out, b"axioms", axioms as usize)?;
+    put_heading(alloc, &mut out, b"justifications", justifications)?;
+    put_heading(alloc, &mut out, b"repairs", repairs)?;
     Ok(Text::Bytes(out))
-}
-
-// Puts a line with a heading and a number last.
-fn put_count(alloc: Global, out: &mut Vec<u8>, heading: &[u8], count: usize) -> Result<(), NoMemory>
-    ensures { OnOk result (out.new.items ≡ out.old.items ++ heading_line heading.now count) }
-{
-    let digits = format!(in alloc; "{count}")?;
-    out.extend_from_slice(heading)?;
-    out.push(b' ')?;
-    out.extend_from_slice(digits.as_bytes())?;
-    out.push(b'\n')?;
-    Ok(())
 }

@@ -5,7 +5,6 @@
 //! does not follow any more. A hitting-set tree finds the justifications, and leaves among which the repairs are
 //! (Raymond Reiter, "A Theory of Diagnosis from First Principles", Artificial Intelligence 32, 1987). Where the search
 //! was finished, all are listed, and else those that its nodes make known.
-// The list of the sets that are wanted.
 ghost use Rattle.std.specs.Prelude.{◌≡◌, ◌++◌, ◌∷◌, [], length, IfOk, OnOk};
 ghost use Rattle.std.specs.List.{All};
 ghost use Rattle.job_inputs.specs.Answer.{text_bytes};

@@ -1,9 +1,15 @@
 // The search for justifications and repairs.
-ghost use Rattle.std.specs.Prelude.{◌≡◌, [], IfOk, OnErr};
+ghost use Rattle.std.specs.Prelude.{◌≡◌, [], false, length, IfOk, OnErr};
+ghost use Rattle.std.specs.List.{list_any};
 ghost use Rattle.ontology_limits.specs.Limits.{IsInLimit};
+ghost use Rattle.pinpointing_specs.specs.LocalModule.{IsLocalModule};
+ghost use Rattle.run_log.specs.Entries.{is_spent};
+ghost use Rattle.query_asker.specs.Told.{AreTestsOfOthers};
 ghost use Rattle.pinpointing_jobs.specs.Searched.{IsSearched};
 ghost use Rattle.pinpointing_jobs.specs.Begun.{HasSearched};
+ghost use Rattle.pinpointing_jobs.specs.Gained.{GainsSearch, GainsBegun};
 
+use axiom_sets::AxiomSet;
 use module_extract::module;
 use query_asker::{Asker, Oracle};
 use repair_list::{Found, enumerate};
@@ -18,10 +24,10 @@ use std::mem;
 /// # Errors
 ///
 /// Out of memory. The log is empty then, or honest all the same.
-pub(crate) fn search(
+pub(crate) fn search<'a>(
     alloc: Global,
-    ontology: &Ontology,
-    query: &Query,
+    ontology: &'a Ontology,
+    query: &'a Query,
     budget: u32,
     log: &mut RunLog,
 ) -> Result<Found, NoMemory>
@@ -32,9 +38,42 @@ pub(crate) fn search(
 {
     let module = module(alloc, ontology, query)?;
     let begun = mem::replace(log, RunLog::new(alloc));
-    let oracle = Oracle::new(alloc, ontology, budget, begun);
-    let mut asker = Asker::within(alloc, oracle, query, module);
+    let mut oracle = Oracle::new(alloc, ontology, budget, begun);
+    let outcome = search_with(alloc, &mut oracle, query, module);
+    *log = oracle.into_log();
+    outcome
+}
+
+/// The same search by an oracle: it goes on with the oracle's log, within what that has left of the budget, and asks
+/// about the axioms of the query's local module. No test of the log is one of the query, and none spent the budget.
+/// What is asked is put last in the log, also where memory is refused.
+///
+/// # Errors
+///
+/// Out of memory. What the log gained is honest all the same.
+pub fn search_with<'a>(
+    alloc: Global,
+    oracle: &mut Oracle<'a>,
+    query: &'a Query,
+    local_module: AxiomSet,
+) -> Result<Found, NoMemory>
+    requires in_limit { IsInLimit oracle.old.ontology query.now }
+    requires goes_on { list_any is_spent oracle.old.log ≡ false }
+    requires others { AreTestsOfOthers query.now oracle.old.log }
+    requires limit { local_module.limit ≡ length oracle.old.ontology.axioms }
+    requires local_module { IsLocalModule oracle.old.ontology.axioms query.now local_module.members }
+    ensures ontology { oracle.new.ontology ≡ oracle.old.ontology }
+    ensures budget { oracle.new.budget ≡ oracle.old.budget }
+    ensures found { IfOk result
+        (GainsSearch oracle.old.ontology query.now oracle.old.budget oracle.old.log oracle.new.log) }
+    ensures begun { OnErr result
+        (GainsBegun oracle.old.ontology query.now oracle.old.budget oracle.old.log oracle.new.log) }
+{
+    let _left = oracle.left();
+    let none = Oracle::new(alloc, oracle.ontology(), 0, RunLog::new(alloc));
+    let begun = mem::replace(oracle, none);
+    let mut asker = Asker::within(alloc, begun, query, local_module);
     let outcome = enumerate(alloc, &mut asker);
-    *log = asker.into_oracle().into_log();
+    *oracle = asker.into_oracle();
     outcome
 }

@@ -1,12 +1,5 @@
-use Rattle.std.proofs.Common.{◌∙◌}
-use Rattle.pinpointing_jobs.proofs.Union.{none_listed, one_more}
+use Rattle.pinpointing_jobs.proofs.Union.{none_listed}
 use Rattle.pinpointing_jobs.proofs.axiom_lines.union_of.Goals as goal
 
-pub loop-set-init : goal.loop-set-init
-loop-set-init c = record { limit = c.in_ok-union.ensures.limit; members = none_listed c.in_ok-union.union.members c.in_ok-union.ensures.members }
-
-pub loop-set-preserved : goal.loop-set-preserved
-loop-set-preserved c = record {
-  limit = c.put_all.ensures.limit ∙ c.loop-set.invariant.limit;
-  members = one_more c.args.sets.now c.loop-set.set-index c.set-item.result c.loop-set.union.members c.put_all.new.self.members c.loop-set-test.true c.set-item.is c.put_all.ensures.members c.loop-set.invariant.members;
-}
+pub returns-clause-members : goal.returns-clause-members
+returns-clause-members c = none_listed c.args.sets.now c.in_ok-union.union.members c.unite_with.new.union.members c.in_ok-union.ensures.members c.unite_with.ensures.members

@@ -1,0 +1,9 @@
+pub mod Members
+pub mod Blocks
+pub mod Explained
+pub mod Asked
+pub mod Replied
+pub mod Answered
+pub mod Realized
+pub mod Unique
+pub mod Written

@@ -1,0 +1,5 @@
+use Rattle.individual_jobs.proofs.Unique.{one_text_of_types}
+use Rattle.individual_jobs.proofs.laws.realizations_are_unique.Goals as goal
+
+pub returns : goal.returns
+returns c = one_text_of_types

@@ -1,0 +1,10 @@
+pub mod ReasonLists
+pub mod Reasons
+pub mod ReasonLogs
+pub mod Ends
+pub mod Answers
+pub mod Searching
+pub mod Realizations
+pub mod Realizing
+pub mod Laws
+pub mod Examples

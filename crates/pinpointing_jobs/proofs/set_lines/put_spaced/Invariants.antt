@@ -1,7 +1,0 @@
-use Rattle.std.proofs.Common.{◌≡◌, ◌++◌, map}
-use Rattle.std.specs.Prelude.{decimal}
-use Rattle.ofn_writer.specs.Canonical.{spaced}
-use Rattle.pinpointing_jobs.proofs.set_lines.put_spaced.Given as goal
-
-abbrev pub invariant-loop-number : goal.invariant-loop-number
-invariant-loop-number l = l.out.items ++ spaced (map decimal l.number-iterator) ≡ l.fn.out.items ++ spaced (map decimal l.fn.numbers)
