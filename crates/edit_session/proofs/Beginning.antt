@@ -33,8 +33,10 @@ new_may_go_on o kept budget = (
 )
 
 -- each axiom is live, and nothing is noted
-pub new_lists : (o : Listed) (kept : DocumentContext) (n : ℕ) (full : NumberSet) (noted : Noted) → n ≡ length o.axioms → IsFull n full → noted.seen ≡ 0 → noted.places ≡ []
-    → ◌≡◌ {A = SessionLists} (record { state = state_of o kept full; noted = noted }) (record { state = begun o kept; noted = nothing_noted })
+pub new_lists : (o : Listed) (kept : DocumentContext) (n : ℕ) (full : NumberSet) (noted : Noted) → n ≡ length o.axioms
+    → IsFull n full → noted.seen ≡ 0 → noted.places ≡ []
+    → ◌≡◌ {A = SessionLists} (record { state = state_of o kept full; noted = noted })
+    (record { state = begun o kept; noted = nothing_noted })
 new_lists o kept n full noted count is seen places =
     let all : full ≡ numbers_to (length o.axioms) = full_is n full is ∙ ap numbers_to count in
     λ i. record { state = state_of o kept (all i); noted = record { seen = seen i; places = places i } }

@@ -8,5 +8,6 @@ pub mod Deciding
 pub mod Telling
 pub mod Sessions
 pub mod Scripted
+pub mod Answered
 pub mod Scratch
 pub mod Beginning

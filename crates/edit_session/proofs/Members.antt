@@ -1,5 +1,6 @@
 -- Members of sets up to a number.
-use Rattle.std.proofs.Common.{◌≡◌, ℕ, ◌+◌, ◌<◌, ◌≤◌, ◌&&◌, ◌||◌, Bool, true, false, eqb, refl, ap, sym, ◌∙◌, subst, arith, inl, inr, eq-eqb}
+use Rattle.std.proofs.Common.{◌≡◌, ℕ, ◌+◌, ◌<◌, ◌≤◌, ◌&&◌, ◌||◌, Bool, true, false, eqb, refl, ap, sym, ◌∙◌, subst}
+use Rattle.std.proofs.Common.{arith, inl, inr, eq-eqb}
 use Rattle.std.specs.Prelude.{nat_le, not}
 use Rattle.std.specs.FinSet as set
 use Rattle.std.specs.Cmp.{nat_cmp_total}
@@ -12,8 +13,10 @@ use Rattle.axiom_sets.specs.Sets.{IsWithin}
 -- ---- up to a number
 
 -- no member is 0
-pub none_up_to : (s t : NumberSet) (limit : ℕ) → IsWithin limit s → t ≡ set.empty → (k : ℕ) → set.contains t k ≡ (set.contains s k && nat_le k 0)
-none_up_to s t limit within e k = ap (λ (u : NumberSet). set.contains u k) e ∙ set.contains-empty nat_cmp k ∙ sym (by (set.contains s k) refl)
+pub none_up_to : (s t : NumberSet) (limit : ℕ) → IsWithin limit s → t ≡ set.empty → (k : ℕ)
+    → set.contains t k ≡ (set.contains s k && nat_le k 0)
+none_up_to s t limit within e k =
+    ap (λ (u : NumberSet). set.contains u k) e ∙ set.contains-empty nat_cmp k ∙ sym (by (set.contains s k) refl)
   where
     by : (b : Bool) → set.contains s k ≡ b → (b && nat_le k 0) ≡ false
     by true h = let low = within k h in ap (λ (b : Bool). true && b) (lt-leb k 0 (omega (arith, low.0)))
@@ -21,7 +24,8 @@ none_up_to s t limit within e k = ap (λ (u : NumberSet). set.contains u k) e �
 
 module _ (s t : NumberSet) (n : ℕ) (up_to : (k : ℕ) → set.contains t k ≡ (set.contains s k && nat_le k n)) where
   -- one number more, which is a member
-  pub one_up : set.contains s (n + 1) ≡ true → (k : ℕ) → set.contains (set.insert t (n + 1)) k ≡ (set.contains s k && nat_le k (n + 1))
+  pub one_up : set.contains s (n + 1) ≡ true → (k : ℕ)
+      → set.contains (set.insert t (n + 1)) k ≡ (set.contains s k && nat_le k (n + 1))
   one_up there k =
       contains_insert t (n + 1) k
       ∙ (elim (cases_eq k (n + 1)) [
@@ -47,7 +51,8 @@ module _ (s t : NumberSet) (n : ℕ) (up_to : (k : ℕ) → set.contains t k ≡
 
   -- all of them
   pub all_up : IsWithin n s → t ≡ s
-  all_up within = set.same_set nat_cmp_total set.nat_cmp-IsAntisymmetric t s (λ k. up_to k ∙ by k (set.contains s k) refl)
+  all_up within =
+      set.same_set nat_cmp_total set.nat_cmp-IsAntisymmetric t s (λ k. up_to k ∙ by k (set.contains s k) refl)
     where
       by : (k : ℕ) (b : Bool) → set.contains s k ≡ b → (b && nat_le k n) ≡ b
       by k true h = let high = within k h in ap (λ (b : Bool). true && b) (le-leb k n high.1)

@@ -22,9 +22,12 @@ use Rattle.edit_session.proofs.Telling.{ask_told, ask_logs}
 abbrev pub lists_of : Listed → DocumentContext → Limited → Noted → SessionLists
 lists_of o kept live noted = record { state = state_of o kept live.members; noted = noted }
 
-module _ (o next : Listed) (kept : DocumentContext) (live : Limited) (was left : Noted) (budget : ℕ) (text : List ℕ) (before after : List Entry) (old : SessionLists) (view : lists_of o kept live was ≡ old)
-    (limit : live.limit ≡ length o.axioms) (same : next ≡ o) (may : MayGoOn old budget before) (within : spent_of after ≤ budget) (noted : IsNotedOf left live.members after) (asked : Result Outcome Refusal)
-    (done : IfOk asked (IsAsked kept o live text budget before after)) (undone : IfErr asked (IsUnasked kept o text)) (unlogged : OnErr asked (after ≡ before)) where
+module _ (o next : Listed) (kept : DocumentContext) (live : Limited) (was left : Noted) (budget : ℕ) (text : List ℕ)
+    (before after : List Entry) (old : SessionLists) (view : lists_of o kept live was ≡ old)
+    (limit : live.limit ≡ length o.axioms) (same : next ≡ o) (may : MayGoOn old budget before)
+    (within : spent_of after ≤ budget) (noted : IsNotedOf left live.members after) (asked : Result Outcome Refusal)
+    (done : IfOk asked (IsAsked kept o live text budget before after)) (undone : IfErr asked (IsUnasked kept o text))
+    (unlogged : OnErr asked (after ≡ before)) where
   abbrev first : SessionLists
   first = lists_of o kept live was
 
@@ -46,13 +49,16 @@ module _ (o next : Listed) (kept : DocumentContext) (live : Limited) (was left :
   told : (found : Option (List ℕ)) → IsTextOf asked found → IsAskTold budget old text before second after found
   told found t =
       subst (λ (s : SessionLists). IsAskTold budget s text before second after found) view
-      (ask_told first second budget text before after may_first same_state within noted asked of_live undone unlogged found t)
+      (ask_told first second budget text before after may_first same_state within noted asked of_live undone unlogged
+      found t)
 
-  pub if_told : (r : Result (Option Text) NoMemory) → IfOk r (λ found. IsTextOf asked (option_map text_bytes found)) → IfOk r (λ found. IsAskTold budget old text before second after (option_map text_bytes found))
+  pub if_told : (r : Result (Option Text) NoMemory) → IfOk r (λ found. IsTextOf asked (option_map text_bytes found))
+      → IfOk r (λ found. IsAskTold budget old text before second after (option_map text_bytes found))
   if_told (Ok found) t = told (option_map text_bytes found) t
   if_told (Err e) t = tt
 
-  pub if_logged : (r : Result (Option Text) NoMemory) → OnErr r (HasText asked) → OnErr r (AskLogsAtMostOne old.state text before after)
+  pub if_logged : (r : Result (Option Text) NoMemory) → OnErr r (HasText asked)
+      → OnErr r (AskLogsAtMostOne old.state text before after)
   if_logged (Ok found) has = tt
   if_logged (Err e) has =
       subst (λ (s : SessionLists). AskLogsAtMostOne s.state text before after) view

@@ -1,5 +1,6 @@
 -- What entries say of the first axioms they say where more axioms stand after them.
-use Rattle.std.proofs.Common.{◌≡◌, ℕ, zero, suc, ◌+◌, ◌-◌, ◌<◌, ◌≤◌, Bool, true, false, List, [], ◌∷◌, ◌++◌, length, take, refl, ap, sym, subst, ◌∙◌, arith, inl, inr}
+use Rattle.std.proofs.Common.{◌≡◌, ℕ, zero, suc, ◌+◌, ◌-◌, ◌<◌, ◌≤◌, Bool, true, false, List, [], ◌∷◌, ◌++◌, length}
+use Rattle.std.proofs.Common.{take, refl, ap, sym, subst, ◌∙◌, arith, inl, inr}
 use Rattle.std.specs.Prelude.{if◌then◌else◌, ◌↔◌, All}
 use Rattle.std.specs.FinSet as set
 use Rattle.std.proofs.lemmas.List.{take-append-le}
@@ -40,18 +41,23 @@ none_outside s n k within out = by (set.contains s k) refl
 none_from : (s : NumberSet) (n k : ℕ) (ys : List Numbered) → IsWithin n s → n < k → axioms_from k s ys ≡ []
 none_from s n k [] within lt = refl
 none_from s n k (y ∷ ys) within lt =
-    ap (λ (b : Bool). if b then y.axiom ∷ axioms_from (k + 1) s ys else axioms_from (k + 1) s ys) (not_there s n k within lt)
+    ap (λ (b : Bool). if b then y.axiom ∷ axioms_from (k + 1) s ys else axioms_from (k + 1) s ys)
+    (not_there s n k within lt)
     ∙ none_from s n (k + 1) ys within (omega (arith, lt))
 
-first_from : (s : NumberSet) (n k : ℕ) (xs ys : List Numbered) → IsWithin n s → n < k + length xs → axioms_from k s (xs ++ ys) ≡ axioms_from k s xs
+first_from : (s : NumberSet) (n k : ℕ) (xs ys : List Numbered) → IsWithin n s → n < k + length xs
+    → axioms_from k s (xs ++ ys) ≡ axioms_from k s xs
 first_from s n k [] ys within lt = none_from s n k ys within (omega (arith, lt))
 first_from s n k (x ∷ xs) ys within lt =
-    ap (λ (as_ : List Axiom). if set.contains s k then x.axiom ∷ as_ else as_) (first_from s n (k + 1) xs ys within (omega (arith, lt)))
+    ap (λ (as_ : List Axiom). if set.contains s k then x.axiom ∷ as_ else as_)
+    (first_from s n (k + 1) xs ys within (omega (arith, lt)))
 
-pub first_axioms : (s : NumberSet) (xs ys : List Numbered) → IsWithin (length xs) s → axioms_in_set s (xs ++ ys) ≡ axioms_in_set s xs
+pub first_axioms : (s : NumberSet) (xs ys : List Numbered) → IsWithin (length xs) s
+    → axioms_in_set s (xs ++ ys) ≡ axioms_in_set s xs
 first_axioms s xs ys within = first_from s (length xs) 1 xs ys within (omega arith)
 
-pub follows_more : (q : Query) (s : NumberSet) (xs ys : List Numbered) → IsWithin (length xs) s → FollowsFrom (xs ++ ys) q s ↔ FollowsFrom xs q s
+pub follows_more : (q : Query) (s : NumberSet) (xs ys : List Numbered) → IsWithin (length xs) s
+    → FollowsFrom (xs ++ ys) q s ↔ FollowsFrom xs q s
 follows_more q s xs ys within = (
   λ h. subst (λ (as_ : List Axiom). Entails as_ q) (first_axioms s xs ys within) h,
   λ h. subst (λ (as_ : List Axiom). Entails as_ q) (sym (first_axioms s xs ys within)) h,
@@ -77,7 +83,8 @@ held_more m n le (Node s) of = tt
 
 -- ---- honest entries
 
-first_take : (n : ℕ) (o : Listed) (standing : Listed) (p : Listed) (more : List Numbered) → n ≡ length standing.axioms → standing.axioms ≡ take n o.axioms → p.axioms ≡ o.axioms ++ more → standing.axioms ≡ take n p.axioms
+first_take : (n : ℕ) (o : Listed) (standing : Listed) (p : Listed) (more : List Numbered) → n ≡ length standing.axioms
+    → standing.axioms ≡ take n o.axioms → p.axioms ≡ o.axioms ++ more → standing.axioms ≡ take n p.axioms
 first_take n o standing p more len first longer =
     let short : n ≤ length o.axioms = omega (arith, len, ap length first, length_take n o.axioms) in
     first ∙ sym (take-append-le n o.axioms more short) ∙ sym (ap (take n) longer)

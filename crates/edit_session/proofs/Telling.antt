@@ -1,5 +1,6 @@
 -- What a line is answered, and that the session may go on then.
-use Rattle.std.proofs.Common.{◌≡◌, ◌⊎◌, ℕ, ◌+◌, ◌≤◌, Bool, true, false, List, [], ◌∷◌, ◌++◌, length, refl, ap, sym, subst, ◌∙◌, arith, inl, inr, append-nil, length-append, get_or}
+use Rattle.std.proofs.Common.{◌≡◌, ◌⊎◌, ℕ, ◌+◌, ◌≤◌, Bool, true, false, List, [], ◌∷◌, ◌++◌, length, refl, ap, sym}
+use Rattle.std.proofs.Common.{subst, ◌∙◌, arith, inl, inr, append-nil, length-append, get_or}
 use Rattle.std.specs.Prelude.{Option, Some, None, Result, Ok, Err, IfOk, IfErr, OnErr, All, Contains}
 use Rattle.std.specs.FinSet as set
 use Rattle.std.specs.List.{list_any}
@@ -30,7 +31,8 @@ use Rattle.shq_oracle.specs.declared.answer.Outcome.TheVariants.{Yes, No, Undeci
 use Rattle.edit_session.specs.Noted.{Noted}
 use Rattle.edit_session.specs.Sessions.{State, SessionLists, live_set, state_of}
 use Rattle.edit_session.specs.ScriptLines.{Request, adds, removes, asks, other, request}
-use Rattle.edit_session.specs.Said.{bad_line, yes_line, no_line, SaysWrong, IsRefusedText, IsAdded, IsRemoved, IsYes, IsNo, IsAddedOrRefused, IsRemovedOrNot, IsAnsweredOrRefused, SaidTo, Said}
+use Rattle.edit_session.specs.Said.{bad_line, yes_line, no_line, SaysWrong, IsRefusedText, IsAdded, IsRemoved, IsYes}
+use Rattle.edit_session.specs.Said.{IsNo, IsAddedOrRefused, IsRemovedOrNot, IsAnsweredOrRefused, SaidTo, Said}
 use Rattle.edit_session.specs.SessionLog.{Tests}
 use Rattle.edit_session.specs.Held.{EndIsOf, IsOfHeld, EndHolds, Holds}
 use Rattle.edit_session.specs.Logged.{LogsTest, LogsAtMostOne, RunsOut, ShowsAnswer}
@@ -53,24 +55,34 @@ module _ (axioms : List Numbered) (o : Listed) (same : o.axioms ≡ axioms) (s :
   within_there : (u : Limited) → IsAxiomSet o u → IsWithin (length axioms) u.members
   within_there u of = subst (λ (n : ℕ). IsWithin n u.members) (of.limit_is ∙ ap length same) of.within
 
-  held_entry : (steps : ℕ) (e : TestEnd) → IsHonestEntry o (Test s q steps e) → IsOfHeld (length axioms) (Test s q steps e)
+  held_entry : (steps : ℕ) (e : TestEnd) → IsHonestEntry o (Test s q steps e)
+      → IsOfHeld (length axioms) (Test s q steps e)
   held_entry steps (E.Yes u) h = (within_there s h.0, within_there u h.1.of_axioms)
   held_entry steps E.No h = (within_there s h.0, tt)
   held_entry steps (E.Spent t) h = (within_there s h.0, tt)
 
   holding_entry : (steps : ℕ) (e : TestEnd) → IsHonestEntry o (Test s q steps e) → Holds axioms (Test s q steps e)
   holding_entry steps (E.Yes u) h = follows_there u h.1.of_axioms ((follows_from o u q h.1.of_axioms).0 h.1.follows)
-  holding_entry steps E.No h = λ f. h.1.follows_not ((follows_from o s q h.0).1 (subst (λ (as_ : List Numbered). FollowsFrom as_ q s.members) (sym same) f))
+  holding_entry steps E.No h =
+      λ f. h.1.follows_not
+      ((follows_from o s q h.0).1 (subst (λ (as_ : List Numbered). FollowsFrom as_ q s.members) (sym same) f))
   holding_entry steps (E.Spent t) h = tt
 
   module _ (before after : List Entry) where
-    tested_held : (out : Bool) → Tests out o s q before after → All (IsOfHeld (length axioms)) before → All (IsOfHeld (length axioms)) after
-    tested_held out t all = subst (All (IsOfHeld (length axioms))) (sym t.is_log) (All-push (IsOfHeld (length axioms)) before (Test s q t.steps t.ended) all (held_entry t.steps t.ended t.honest))
+    tested_held : (out : Bool) → Tests out o s q before after → All (IsOfHeld (length axioms)) before
+        → All (IsOfHeld (length axioms)) after
+    tested_held out t all =
+        subst (All (IsOfHeld (length axioms))) (sym t.is_log)
+        (All-push (IsOfHeld (length axioms)) before (Test s q t.steps t.ended) all
+        (held_entry t.steps t.ended t.honest))
 
     tested_hold : (out : Bool) → Tests out o s q before after → All (Holds axioms) before → All (Holds axioms) after
-    tested_hold out t all = subst (All (Holds axioms)) (sym t.is_log) (All-push (Holds axioms) before (Test s q t.steps t.ended) all (holding_entry t.steps t.ended t.honest))
+    tested_hold out t all =
+        subst (All (Holds axioms)) (sym t.is_log)
+        (All-push (Holds axioms) before (Test s q t.steps t.ended) all (holding_entry t.steps t.ended t.honest))
 
-    once_held : TestsAtMostOnce o s q before after → All (IsOfHeld (length axioms)) before → All (IsOfHeld (length axioms)) after
+    once_held : TestsAtMostOnce o s q before after → All (IsOfHeld (length axioms)) before
+        → All (IsOfHeld (length axioms)) after
     once_held (inl e) all = subst (All (IsOfHeld (length axioms))) (sym e) all
     once_held (inr t) all = tested_held false t all
 
@@ -87,7 +99,8 @@ module _ (axioms : List Numbered) (o : Listed) (same : o.axioms ≡ axioms) (s :
 complaint_known : (e : Refusal) (c : Complaint) → complaint e ≡ Some c → e ≡ NoMemory → ⊥
 complaint_known e c is same = let clash : None ≡ Some c = sym (ap complaint same) ∙ is in cc clash
 
-module _ (old new : SessionLists) (budget : ℕ) (text : List ℕ) (before after : List Entry) (may : MayGoOn old budget before) (state : new.state ≡ old.state)
+module _ (old new : SessionLists) (budget : ℕ) (text : List ℕ) (before after : List Entry)
+    (may : MayGoOn old budget before) (state : new.state ≡ old.state)
     (within : spent_of after ≤ budget) (noted : IsNotedOf new.noted old.state.live after) where
   abbrev o : Listed
   o = old.state.ontology
@@ -98,12 +111,17 @@ module _ (old new : SessionLists) (budget : ℕ) (text : List ℕ) (before after
   here : (P : State → Type 0) → P old.state → P new.state
   here P h = subst P (sym state) h
 
-  go_on : (both : Listed) (q : Query) → both.axioms ≡ o.axioms → TestsAtMostOnce both s q before after → MayGoOn new budget after
+  go_on : (both : Listed) (q : Query) → both.axioms ≡ o.axioms → TestsAtMostOnce both s q before after
+      → MayGoOn new budget after
   go_on both q same once = record {
     within = within;
     goes_on = once_on o.axioms both same s q before after once may.goes_on;
-    of_held = here (λ (t : State). All (IsOfHeld (length t.ontology.axioms)) after) (once_held o.axioms both same s q before after once may.of_held);
-    hold = here (λ (t : State). All (Holds t.ontology.axioms) after) (once_hold o.axioms both same s q before after once may.hold);
+    of_held =
+        here (λ (t : State). All (IsOfHeld (length t.ontology.axioms)) after)
+        (once_held o.axioms both same s q before after once may.of_held);
+    hold =
+        here (λ (t : State). All (Holds t.ontology.axioms) after)
+        (once_hold o.axioms both same s q before after once may.hold);
     noted = here (λ (t : State). IsNotedOf new.noted t.live after) noted;
   }
 
@@ -111,7 +129,9 @@ module _ (old new : SessionLists) (budget : ℕ) (text : List ℕ) (before after
   go_on_same same = record {
     within = within;
     goes_on = ap (list_any is_spent) same ∙ may.goes_on;
-    of_held = here (λ (t : State). All (IsOfHeld (length t.ontology.axioms)) after) (subst (All (IsOfHeld (length o.axioms))) (sym same) may.of_held);
+    of_held =
+        here (λ (t : State). All (IsOfHeld (length t.ontology.axioms)) after)
+        (subst (All (IsOfHeld (length o.axioms))) (sym same) may.of_held);
     hold = here (λ (t : State). All (Holds t.ontology.axioms) after) (subst (All (Holds o.axioms)) (sym same) may.hold);
     noted = here (λ (t : State). IsNotedOf new.noted t.live after) noted;
   }
@@ -122,21 +142,34 @@ module _ (old new : SessionLists) (budget : ℕ) (text : List ℕ) (before after
   same_axioms : (v : Outcome) (a : IsSo v) → a.both.axioms ≡ o.axioms
   same_axioms v a = query_axioms old.state.context o text a.both a.query a.is_query
 
-  logs : (v : Outcome) (a : IsSo v) (l : List ℕ) → request l ≡ asks text → TestsAtMostOnce a.both s a.query before after → LogsAtMostOne old.state l before after
+  logs : (v : Outcome) (a : IsSo v) (l : List ℕ) → request l ≡ asks text → TestsAtMostOnce a.both s a.query before after
+      → LogsAtMostOne old.state l before after
   logs v a l asked (inl e) = inl e
-  logs v a l asked (inr t) = inr (record { text = text; is_asked = asked; both = a.both; query = a.query; is_query = a.is_query; in_limit = a.in_limit; tests = t })
+  logs v a l asked (inr t) = inr (record {
+    text = text;
+    is_asked = asked;
+    both = a.both;
+    query = a.query;
+    is_query = a.is_query;
+    in_limit = a.in_limit;
+    tests = t;
+  })
 
-  said : (l answer : List ℕ) → request l ≡ asks text → IsAnsweredOrRefused old.state text new.state answer → Said old.state l new.state answer
+  said : (l answer : List ℕ) → request l ≡ asks text → IsAnsweredOrRefused old.state text new.state answer
+      → Said old.state l new.state answer
   said l answer asked h = subst (λ (r : Request). SaidTo old.state r new.state answer) (sym asked) h
 
-  yes_is : (u : Limited) (a : IsSo (Yes u)) (answer : List ℕ) → IsWithin u.limit u.members → answer ≡ yes_line u → IsYes old.state a.query answer
+  yes_is : (u : Limited) (a : IsSo (Yes u)) (answer : List ℕ) → IsWithin u.limit u.members → answer ≡ yes_line u
+      → IsYes old.state a.query answer
   yes_is u a answer limited says =
       let told = a.decided.1 in
       record {
         found = u;
         within = limited;
         are_live = told.3;
-        follows = All-contains (Holds o.axioms) after (Test told.0 a.query told.1 (E.Yes u)) (once_hold o.axioms a.both (same_axioms (Yes u) a) s a.query before after a.decided.0 may.hold) told.2;
+        follows =
+            All-contains (Holds o.axioms) after (Test told.0 a.query told.1 (E.Yes u))
+            (once_hold o.axioms a.both (same_axioms (Yes u) a) s a.query before after a.decided.0 may.hold) told.2;
         says = says;
       }
 
@@ -145,7 +178,8 @@ module _ (old new : SessionLists) (budget : ℕ) (text : List ℕ) (before after
       let told = a.decided.1 in
       record {
         follows_not = λ f.
-            All-contains (Holds o.axioms) after (Test told.0 a.query told.1 E.No) (once_hold o.axioms a.both (same_axioms No a) s a.query before after a.decided.0 may.hold) told.2
+            All-contains (Holds o.axioms) after (Test told.0 a.query told.1 E.No)
+            (once_hold o.axioms a.both (same_axioms No a) s a.query before after a.decided.0 may.hold) told.2
             (grows o.axioms a.query old.state.live told.0.members told.3 f);
         says = says;
       }
@@ -156,44 +190,66 @@ module _ (old new : SessionLists) (budget : ℕ) (text : List ℕ) (before after
   told_answers No q told = (Test told.0 q told.1 E.No, told.2, (refl, told.3))
   told_answers Undecided q told = absurd told
 
-  shows : (v : Outcome) (a : IsSo v) (l : List ℕ) → request l ≡ asks text → IsTold after s a.query v → ShowsAnswer old.state l after
+  shows : (v : Outcome) (a : IsSo v) (l : List ℕ) → request l ≡ asks text → IsTold after s a.query v
+      → ShowsAnswer old.state l after
   shows v a l asked told again both q asked_too is =
       let same_text : text ≡ again = cc (sym asked ∙ asked_too) in
-      let is' : IsQueryOn old.state.context o text both q = subst (λ (t : List ℕ). IsQueryOn old.state.context o t both q) (sym same_text) is in
-      let same = queries old.state.context.prefixes o.axioms (query_start o old.state.context.nodes) text a.is_query.0 is'.0 a.query q a.is_query.1 is'.1 in
+      let is' : IsQueryOn old.state.context o text both q =
+      subst (λ (t : List ℕ). IsQueryOn old.state.context o t both q) (sym same_text) is in
+      let same =
+      queries old.state.context.prefixes o.axioms (query_start o old.state.context.nodes) text a.is_query.0 is'.0
+      a.query q a.is_query.1 is'.1 in
       subst (IsAnswered after s) same.1 (told_answers v a.query told)
 
-  shows_none : (e : Refusal) (l : List ℕ) → request l ≡ asks text → IsNoQueryOn old.state.context o text e → ShowsAnswer old.state l after
+  shows_none : (e : Refusal) (l : List ℕ) → request l ≡ asks text → IsNoQueryOn old.state.context o text e
+      → ShowsAnswer old.state l after
   shows_none e l asked why again both q asked_too is =
       let same_text : text ≡ again = cc (sym asked ∙ asked_too) in
-      let is' : IsQueryOn old.state.context o text both q = subst (λ (t : List ℕ). IsQueryOn old.state.context o t both q) (sym same_text) is in
-      absurd (queries_not_refused old.state.context.prefixes o.axioms (query_start o old.state.context.nodes) text is'.0 q e is'.1 why)
+      let is' : IsQueryOn old.state.context o text both q =
+      subst (λ (t : List ℕ). IsQueryOn old.state.context o t both q) (sym same_text) is in
+      absurd (queries_not_refused old.state.context.prefixes o.axioms (query_start o old.state.context.nodes) text is'.0
+      q e is'.1 why)
 
-  answered : (v : Outcome) (a : IsSo v) (answer l : List ℕ) → request l ≡ asks text → IsYes old.state a.query answer ⊎ IsNo old.state a.query answer → TestsAtMostOnce a.both s a.query before after → IsTold after s a.query v
+  answered : (v : Outcome) (a : IsSo v) (answer l : List ℕ) → request l ≡ asks text
+      → IsYes old.state a.query answer ⊎ IsNo old.state a.query answer → TestsAtMostOnce a.both s a.query before after
+      → IsTold after s a.query v
       → IsAnsweredLine budget old l before new after answer
   answered v a answer l asked verdict once told = record {
-    is_said = said l answer asked (inl (record { both = a.both; query = a.query; is_query = a.is_query; verdict = verdict; same = state }));
+    is_said = said l answer asked
+        (inl (record { both = a.both; query = a.query; is_query = a.is_query; verdict = verdict; same = state }));
     logged = logs v a l asked once;
     shown = shows v a l asked told;
     may_go_on = go_on a.both a.query (same_axioms v a) once;
   }
 
-  pub ask_told : (asked : Result Outcome Refusal) → IfOk asked IsSo → IfErr asked (IsUnasked old.state.context o text) → OnErr asked (after ≡ before) → (found : Option (List ℕ)) → IsTextOf asked found
+  pub ask_told : (asked : Result Outcome Refusal) → IfOk asked IsSo → IfErr asked (IsUnasked old.state.context o text)
+      → OnErr asked (after ≡ before) → (found : Option (List ℕ)) → IsTextOf asked found
       → IsAskTold budget old text before new after found
-  ask_told (Ok (Yes u)) a un same (Some answer) t l asked = answered (Yes u) a answer l asked (inl (yes_is u a answer t.1 t.0)) a.decided.0 a.decided.1
+  ask_told (Ok (Yes u)) a un same (Some answer) t l asked =
+      answered (Yes u) a answer l asked (inl (yes_is u a answer t.1 t.0)) a.decided.0 a.decided.1
   ask_told (Ok (Yes u)) a un same None t l asked = absurd t
-  ask_told (Ok No) a un same (Some answer) t l asked = answered No a answer l asked (inr (no_is a answer t)) a.decided.0 a.decided.1
+  ask_told (Ok No) a un same (Some answer) t l asked =
+      answered No a answer l asked (inr (no_is a answer t)) a.decided.0 a.decided.1
   ask_told (Ok No) a un same None t l asked = absurd t
   ask_told (Ok Undecided) a un same (Some answer) t l asked = absurd t
   ask_told (Ok Undecided) a un same None t l asked = (
     record {
-      test = record { text = text; is_asked = asked; both = a.both; query = a.query; is_query = a.is_query; in_limit = a.in_limit; tests = a.decided.0 };
+      test = record {
+        text = text;
+        is_asked = asked;
+        both = a.both;
+        query = a.query;
+        is_query = a.is_query;
+        in_limit = a.in_limit;
+        tests = a.decided.0;
+      };
       is_whole = a.decided.1;
     },
     state,
   )
   ask_told (Err e) a un same (Some answer) t l asked = record {
-    is_said = said l answer asked (inr (record { refusal = e; is_why = un (complaint_known e t.wrong t.is_wrong); same = state; says = t }));
+    is_said = said l answer asked
+        (inr (record { refusal = e; is_why = un (complaint_known e t.wrong t.is_wrong); same = state; says = t }));
     logged = inl same;
     shown = shows_none e l asked (un (complaint_known e t.wrong t.is_wrong));
     may_go_on = go_on_same same;
@@ -201,7 +257,8 @@ module _ (old new : SessionLists) (budget : ℕ) (text : List ℕ) (before after
   ask_told (Err e) a un same None t l asked = absurd t
 
   -- where memory was refused for the answer
-  pub ask_logs : (asked : Result Outcome Refusal) → IfOk asked IsSo → OnErr asked (after ≡ before) → HasText asked → AskLogsAtMostOne old.state text before after
+  pub ask_logs : (asked : Result Outcome Refusal) → IfOk asked IsSo → OnErr asked (after ≡ before) → HasText asked
+      → AskLogsAtMostOne old.state text before after
   ask_logs (Ok (Yes u)) a same has l asked = logs (Yes u) a l asked a.decided.0
   ask_logs (Ok No) a same has l asked = logs No a l asked a.decided.0
   ask_logs (Ok Undecided) a same has l asked = absurd has
@@ -209,22 +266,29 @@ module _ (old new : SessionLists) (budget : ℕ) (text : List ℕ) (before after
 
 -- ---- axioms that come and go
 
-module _ (old new : SessionLists) (budget : ℕ) (log : List Entry) (may : MayGoOn old budget log) (noted : new.noted ≡ old.noted) where
+module _ (old new : SessionLists) (budget : ℕ) (log : List Entry) (may : MayGoOn old budget log)
+    (noted : new.noted ≡ old.noted) where
   -- with other live axioms, and perhaps more axioms
-  goes_on_with : (more : List Numbered) → new.state.ontology.axioms ≡ old.state.ontology.axioms ++ more → IsNotedOf old.noted new.state.live log → MayGoOn new budget log
+  goes_on_with : (more : List Numbered) → new.state.ontology.axioms ≡ old.state.ontology.axioms ++ more
+      → IsNotedOf old.noted new.state.live log → MayGoOn new budget log
   goes_on_with more longer kept =
       let xs = old.state.ontology.axioms in
       let le : length xs ≤ length new.state.ontology.axioms = omega (arith, ap length longer, length-append xs more) in
       record {
         within = may.within;
         goes_on = may.goes_on;
-        of_held = λ k d lt. held_more (length xs) (length new.state.ontology.axioms) le (get_or log k d) (may.of_held k d lt);
-        hold = λ k d lt. subst (λ (as_ : List Numbered). Holds as_ (get_or log k d)) (sym longer) (hold_more xs more (get_or log k d) (may.of_held k d lt) (may.hold k d lt));
+        of_held =
+            λ k d lt. held_more (length xs) (length new.state.ontology.axioms) le (get_or log k d) (may.of_held k d lt);
+        hold =
+            λ k d lt. subst (λ (as_ : List Numbered). Holds as_ (get_or log k d)) (sym longer)
+            (hold_more xs more (get_or log k d) (may.of_held k d lt) (may.hold k d lt));
         noted = subst (λ (n : Noted). IsNotedOf n new.state.live log) (sym noted) kept;
       }
 
   stays : new.state ≡ old.state → MayGoOn new budget log
-  stays same = goes_on_with [] (ap (λ (s : State). s.ontology.axioms) same ∙ sym (append-nil old.state.ontology.axioms)) (subst (λ (s : State). IsNotedOf old.noted s.live log) (sym same) may.noted)
+  stays same =
+      goes_on_with [] (ap (λ (s : State). s.ontology.axioms) same ∙ sym (append-nil old.state.ontology.axioms))
+      (subst (λ (s : State). IsNotedOf old.noted s.live log) (sym same) may.noted)
 
   abbrev Tells : Request → List ℕ → Type 0
   Tells r answer = (l : List ℕ) → request l ≡ r → IsAnsweredLine budget old l log new log answer
@@ -232,7 +296,8 @@ module _ (old new : SessionLists) (budget : ℕ) (log : List Entry) (may : MayGo
   abbrev AsksNothing : Request → Type 0
   AsksNothing r = (text : List ℕ) → r ≡ asks text → ⊥
 
-  tells : (r : Request) (answer : List ℕ) → AsksNothing r → SaidTo old.state r new.state answer → MayGoOn new budget log → Tells r answer
+  tells : (r : Request) (answer : List ℕ) → AsksNothing r → SaidTo old.state r new.state answer → MayGoOn new budget log
+      → Tells r answer
   tells r answer none said on l is = record {
     is_said = subst (λ (x : Request). SaidTo old.state x new.state answer) (sym is) said;
     logged = inl refl;
@@ -242,12 +307,17 @@ module _ (old new : SessionLists) (budget : ℕ) (log : List Entry) (may : MayGo
 
   pub add_told : (text answer : List ℕ) → IsAddedOrRefused old.state text new.state answer → Tells (adds text) answer
   add_told text answer (inl h) =
-      let longer = addition_longer old.state.context old.state.ontology text new.state.ontology new.state.context h.number h.is_axiom in
+      let longer =
+      addition_longer old.state.context old.state.ontology text new.state.ontology new.state.context h.number
+      h.is_axiom in
       let n = length old.state.ontology.axioms in
-      let live : new.state.live ≡ set.insert old.state.live (n + 1) = h.is_live ∙ ap (set.insert old.state.live) h.is_axiom.5 in
+      let live : new.state.live ≡ set.insert old.state.live (n + 1) =
+      h.is_live ∙ ap (set.insert old.state.live) h.is_axiom.5 in
       tells (adds text) answer (λ asked e. cc) (inl h) (goes_on_with (longer.0 ∷ []) longer.1 (record {
         within = may.noted.within;
-        filed = subst (λ (m : NumberSet). AreFiled old.noted.places m old.noted.seen log) (sym live) (filed_added old.state.live n log old.noted.places old.noted.seen may.of_held may.noted.filed);
+        filed =
+            subst (λ (m : NumberSet). AreFiled old.noted.places m old.noted.seen log) (sym live)
+            (filed_added old.state.live n log old.noted.places old.noted.seen may.of_held may.noted.filed);
       }))
   add_told text answer (inr h) = tells (adds text) answer (λ asked e. cc) (inr h) (stays h.same)
 
@@ -256,9 +326,12 @@ module _ (old new : SessionLists) (budget : ℕ) (log : List Entry) (may : MayGo
     where
       by : (b : Bool) → IsRemoved b old.state k new.state answer → MayGoOn new budget log
       by true r =
-          goes_on_with [] (ap (λ (s : State). s.ontology.axioms) r.0 ∙ sym (append-nil old.state.ontology.axioms)) (record {
+          goes_on_with [] (ap (λ (s : State). s.ontology.axioms) r.0 ∙ sym (append-nil old.state.ontology.axioms))
+          (record {
             within = may.noted.within;
-            filed = subst (λ (s : State). AreFiled old.noted.places s.live old.noted.seen log) (sym r.0) (filed_removed old.state.live k log old.noted.places old.noted.seen may.noted.filed);
+            filed =
+                subst (λ (s : State). AreFiled old.noted.places s.live old.noted.seen log) (sym r.0)
+                (filed_removed old.state.live k log old.noted.places old.noted.seen may.noted.filed);
           })
       by false r = stays r.0
 
@@ -267,10 +340,12 @@ module _ (old new : SessionLists) (budget : ℕ) (log : List Entry) (may : MayGo
 
 -- ---- states
 
-pub removed_state : (o : Listed) (kept : DocumentContext) (live next : NumberSet) (k : ℕ) (answer : List ℕ) → IsRemovedFrom live k next answer
+pub removed_state : (o : Listed) (kept : DocumentContext) (live next : NumberSet) (k : ℕ) (answer : List ℕ)
+    → IsRemovedFrom live k next answer
     → IsRemovedOrNot (state_of o kept live) k (state_of o kept next) answer
 removed_state o kept live next k answer h = by (set.contains live k) h
   where
-    by : (b : Bool) → IsRemovedIf b live k next answer → IsRemoved b (state_of o kept live) k (state_of o kept next) answer
+    by : (b : Bool) → IsRemovedIf b live k next answer
+        → IsRemoved b (state_of o kept live) k (state_of o kept next) answer
     by true r = (ap (state_of o kept) r.0, r.1)
     by false r = (ap (state_of o kept) r.0, r.1)

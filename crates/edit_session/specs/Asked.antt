@@ -17,7 +17,8 @@ abbrev pub IsCutTo : Listed → Listed → Type 0
 IsCutTo old new = with_names_cut new (length old.classes) (length old.roles) (length old.individuals) ≡ old
 
 -- the text is a query, which was decided while its names were listed
-pub record IsAsked (kept : DocumentContext) (o : Listed) (s : Limited) (text : List ℕ) (budget : ℕ) (before after : List Entry) (v : Outcome) : Type 0 where
+pub record IsAsked (kept : DocumentContext) (o : Listed) (s : Limited) (text : List ℕ) (budget : ℕ)
+    (before after : List Entry) (v : Outcome) : Type 0 where
   pub both : Listed
   pub query : Query
   pub is_query : IsQueryOn kept o text both query

@@ -13,9 +13,11 @@ use Rattle.shq_oracle.specs.declared.answer.Outcome.{Outcome}
 use Rattle.shq_oracle.specs.declared.answer.Outcome.TheVariants.{Yes, No, Undecided}
 use Rattle.edit_session.specs.SessionLog.{Tests}
 
--- an entry of the log tells that the query follows from these axioms of the set, or that it does not follow from the set
+-- an entry of the log tells that the query follows from these axioms of the set, or that it does not follow from the
+-- set
 abbrev pub IsTold : List Entry → Limited → Query → Outcome → Type 0
-IsTold log s q (Yes u) = (t : Limited) × (steps : ℕ) × Contains log (Test t q steps (E.Yes u)) × IsPart u.members s.members
+IsTold log s q (Yes u) = (t : Limited) × (steps : ℕ) × Contains log (Test t q steps (E.Yes u))
+    × IsPart u.members s.members
 IsTold log s q No = (t : Limited) × (steps : ℕ) × Contains log (Test t q steps E.No) × IsPart s.members t.members
 IsTold log s q Undecided = ⊥
 

@@ -14,5 +14,8 @@ pub mod Asked
 pub mod Editing
 pub mod Lines
 pub mod Scripts
+pub mod Answers
+pub mod Answering
 pub mod Laws
 pub mod LineExamples
+pub mod LogExamples

@@ -1,7 +1,8 @@
 -- Worked lines of scripts.
-use Rattle.std.specs.Prelude.{◌≡◌, ℕ, Bool, true, false, not, ◌&&◌, List, [], ◌∷◌, ◌++◌, codes, decimal, if◌then◌else◌, refl}
+use Rattle.std.specs.Prelude.{◌≡◌, ℕ, Bool, true, false, not, ◌&&◌, List, [], ◌∷◌, codes, if◌then◌else◌, refl}
 use Rattle.std.proofs.Common.{ap, sym, subst, ◌∙◌, eq-eqb}
 use Rattle.std.specs.FinSet as set
+use Rattle.std.specs.Fmt.{digits}
 use Rattle.std.specs.Str.{is_utf8}
 use Rattle.lane_sieve.specs.Sets.{NumberSet}
 use Rattle.lane_sieve.proofs.Bits.{contains_remove}
@@ -54,7 +55,8 @@ asks_nothing_behind_blank = refl
 pub words_are_whole : split_request (codes "asks SubClassOf(:A :C)") ≡ other
 words_are_whole = refl
 
-pub blank_lines_are_dropped : script_lines (codes "remove 1" ∷ [] ∷ codes "  " ∷ codes "remove 2" ∷ []) ≡ codes "remove 1" ∷ codes "remove 2" ∷ []
+pub blank_lines_are_dropped : script_lines (codes "remove 1" ∷ [] ∷ codes "  " ∷ codes "remove 2" ∷ [])
+    ≡ codes "remove 1" ∷ codes "remove 2" ∷ []
 blank_lines_are_dropped = refl
 
 -- ---- what is printed
@@ -65,10 +67,12 @@ numbers n ks = record { limit = n; members = set.from_list ks }
 pub says_bad_line : bad_line ≡ codes "bad line\n"
 says_bad_line = refl
 
-pub says_axiom : numbered_line (codes "axiom") 3 ≡ codes "axiom " ++ (decimal 3 ++ codes "\n")
+pub says_axiom : numbered_line (codes "axiom") 3 ≡ codes "axiom 3\n"
+unfolding digits
 says_axiom = refl
 
-pub says_removed : numbered_line (codes "removed") 12 ≡ codes "removed " ++ (decimal 12 ++ codes "\n")
+pub says_removed : numbered_line (codes "removed") 12 ≡ codes "removed 12\n"
+unfolding digits
 says_removed = refl
 
 pub says_no : no_line ≡ codes "no\n"
@@ -81,16 +85,18 @@ not_live : (live : NumberSet) (k : ℕ) → set.contains (set.remove live k) k �
 not_live live k = contains_remove live k k ∙ ap (λ (b : Bool). not b && set.contains live k) (eq-eqb k k refl)
 
 module _ (s : State) (k : ℕ) where
-  abbrev without : State
+  abbrev pub without : State
   without = record s { live = set.remove s.live k }
 
   -- a live axiom is removed
   pub removes_live : set.contains s.live k ≡ true → IsRemovedOrNot s k without (numbered_line (codes "removed") k)
-  removes_live there = subst (λ (b : Bool). IsRemoved b s k without (numbered_line (codes "removed") k)) (sym there) (refl, refl)
+  removes_live there =
+      subst (λ (b : Bool). IsRemoved b s k without (numbered_line (codes "removed") k)) (sym there) (refl, refl)
 
   -- and then it is live no more
   pub removes_none_twice : IsRemovedOrNot without k without bad_line
-  removes_none_twice = subst (λ (b : Bool). IsRemoved b without k without bad_line) (sym (not_live s.live k)) (refl, refl)
+  removes_none_twice =
+      subst (λ (b : Bool). IsRemoved b without k without bad_line) (sym (not_live s.live k)) (refl, refl)
 
   -- a yes that rests on it answers no more
   pub yes_is_over : (u : Limited) → set.contains u.members k ≡ true → IsOver (set.remove s.live k) (Yes u)

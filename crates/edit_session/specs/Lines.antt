@@ -14,8 +14,8 @@ use Rattle.edit_session.specs.Places.{IsNotedOf}
 use Rattle.edit_session.specs.declared.said.Said.{Said as Outcome}
 use Rattle.edit_session.specs.declared.said.Said.TheVariants.{Answered, Spent}
 
--- The log leaves something to ask: no more was spent than the budget, and no test ran out. Its tests were of sets of
--- axioms that were held, and what they found is so. It begins with the entries that the session noted.
+-- No more was spent than the budget, and no test ran out. The tests were of sets of axioms that were held, and what
+-- they found is so. The log begins with the entries that the session noted.
 pub record MayGoOn (s : SessionLists) (budget : ℕ) (log : List Entry) : Type 0 where
   pub within : spent_of log ≤ budget
   pub goes_on : list_any is_spent log ≡ false
@@ -28,7 +28,8 @@ abbrev pub HoldsMore : Listed → Listed → Type 0
 HoldsMore o p = (more : List Numbered) × (p.axioms ≡ o.axioms ++ more)
 
 -- a line was answered so, and the session may go on
-pub record IsAnsweredLine (budget : ℕ) (old : SessionLists) (l : List ℕ) (before : List Entry) (new : SessionLists) (after : List Entry) (answer : List ℕ) : Type 0 where
+pub record IsAnsweredLine (budget : ℕ) (old : SessionLists) (l : List ℕ) (before : List Entry) (new : SessionLists)
+    (after : List Entry) (answer : List ℕ) : Type 0 where
   pub is_said : Said old.state l new.state answer
   pub logged : LogsAtMostOne old.state l before after
   pub shown : ShowsAnswer old.state l after
@@ -41,12 +42,16 @@ IsLineTold budget old l before new after None = RunsOut budget old.state l befor
 
 -- the same of each line that asks the text
 abbrev pub IsAskTold : ℕ → SessionLists → List ℕ → List Entry → SessionLists → List Entry → Option (List ℕ) → Type 0
-IsAskTold budget old text before new after found = (l : List ℕ) → request l ≡ asks text → IsLineTold budget old l before new after found
+IsAskTold budget old text before new after found = (l : List ℕ) → request l ≡ asks text
+    → IsLineTold budget old l before new after found
 
 abbrev pub AskLogsAtMostOne : State → List ℕ → List Entry → List Entry → Type 0
 AskLogsAtMostOne s text before after = (l : List ℕ) → request l ≡ asks text → LogsAtMostOne s l before after
 
 -- the same, where the answer was put after a text
-abbrev pub IsLineDone : ℕ → SessionLists → List ℕ → List Entry → List ℕ → SessionLists → List Entry → List ℕ → Outcome → Type 0
-IsLineDone budget old l before text new after longer Answered = (answer : List ℕ) × IsAnsweredLine budget old l before new after answer × (longer ≡ text ++ answer)
-IsLineDone budget old l before text new after longer Spent = RunsOut budget old.state l before after × (new.state ≡ old.state) × (longer ≡ text)
+abbrev pub IsLineDone : ℕ → SessionLists → List ℕ → List Entry → List ℕ → SessionLists → List Entry → List ℕ → Outcome
+    → Type 0
+IsLineDone budget old l before text new after longer Answered = (answer : List ℕ)
+    × IsAnsweredLine budget old l before new after answer × (longer ≡ text ++ answer)
+IsLineDone budget old l before text new after longer Spent = RunsOut budget old.state l before after
+    × (new.state ≡ old.state) × (longer ≡ text)

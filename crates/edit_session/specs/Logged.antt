@@ -31,4 +31,5 @@ pub record RunsOut (budget : ℕ) (s : State) (l : List ℕ) (before after : Lis
 
 -- whatever query the line asks, an entry of the log answers it for the live axioms: so the log alone shows each answer
 abbrev pub ShowsAnswer : State → List ℕ → List Entry → Type 0
-ShowsAnswer s l log = (text : List ℕ) (both : Listed) (q : Query) → request l ≡ asks text → IsQueryOn s.context s.ontology text both q → IsAnswered log (live_set s) q
+ShowsAnswer s l log = (text : List ℕ) (both : Listed) (q : Query) → request l ≡ asks text
+    → IsQueryOn s.context s.ontology text both q → IsAnswered log (live_set s) q

@@ -1,5 +1,6 @@
 -- Where the tests of a log stand that may answer a query again.
-use Rattle.std.specs.Prelude.{◌≡◌, ◌⊎◌, ℕ, ◌<◌, ◌≤◌, List, [], length, slice_get, slice_index_or, Option, Some, None, Contains}
+use Rattle.std.specs.Prelude.{◌≡◌, ◌⊎◌, ℕ, ◌<◌, ◌≤◌, List, [], length, slice_get, slice_index_or, Option, Some, None}
+use Rattle.std.specs.Prelude.{Contains}
 use Rattle.lane_sieve.specs.Sets.{NumberSet, IsPart}
 use Rattle.axiom_sets.specs.Sets.{Limited}
 use Rattle.shq_terms.specs.declared.axioms.Query.{Query}
@@ -26,11 +27,13 @@ IsOver live (Spent t) = Unit {0}
 -- each test among the first entries of the log is filed under the print of its query, or answers no more
 abbrev pub AreFiled : List (List ℕ) → NumberSet → ℕ → List Entry → Type 0
 AreFiled places live seen log = (place : ℕ) (s : Limited) (q : Query) (steps : ℕ) (e : TestEnd)
-    → place < seen → slice_get log place ≡ Some (Test s q steps e) → Contains (places_at places (query_print q)) place ⊎ IsOver live e
+    → place < seen → slice_get log place ≡ Some (Test s q steps e)
+    → Contains (places_at places (query_print q)) place ⊎ IsOver live e
 
 -- what is filed stays filed, whatever is live
 abbrev pub StaysFiled : NotedPlaces → NotedPlaces → List Entry → Type 0
-StaysFiled old new log = (live : NumberSet) → AreFiled old.places.items live old.seen log → AreFiled new.places.items live new.seen log
+StaysFiled old new log = (live : NumberSet) → AreFiled old.places.items live old.seen log
+    → AreFiled new.places.items live new.seen log
 
 -- the entry is filed by a place, if it is a test
 abbrev pub IsFiledAt : List (List ℕ) → Entry → ℕ → Type 0

@@ -1,7 +1,8 @@
--- The print of a query: a number below 4,093 that tells most queries apart, by which tests are filed. Equal queries have
--- equal prints.
+-- The print of a query: a number below 4,093 that tells most queries apart, by which tests are filed. Equal queries
+-- have equal prints.
 use Rattle.std.specs.Prelude.{ℕ, ◌+◌, ◌*◌, ◌%◌}
-use Rattle.shq_terms.specs.Concept.{Concept, top, bottom, name, complement, intersection, union, some_of, all_of, at_least, at_most, exactly, Parts, no_parts, part}
+use Rattle.shq_terms.specs.Concept.{Concept, top, bottom, name, complement, intersection, union, some_of, all_of}
+use Rattle.shq_terms.specs.Concept.{at_least, at_most, exactly, Parts, no_parts, part}
 use Rattle.shq_terms.specs.declared.axioms.On.{On}
 use Rattle.shq_terms.specs.declared.axioms.On.TheVariants.{Any, Individual}
 use Rattle.shq_terms.specs.declared.axioms.Query.{Query}

@@ -56,7 +56,8 @@ pub record IsAdded (old : State) (text : List ℕ) (new : State) (answer : List 
 
 -- A live axiom is live no more; a number that no live axiom has is refused.
 abbrev pub IsRemoved : Bool → State → ℕ → State → List ℕ → Type 0
-IsRemoved true old k new answer = (new ≡ record old { live = set.remove old.live k }) × (answer ≡ numbered_line (codes "removed") k)
+IsRemoved true old k new answer = (new ≡ record old { live = set.remove old.live k })
+    × (answer ≡ numbered_line (codes "removed") k)
 IsRemoved false old k new answer = (new ≡ old) × (answer ≡ bad_line)
 
 -- yes, with live axioms from which the query follows
@@ -82,13 +83,15 @@ pub record IsAnswered (old : State) (text : List ℕ) (new : State) (answer : Li
 
 -- what is said to the addition of a text, to the removal of a number, and to a query
 abbrev pub IsAddedOrRefused : State → List ℕ → State → List ℕ → Type 0
-IsAddedOrRefused old text new answer = IsAdded old text new answer ⊎ IsRefusedText old new answer (IsNoAdditionTo old.context old.ontology text)
+IsAddedOrRefused old text new answer = IsAdded old text new answer
+    ⊎ IsRefusedText old new answer (IsNoAdditionTo old.context old.ontology text)
 
 abbrev pub IsRemovedOrNot : State → ℕ → State → List ℕ → Type 0
 IsRemovedOrNot old k new answer = IsRemoved (set.contains old.live k) old k new answer
 
 abbrev pub IsAnsweredOrRefused : State → List ℕ → State → List ℕ → Type 0
-IsAnsweredOrRefused old text new answer = IsAnswered old text new answer ⊎ IsRefusedText old new answer (IsNoQueryOn old.context old.ontology text)
+IsAnsweredOrRefused old text new answer = IsAnswered old text new answer
+    ⊎ IsRefusedText old new answer (IsNoQueryOn old.context old.ontology text)
 
 abbrev pub SaidTo : State → Request → State → List ℕ → Type 0
 SaidTo old (adds text) new answer = IsAddedOrRefused old text new answer

@@ -1,5 +1,6 @@
 -- The lines of a script, and what each asks for.
-use Rattle.std.specs.Prelude.{ℕ, Bool, true, false, not, List, [], ◌∷◌, codes, Option, Some, None, nat_eq, if◌then◌else◌}
+use Rattle.std.specs.Prelude.{ℕ, Bool, true, false, not, List, [], ◌∷◌, codes, Option, Some, None, nat_eq}
+use Rattle.std.specs.Prelude.{if◌then◌else◌}
 use Rattle.std.specs.List.{filter, list_any, before_first, after_first}
 use Rattle.std.specs.Str.{bytes_eq, is_utf8}
 use Rattle.certificate_lines.specs.Lines.{is_blank, number_in}
@@ -8,8 +9,8 @@ use Rattle.certificate_lines.specs.Lines.{is_blank, number_in}
 abbrev pub script_lines : List (List ℕ) → List (List ℕ)
 script_lines ls = filter (λ l. not (is_blank l)) ls
 
--- a text is to be added as an axiom, the axiom of a number is to be removed, a text is asked as a query; or it is no line
--- of a script
+-- a text is to be added as an axiom, the axiom of a number is to be removed, a text is asked as a query; or it is no
+-- line of a script
 pub data Request : Type 0 where
   adds : List ℕ → Request
   removes : ℕ → Request

@@ -32,8 +32,8 @@ abbrev pub IsHonestThen : Listed → Entry → Type 0
 IsHonestThen o (Test s q steps e) = WasHonest o s q steps e
 IsHonestThen o (Node s) = ⊥
 
--- at most the budget was spent, each entry was honest when it was made, and no set was tested for which an earlier entry
--- answers. Sets of different limits are compared by their members.
+-- at most the budget was spent, each entry was honest when it was made, and no set was tested for which an earlier
+-- entry answers. Sets of different limits are compared by their members.
 pub record IsSessionLog (o : Listed) (budget : ℕ) (log : List Entry) : Type 0 where
   pub within : IsWithinBudget budget log
   pub honest : All (IsHonestThen o) log
@@ -42,8 +42,8 @@ pub record IsSessionLog (o : Listed) (budget : ℕ) (log : List Entry) : Type 0 
 
 -- ---- what a query logs
 
--- The log gained a test of the set and the query that was honest and that no earlier entry answers. Either it ran out of
--- steps, or it did not.
+-- The log gained a test of the set and the query that was honest and that no earlier entry answers. Either it ran out
+-- of steps, or it did not.
 pub record Tests (ran_out : Bool) (o : Listed) (s : Limited) (q : Query) (before after : List Entry) : Type 0 where
   pub steps : ℕ
   pub ended : TestEnd

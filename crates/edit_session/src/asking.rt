@@ -140,7 +140,8 @@ fn test_by(oracle: &mut Oracle<'_>, live: &AxiomSet, query: &Query) -> Result<Ou
     requires in_limit { IsInLimit oracle.old.ontology query.now }
     requires goes_on { list_any is_spent oracle.old.log ≡ false }
     requires new { ¬ IsAnswered oracle.old.log live.now query.now }
-    ensures decided { IfOk result (IsDecided oracle.old.ontology live.now query.now oracle.old.budget oracle.old.log oracle.new.log) }
+    ensures decided { IfOk result
+        (IsDecided oracle.old.ontology live.now query.now oracle.old.budget oracle.old.log oracle.new.log) }
     ensures longer { GrowsLog oracle.old.log oracle.new.log }
     ensures unlogged { OnErr result (oracle.new.log ≡ oracle.old.log) }
     ensures within { spent_of oracle.new.log ≤ oracle.old.budget }

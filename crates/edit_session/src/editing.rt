@@ -27,7 +27,9 @@ pub(crate) fn add(
     live: &mut AxiomSet,
 ) -> Result<Text, NoMemory>
     requires { IsHeld ontology.old live.old }
-    ensures added { IfOk result (λ answer. IsAddedOrRefused (state_of ontology.old context.old live.old.members) text.now (state_of ontology.new context.new live.new.members) (text_bytes answer)) }
+    ensures added { IfOk result
+        (λ answer. IsAddedOrRefused (state_of ontology.old context.old live.old.members) text.now
+        (state_of ontology.new context.new live.new.members) (text_bytes answer)) }
     ensures held { IsHeld ontology.new live.new }
     ensures more { HoldsMore ontology.old ontology.new }
 {
@@ -47,7 +49,8 @@ pub(crate) fn add(
 /// # Errors
 /// Memory may be refused.
 pub(crate) fn remove(alloc: Global, number: u32, live: &mut AxiomSet) -> Result<Text, NoMemory>
-    ensures removed { IfOk result (λ answer. IsRemovedFrom live.old.members number live.new.members (text_bytes answer)) }
+    ensures removed { IfOk result
+        (λ answer. IsRemovedFrom live.old.members number live.new.members (text_bytes answer)) }
     ensures limit { live.new.limit ≡ live.old.limit }
 {
     if is_live(live, number) {

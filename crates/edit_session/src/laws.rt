@@ -7,7 +7,7 @@ pub fn entries_stay_honest()
 {}
 
 /// A query is answered with no exactly where it does not follow from the live axioms alone, as a new run on them says;
-/// else it is answered with yes.
+/// where it does, with yes and some live axioms from which it follows.
 pub fn answers_are_from_scratch()
     ensures { AnswersAreFromScratch }
 {}

@@ -1,8 +1,11 @@
 // Which tests of a log may answer a query again.
-ghost use Rattle.std.specs.Prelude.{◌≡◌, ◌+◌, ◌<◌, ◌≤◌, ◌↔◌, [], ◌∷◌, ◌++◌, if◌then◌else◌, IfOk, IsTrue, OnOk, OnErr, length, option_map, Contains};
+ghost use Rattle.std.specs.Prelude.{◌≡◌, ◌+◌, ◌<◌, ◌≤◌, ◌↔◌, [], ◌∷◌, ◌++◌, if◌then◌else◌, IfOk, IsTrue, OnOk, OnErr};
+ghost use Rattle.std.specs.Prelude.{length, option_map, Contains};
 ghost use Rattle.run_log.specs.Entries.{EndAnswers};
 ghost use Rattle.edit_session.specs.Prints.{query_print};
-ghost use Rattle.edit_session.specs.Places.{places_at, AreFiled, StaysFiled, IsFiledAt, SamePlaces, KeepsPlaces, IsYesEnd, IsYesTo, IsYesAt, KeepsOthers, KeepsAllOthers, IsAnswerOf, IsFoundAt, IsFoundIn};
+ghost use Rattle.edit_session.specs.Places.{places_at, AreFiled, StaysFiled, IsFiledAt, SamePlaces, KeepsPlaces};
+ghost use Rattle.edit_session.specs.Places.{IsYesEnd, IsYesTo, IsYesAt, KeepsOthers, KeepsAllOthers, IsAnswerOf};
+ghost use Rattle.edit_session.specs.Places.{IsFoundAt, IsFoundIn};
 ghost use Rattle.edit_session.specs.Asking.{IsRecalled, outcome_of};
 
 use crate::inclusion::is_part;
@@ -87,7 +90,8 @@ impl NotedPlaces {
 
     // How the latest test ended that is filed and answers the query.
     fn find<'a>(&self, log: &'a [Entry], query: &Query, live: &AxiomSet) -> Option<&'a TestEnd>
-        ensures { IsFoundIn log.now live.now query.now (places_at self.now.places.items (query_print query.now)) (option_map (λ e. e.now) result) }
+        ensures { IsFoundIn log.now live.now query.now (places_at self.now.places.items (query_print query.now))
+            (option_map (λ e. e.now) result) }
     {
         let print = query_print(query) as usize;
         if print < self.places.len() {

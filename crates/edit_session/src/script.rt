@@ -1,9 +1,9 @@
 // Scripts.
-ghost use Rattle.std.specs.Prelude.{IfOk};
+ghost use Rattle.std.specs.Prelude.{◌≡◌, IfOk, OnErr};
 ghost use Rattle.certificate_lines.specs.Lines.{bytes_of};
 ghost use Rattle.edit_session.specs.SessionLog.{IsSessionLog};
-ghost use Rattle.edit_session.specs.Lines.{MayGoOn};
-ghost use Rattle.edit_session.specs.Scripts.{IsScriptWritten, IsSaidTo};
+ghost use Rattle.edit_session.specs.Lines.{MayGoOn, HoldsMore};
+ghost use Rattle.edit_session.specs.Scripts.{IsScriptWritten, IsToldAtFirst, IsSaidTo};
 
 use crate::{NoMemory, Said, Session};
 use certificate_lines::is_blank;
@@ -14,7 +14,8 @@ use run_log::RunLog;
 /// put is `undecided`.
 ///
 /// # Errors
-/// Memory may be refused. The session has ended then, and the log is honest all the same.
+/// Memory may be refused. The session has ended then; answers to the first lines were put, and no others, and the log
+/// is honest all the same.
 pub fn run_script(
     session: &mut Session,
     lines: &[&[u8]],
@@ -25,9 +26,16 @@ pub fn run_script(
     requires may_go_on { MayGoOn session.old budget log.old }
     requires honest { IsSessionLog session.old.state.ontology budget log.old }
 
-    // What is put is what is said to each line from the session on, up to the last or to one that could not be decided,
-    // and the log is honest.
-    ensures written { IfOk result (IsScriptWritten budget session.old.state log.old out.old.items (bytes_of lines.now) session.new.state log.new out.new.items) }
+    // What is put is what is said to each line from the session on, up to the last or to one that could not be decided;
+    // where memory is refused, to the first lines.
+    ensures written { IfOk result
+        (IsScriptWritten budget session.old.state log.old out.old.items (bytes_of lines.now) session.new.state log.new
+        out.new.items) }
+    ensures unfinished { OnErr result
+        (IsToldAtFirst session.old.state log.old out.old.items (bytes_of lines.now) out.new.items) }
+
+    // Whatever is answered, axioms were put last at most, and the log is honest.
+    ensures more { HoldsMore session.old.state.ontology session.new.state.ontology }
     ensures honest { IsSessionLog session.new.state.ontology budget log.new }
 {
     for line in lines {
@@ -52,7 +60,10 @@ fn say_to(
 ) -> Result<Said, NoMemory>
     requires may_go_on { MayGoOn session.old budget log.old }
     requires honest { IsSessionLog session.old.state.ontology budget log.old }
-    ensures said { IfOk result (IsSaidTo budget session.old line.now log.old out.old.items session.new log.new out.new.items) }
+    ensures said { IfOk result
+        (IsSaidTo budget session.old line.now log.old out.old.items session.new log.new out.new.items) }
+    ensures unwritten { OnErr result (out.new.items ≡ out.old.items) }
+    ensures more { HoldsMore session.old.state.ontology session.new.state.ontology }
     ensures honest { IsSessionLog session.new.state.ontology budget log.new }
 {
     if is_blank(line) {

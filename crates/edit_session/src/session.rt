@@ -27,8 +27,8 @@ use std::marker::Model;
 
 /// An ontology that is edited and asked, line by line.
 ///
-/// Contracts see the axioms that were ever held with the names that are listed, what texts are read with, the numbers of
-/// the live axioms, and what was noted of the log.
+/// Contracts see the axioms that were ever held with the names that are listed, what texts are read with, the numbers
+/// of the live axioms, and what was noted of the log.
 #[derive(Drop)]
 pub struct Session {
     alloc: Global,
@@ -87,8 +87,8 @@ impl Session {
     /// | any other | `bad line` |
     ///
     /// A text that is refused changes nothing, and the answer says why. A query is tested at most once, by at most the
-    /// steps that are left of the budget, where no earlier test of the log answers it. The log is that of the lines
-    /// before, if there were any.
+    /// steps that are left of the budget, where no earlier test of the log answers it. The log has to begin with the
+    /// entries that the session has seen, which are those of the lines before; a new session has seen none.
     ///
     /// # Errors
     /// Memory may be refused. The session has ended then, as after `Spent`, and the log is honest all the same.
@@ -101,9 +101,10 @@ impl Session {
     ) -> Result<Said, NoMemory>
         requires { MayGoOn self.old budget log.old }
 
-        // The answer that belongs to the line was put last, with the session and the log after it; or the query could not
-        // be decided.
-        ensures done { IfOk result (IsLineDone budget self.old line.now log.old out.old.items self.new log.new out.new.items) }
+        // The answer that belongs to the line was put last, with the session and the log after it; or the query could
+        // not be decided.
+        ensures done { IfOk result
+            (IsLineDone budget self.old line.now log.old out.old.items self.new log.new out.new.items) }
 
         // Whatever is answered, axioms were put last at most, and the budget is kept.
         ensures more { HoldsMore self.old.state.ontology self.new.state.ontology }
@@ -126,7 +127,8 @@ impl Session {
         log: &mut RunLog,
     ) -> Result<Option<Text>, NoMemory>
         requires { MayGoOn self.old budget log.old }
-        ensures told { IfOk result (λ found. IsLineTold budget self.old line.now log.old self.new log.new (option_map text_bytes found)) }
+        ensures told { IfOk result
+            (λ found. IsLineTold budget self.old line.now log.old self.new log.new (option_map text_bytes found)) }
         ensures more { HoldsMore self.old.state.ontology self.new.state.ontology }
         ensures within { spent_of log.new ≤ budget }
         ensures logged { OnErr result (LogsAtMostOne self.old.state line.now log.old log.new) }
@@ -140,7 +142,8 @@ impl Session {
     }
 
     fn add(&mut self, text: &str) -> Result<Text, NoMemory>
-        ensures added { IfOk result (λ answer. IsAddedOrRefused self.old.state text.now self.new.state (text_bytes answer)) }
+        ensures added { IfOk result
+            (λ answer. IsAddedOrRefused self.old.state text.now self.new.state (text_bytes answer)) }
         ensures noted { self.new.noted ≡ self.old.noted }
         ensures more { HoldsMore self.old.state.ontology self.new.state.ontology }
     {
@@ -154,7 +157,8 @@ impl Session {
     }
 
     fn remove(&mut self, number: u32) -> Result<Text, NoMemory>
-        ensures removed { IfOk result (λ answer. IsRemovedOrNot self.old.state number self.new.state (text_bytes answer)) }
+        ensures removed { IfOk result
+            (λ answer. IsRemovedOrNot self.old.state number self.new.state (text_bytes answer)) }
         ensures noted { self.new.noted ≡ self.old.noted }
         ensures same { self.new.state.ontology ≡ self.old.state.ontology }
     {
@@ -164,7 +168,8 @@ impl Session {
     // The answer to a query, if it could be decided.
     fn ask(&mut self, text: &str, budget: u32, log: &mut RunLog) -> Result<Option<Text>, NoMemory>
         requires { MayGoOn self.old budget log.old }
-        ensures told { IfOk result (λ found. IsAskTold budget self.old text.now log.old self.new log.new (option_map text_bytes found)) }
+        ensures told { IfOk result
+            (λ found. IsAskTold budget self.old text.now log.old self.new log.new (option_map text_bytes found)) }
         ensures same { self.new.state ≡ self.old.state }
         ensures within { spent_of log.new ≤ budget }
         ensures logged { OnErr result (AskLogsAtMostOne self.old.state text.now log.old log.new) }

@@ -9,6 +9,9 @@ returns-in-Ok-clause-held c =
     let new = c.read_axiom.new.ontology in
     let after = c.read_axiom.new.context in
     record {
-      limit = c.put.ensures.limit ∙ c.in_ok-more.ensures.limit ∙ ap (λ (n : ℕ). n + 1) c.axiom_count.ensures.count ∙ sym (addition_count kept o c.args.text.now new after c.in-Ok.number c.in-Ok.ensures.added);
-      in_limit = addition_in_limit kept o c.args.text.now new after c.in-Ok.number c.requires.in_limit c.in-Ok.ensures.added;
+      limit =
+          c.put.ensures.limit ∙ c.in_ok-more.ensures.limit ∙ ap (λ (n : ℕ). n + 1) c.axiom_count.ensures.count
+          ∙ sym (addition_count kept o c.args.text.now new after c.in-Ok.number c.in-Ok.ensures.added);
+      in_limit =
+          addition_in_limit kept o c.args.text.now new after c.in-Ok.number c.requires.in_limit c.in-Ok.ensures.added;
     }

@@ -9,5 +9,7 @@ returns c =
     let print = c.args.print in
     let log = c.args.log.now in
     let q = c.args.query.now in
-    let is : places_at lists print ≡ c.items.result.now = read_at lists print c.index.result.now c.requires c.index.ensures ∙ sym c.items.ensures in
-    others_set lists print c.requires c.in_ok-kept.kept log q (subst (λ (xs : List ℕ). KeepsOthers log q xs c.in_ok-kept.kept) (sym is) c.in_ok-kept.ensures)
+    let is : places_at lists print ≡ c.items.result.now =
+    read_at lists print c.index.result.now c.requires c.index.ensures ∙ sym c.items.ensures in
+    others_set lists print c.requires c.in_ok-kept.kept log q
+    (subst (λ (xs : List ℕ). KeepsOthers log q xs c.in_ok-kept.kept) (sym is) c.in_ok-kept.ensures)

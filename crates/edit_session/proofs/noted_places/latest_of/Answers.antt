@@ -11,8 +11,14 @@ loop-left-preserved c =
     let left = c.loop-left.left - 1 in
     record {
       within = omega (arith, c.loop-left.invariant.within);
-      none = none_back log s q places left (λ k low high. c.loop-left.invariant.none k (omega (arith, low, c.loop-left-test.true)) high) (none_here log s q (get_or places left 0) c.answer_at-found.result (sym c.is_some.ensures ∙ c.if-is_some.false) c.answer_at-found.ensures);
+      none =
+          none_back log s q places left
+          (λ k low high. c.loop-left.invariant.none k (omega (arith, low, c.loop-left-test.true)) high)
+          (none_here log s q (get_or places left 0) c.answer_at-found.result
+          (sym c.is_some.ensures ∙ c.if-is_some.false) c.answer_at-found.ensures);
     }
 
 pub returns : goal.returns
-returns c = none_in c.args.log.now c.args.live.now c.args.query.now c.args.places.now (λ k low high. c.loop-left.invariant.none k (omega (arith, low, c.loop-left-test.false)) high)
+returns c =
+    none_in c.args.log.now c.args.live.now c.args.query.now c.args.places.now
+    (λ k low high. c.loop-left.invariant.none k (omega (arith, low, c.loop-left-test.false)) high)

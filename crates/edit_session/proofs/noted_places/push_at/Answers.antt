@@ -11,7 +11,9 @@ returns-clause-keeps c =
     let old = c.index_mut-list.result.now in
     let new = c.push.new.self in
     keeps_set lists print c.requires new
-    (λ place there. pushed c.push.result old new c.args.place c.push.ensures.pushed c.push.ensures.unchanged place (subst (λ (xs : List ℕ). Contains xs place) (read_at lists print old c.requires c.index_mut-list.ensures.value) there))
+    (λ place there. pushed c.push.result old new c.args.place c.push.ensures.pushed c.push.ensures.unchanged place
+    (subst (λ (xs : List ℕ). Contains xs place) (read_at lists print old c.requires c.index_mut-list.ensures.value)
+    there))
 
 pub returns-clause-filed : goal.returns-clause-filed
 returns-clause-filed c =
@@ -19,4 +21,5 @@ returns-clause-filed c =
     let print = c.args.print in
     let old = c.index_mut-list.result.now in
     let new = c.push.new.self in
-    put_last c.push.result old new c.args.place (Contains (places_at (set lists print new) print) c.args.place) c.push.ensures.pushed (has_set lists print c.requires new c.args.place)
+    put_last c.push.result old new c.args.place (Contains (places_at (set lists print new) print) c.args.place)
+    c.push.ensures.pushed (has_set lists print c.requires new c.args.place)

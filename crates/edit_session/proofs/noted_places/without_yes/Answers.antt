@@ -6,7 +6,9 @@ pub loop-place-preserved : goal.loop-place-preserved
 loop-place-preserved c =
     let all = c.args.places.now in
     let i = c.loop-place.place-index in
-    others_next c.args.log.now c.args.query.now all c.loop-place.kept c.push_unless.new.kept i (get_or all i 0) c.is_yes_at.result refl c.loop-place-test.true c.loop-place.invariant c.is_yes_at.ensures c.in_ok-push_unless.ensures
+    others_next c.args.log.now c.args.query.now all c.loop-place.kept c.push_unless.new.kept i (get_or all i 0)
+    c.is_yes_at.result refl c.loop-place-test.true c.loop-place.invariant c.is_yes_at.ensures
+    c.in_ok-push_unless.ensures
 
 pub returns : goal.returns
 returns c =

@@ -11,4 +11,6 @@ abbrev pub decreases-with_parts : goal.decreases-with_parts
 decreases-with_parts l = 2 * depth_parts (parts_of l.concepts.now)
 
 abbrev pub invariant-with_parts-loop-concept : goal.invariant-with_parts-loop-concept
-invariant-with_parts-loop-concept l = with_parts l.all (parts_of (drop l.concept-index l.concepts)) ≡ with_parts (mixed l.fn.print l.fn.kind) (parts_of l.fn.concepts)
+invariant-with_parts-loop-concept l =
+    with_parts l.all (parts_of (drop l.concept-index l.concepts))
+    ≡ with_parts (mixed l.fn.print l.fn.kind) (parts_of l.fn.concepts)

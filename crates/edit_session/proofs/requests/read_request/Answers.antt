@@ -9,7 +9,8 @@ pub returns-in-Ok : goal.returns-in-Ok
 returns-in-Ok c =
     let line = c.args.line.now in
     c.split_request.ensures ∙ ap split_request c.in-Ok.ensures.cases.0
-    ∙ sym (ap (λ (b : Bool). if b then split_request line else other) (is_utf8-from_IsUtf8 line c.in-Ok.ensures.cases.1))
+    ∙ sym
+    (ap (λ (b : Bool). if b then split_request line else other) (is_utf8-from_IsUtf8 line c.in-Ok.ensures.cases.1))
 
 pub returns-in-Err : goal.returns-in-Err
 returns-in-Err c =

@@ -4,4 +4,6 @@ use Rattle.edit_session.specs.Scripts.{IsToldSoFar}
 use Rattle.edit_session.proofs.script.run_script.Given as goal
 
 abbrev pub invariant-loop-line : goal.invariant-loop-line
-invariant-loop-line l = IsToldSoFar l.budget l.fn.session.state l.fn.log l.fn.out.items (bytes_of (take l.line-index l.lines)) l.session l.log l.out.items
+invariant-loop-line l =
+    IsToldSoFar l.budget l.fn.session.state l.fn.log l.fn.out.items (bytes_of (take l.line-index l.lines)) l.session
+    l.log l.out.items

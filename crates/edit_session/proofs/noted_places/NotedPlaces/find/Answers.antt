@@ -13,5 +13,6 @@ returns-then-print-len c =
     let print = c.query_print-print.result in
     let lt : print < length lists = omega (arith, c.if-print-len.true, c.len.ensures, c.args.self.now.places.ok.0) in
     let is : places_at lists (query_print q) ≡ c.items.result.now =
-    ap (places_at lists) (sym c.query_print-print.ensures) ∙ read_at lists print c.index.result.now lt c.index.ensures ∙ sym c.items.ensures in
+    ap (places_at lists) (sym c.query_print-print.ensures) ∙ read_at lists print c.index.result.now lt c.index.ensures
+    ∙ sym c.items.ensures in
     subst (λ (xs : List ℕ). IsFoundIn log s q xs (end_of c.latest_of.result)) (sym is) c.latest_of.ensures

@@ -8,7 +8,10 @@ returns-in_ok-told_by-in-Some c =
     let log = c.args.log.now in
     let s = c.args.live.now in
     let q = c.args.query.now in
-    subst (IsTold log s q) (sym c.in_ok-told_by-in-Some.ensures) (told_among log s q c.in-Some.end.now c.in-Some.ensures)
+    subst (IsTold log s q) (sym c.in_ok-told_by-in-Some.ensures)
+    (told_among log s q c.in-Some.end.now c.in-Some.ensures)
 
 pub returns-in-None : goal.returns-in-None
-returns-in-None c = none_answers c.args.live.now.members c.args.log.now c.args.self.now.places.items c.args.live.now c.args.query.now refl c.requires c.in-None.ensures
+returns-in-None c =
+    none_answers c.args.live.now.members c.args.log.now c.args.self.now.places.items c.args.live.now c.args.query.now
+    refl c.requires c.in-None.ensures
