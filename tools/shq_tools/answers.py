@@ -59,6 +59,27 @@ class Taxonomy:
 
 
 @dataclass
+class Realization:
+    """Individuals, each with the names of its most specific classes; none stands for `owl:Thing`."""
+
+    types: list
+
+
+@dataclass
+class Instances:
+    """The individuals of a class expression."""
+
+    names: list
+
+
+@dataclass
+class Reasons:
+    """The individuals of a class expression, each with its justifications as a list of sets of axioms."""
+
+    instances: list
+
+
+@dataclass
 class Model:
     """A finite world: its verdict, how many things there are, the members of each class, the pairs of each role, and
     which thing each individual is.
@@ -121,17 +142,66 @@ def listed_axiom(line):
     return ListedAxiom(number, place, axiom_of(words[4], place, number))
 
 
+def numbers_in(line):
+    """The numbers of a set of axioms."""
+    return [] if line == "empty" else list(map(number_of, line.split(" ")))
+
+
+def listed_axioms(lines):
+    """The axioms below a list, by their numbers."""
+    return {it.number: it for it in map(listed_axiom, lines)}
+
+
+def is_whole(count, sets, axioms):
+    """Whether there are so many sets, of these axioms."""
+    return len(sets) == count and all(number in axioms for one in sets for number in one)
+
+
 def set_list(lines):
     """A list of justifications or repairs."""
     words = lines[0].split(" ")
-    is_partial = words[0] == "partial"
     kind, count = words[-2], number_of(words[-1])
-    sets = [[] if line == "empty" else list(map(number_of, line.split(" "))) for line in lines[1 : 1 + count]]
-    rest = [line for line in lines[1 + count :] if line != "undecided"]
-    axioms = {it.number: it for it in map(listed_axiom, rest)}
-    if len(sets) != count or any(number not in axioms for one in sets for number in one):
+    sets = list(map(numbers_in, lines[1 : 1 + count]))
+    axioms = listed_axioms(line for line in lines[1 + count :] if line != "undecided")
+    if not is_whole(count, sets, axioms):
         raise Unread("the list is not whole")
-    return SetList(kind, is_partial, sets, axioms)
+    return SetList(kind, words[0] == "partial", sets, axioms)
+
+
+def reasons(lines):
+    """Why individuals are in a class expression."""
+    heads = [at for at, line in enumerate(lines) if line.startswith("instance ")]
+    counts = [number_of(lines[at].split(" ")[3]) for at in heads]
+    ends = [at + 1 + count for at, count in zip(heads, counts)]
+    axioms = listed_axioms(lines[ends[-1] :])
+    if heads[1:] != ends[:-1] or any(lines[at].split(" ")[2:3] != ["justifications"] for at in heads):
+        raise Unread("the reasons are not whole")
+    found = []
+    for at, count, end in zip(heads, counts, ends):
+        sets = list(map(numbers_in, lines[at + 1 : end]))
+        if not is_whole(count, sets, axioms):
+            raise Unread("the reasons are not whole")
+        found.append((iri_of(lines[at].split(" ")[1]), SetList("justifications", False, sets, axioms)))
+    return Reasons(found)
+
+
+def instances(lines):
+    names = list(map(iri_of, lines[1:]))
+    if len(names) != number_of(lines[0].removeprefix("instances ")):
+        raise Unread("the list is not whole")
+    return Instances(names)
+
+
+def types(line):
+    """An individual and its most specific classes."""
+    words = line.split(" ")
+    if words[0] != "individual" or words[2] != "types":
+        raise Unread(f"no line of an individual: {line}")
+    return iri_of(words[1]), [iri_of(word) for word in words[3:] if word != "owl:Thing"]
+
+
+def realization(lines):
+    return Realization(list(map(types, lines[1:])))
 
 
 def group(line):
@@ -216,8 +286,14 @@ def is_list(line):
 def reader_for(lines):
     """The call that reads an answer with these lines."""
     second = lines[1] if len(lines) > 1 else ""
+    if lines[0] == "consistent" and (not second or second.startswith("individual ")):
+        return realization
     if lines[0] in ("consistent", "inconsistent"):
         return taxonomy
+    if lines[0].startswith("instances "):
+        return instances
+    if lines[0].startswith("instance "):
+        return reasons
     if is_list(lines[0]):
         return set_list
     if lines[0] in MODEL_VERDICTS and second.startswith("model "):

@@ -43,9 +43,13 @@ JOBS = {
     "entails": Job(("AXIOM",)),
     "sat": Job(("CLASS",)),
     "classify": Job(()),
+    "realize": Job(()),
+    "instances": Job(("CLASS",)),
+    "why": Job(("CLASS",)),
     "explain": Job(("AXIOM",)),
     "repair": Job(("AXIOM",)),
     "evidence": Job(("AXIOM",)),
+    "session": Job(()),
     "workload": Job(("N",), has_input=False),
 }
 USAGE = f"usage: ./shq {'|'.join(JOBS)}|profile|cut|read ..  (./shq --help says more)"

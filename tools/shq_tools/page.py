@@ -1,7 +1,7 @@
 """An answer as one page of HTML that needs nothing else."""
 from html import escape
 
-from shq_tools.answers import Model, Plain, Refutation, SetList
+from shq_tools.answers import Instances, Model, Plain, Realization, Reasons, Refutation, SetList
 from shq_tools.drawing import drawn, graph_of
 from shq_tools.story import all_steps
 from shq_tools.trees_of_classes import SHOWN_BEFORE, forest, in_order
@@ -47,6 +47,22 @@ def list_body(reading):
         if one:
             parts += [element("h2", set_heading(answer, number)), "<ol>"]
             parts += [axiom_item(reading, answer.axioms[it].axiom) for it in one] + ["</ol>"]
+    return parts
+
+
+def realization_body(reading):
+    rows = [f"<tr>{element('td', one)}{element('td', classes)}</tr>" for one, classes in reading.types()]
+    return ["<table><tr><th>individual</th><th>is</th></tr>", *rows, "</table>"] if rows else []
+
+
+def instances_body(reading):
+    return ["<ul>", *(element("li", reading.names.of(it)) for it in reading.answer.names), "</ul>"]
+
+
+def reasons_body(reading):
+    parts = []
+    for title, axioms in reading.reasons():
+        parts += [element("h2", title), "<ol>", *(element("li", it) for it in axioms), "</ol>"]
     return parts
 
 
@@ -132,6 +148,12 @@ def body_of(reading):
         return [element("p", it) for it in plain_lines(answer)[1:]]
     if isinstance(answer, SetList):
         return list_body(reading)
+    if isinstance(answer, Realization):
+        return realization_body(reading)
+    if isinstance(answer, Instances):
+        return instances_body(reading)
+    if isinstance(answer, Reasons):
+        return reasons_body(reading)
     if isinstance(answer, Model):
         return model_body(reading)
     if isinstance(answer, Refutation):

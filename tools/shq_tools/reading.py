@@ -6,7 +6,7 @@ from shq_tools.manchester import axiom_text, class_text, name_text
 from shq_tools.names import Names
 from shq_tools.story import Story, all_told, list_text, story_of
 from shq_tools.terms import BOTTOM, TOP, RoleBox
-from shq_tools.wording import VERDICTS, heading
+from shq_tools.wording import VERDICTS, heading, reason_heading
 from shq_tools.worlds import World, called
 
 OTHER_AXIOMS = "the axioms of the file for --labels are not those of this refutation, so they are not told"
@@ -37,6 +37,20 @@ class Reading:
     def axiom_line(self, axiom):
         """An axiom with its number and its line."""
         return f"axiom {axiom.number}, line {axiom.line}: {axiom_text(axiom, self.names)}"
+
+    def types(self):
+        """Each individual of a realization by its name, with the names of its most specific classes."""
+        found = [(self.names.of(one), list(map(self.names.of, classes))) for one, classes in self.answer.types]
+        return [(one, ", ".join(classes) or "in no named class") for one, classes in found]
+
+    def reasons(self):
+        """What comes before each reason why an individual is in a class expression, and the axioms of the reason."""
+        told = []
+        for one, found in self.answer.instances:
+            for number, numbers in enumerate(found.sets, 1):
+                lines = [self.axiom_line(found.axioms[it].axiom) for it in numbers]
+                told.append((reason_heading(self.names.of(one), number, numbers), lines))
+        return told
 
     def heading(self):
         if self.query is None or not isinstance(self.answer, (Model, Refutation)):

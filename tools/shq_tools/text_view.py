@@ -1,5 +1,5 @@
 """An answer as plain text for people."""
-from shq_tools.answers import Model, Plain, Refutation, SetList
+from shq_tools.answers import Instances, Model, Plain, Realization, Reasons, Refutation, SetList
 from shq_tools.trees_of_classes import SHOWN_BEFORE, forest, in_order
 from shq_tools.wording import ending, left_out_text, plain_lines, set_heading
 from shq_tools.worlds import things
@@ -15,6 +15,25 @@ def list_lines(reading):
             continue
         lines += ["", set_heading(answer, number)]
         lines += [f"{INDENT}{at}. {reading.axiom_line(answer.axioms[it].axiom)}" for at, it in enumerate(one, 1)]
+    return lines
+
+
+def realization_lines(reading):
+    """Each individual and its most specific classes."""
+    return ["", *(f"{INDENT}{one}: {classes}" for one, classes in reading.types())] if reading.answer.types else []
+
+
+def instance_lines(reading):
+    """The individuals of a class expression."""
+    names = [INDENT + reading.names.of(it) for it in reading.answer.names]
+    return ["", *names] if names else []
+
+
+def reason_lines(reading):
+    """Why each individual is in a class expression."""
+    lines = []
+    for title, axioms in reading.reasons():
+        lines += ["", title, *(f"{INDENT}{at}. {it}" for at, it in enumerate(axioms, 1))]
     return lines
 
 
@@ -82,6 +101,12 @@ def lines_of(reading):
     tells = taxonomy_lines
     if isinstance(answer, SetList):
         tells = list_lines
+    elif isinstance(answer, Realization):
+        tells = realization_lines
+    elif isinstance(answer, Instances):
+        tells = instance_lines
+    elif isinstance(answer, Reasons):
+        tells = reason_lines
     elif isinstance(answer, Model):
         tells = model_lines
     elif isinstance(answer, Refutation):

@@ -1,5 +1,5 @@
 """What an answer says, in a sentence."""
-from shq_tools.answers import Model, Plain, Refutation, SetList, Taxonomy
+from shq_tools.answers import Instances, Model, Plain, Realization, Reasons, Refutation, SetList, Taxonomy
 
 BAD_TEXT = {
     "utf8": "a byte that is not part of UTF-8",
@@ -83,6 +83,18 @@ def set_heading(answer, number):
     return f"Repair {number}: remove"
 
 
+def members_text(count):
+    """How many individuals are in the class expression that was asked about."""
+    if not count:
+        return "No individual is in the class."
+    return f"{counted(count, 'individual')} {'is' if count == 1 else 'are'} in the class:"
+
+
+def reason_heading(name, number, one):
+    """What comes before a reason why an individual is in a class expression."""
+    return f"{name}, reason {number}" if one else f"{name}, by no axiom at all"
+
+
 def heading(answer):
     """The sentence that an answer begins with."""
     if isinstance(answer, Plain):
@@ -91,6 +103,12 @@ def heading(answer):
         return list_heading(answer)
     if isinstance(answer, Taxonomy):
         return CONSISTENT if answer.is_consistent else CONTRADICTORY
+    if isinstance(answer, Realization):
+        return CONSISTENT
+    if isinstance(answer, Instances):
+        return members_text(len(answer.names))
+    if isinstance(answer, Reasons):
+        return members_text(len(answer.instances))
     return VERDICTS[answer.verdict]
 
 

@@ -6,7 +6,8 @@ import unittest
 from contextlib import redirect_stderr, redirect_stdout
 from html.parser import HTMLParser
 
-from shq_tools.answers import Model, Plain, Refutation, SetList, Taxonomy, Unread, answer
+from shq_tools.answers import Instances, Model, Plain, Realization, Reasons, Refutation, SetList, Taxonomy, Unread
+from shq_tools.answers import answer
 from shq_tools.drawing import quoted, wrapped
 from shq_tools.manchester import axiom_text, class_text
 from shq_tools.names import Names, labels_in
@@ -43,6 +44,32 @@ class <http://e.org/B> 0 1
 role <http://e.org/r> 0,1 1,1
 end
 """
+REALIZATION = """consistent
+individual <http://e.org/x> types <http://e.org/A> <http://e.org/B>
+individual <http://e.org/z> types owl:Thing
+"""
+REASONS = """instance <http://e.org/x> justifications 2
+1 2
+3
+instance <http://e.org/y> justifications 1
+empty
+axiom 1 line 3 SubClassOf(<http://e.org/A> <http://e.org/B>)
+axiom 2 line 4 ClassAssertion(<http://e.org/A> <http://e.org/x>)
+axiom 3 line 5 ClassAssertion(<http://e.org/B> <http://e.org/x>)
+"""
+REASONS_TOLD = """2 individuals are in the class:
+
+x, reason 1
+  1. axiom 1, line 3: A SubClassOf B
+  2. axiom 2, line 4: x Type A
+
+x, reason 2
+  1. axiom 3, line 5: x Type B
+
+y, by no axiom at all
+"""
+INSTANCES = "instances 2\n<http://e.org/x>\n<http://e.org/y>\n"
+SCRIPTED = "axiom 3\nyes 1 3\nbad text prefix query\nbad line\nno\n"
 SPENT = "The steps that were allowed are spent. 0 reasons found so far; there may be more."
 # A refutation with cases: axioms 1 to 3 of CASES_ONTOLOGY say that A is B or C, that B is D, and that C is D.
 CASES_ONTOLOGY = b"""Prefix(:=<http://e.org/>)
@@ -164,6 +191,8 @@ def page_text(page):
 class Answers(unittest.TestCase):
     def test_kinds(self):
         kinds = {LISTS: SetList, TAXONOMY: Taxonomy, MODEL: Model, HEART: Refutation, "undecided\n": Plain}
+        kinds |= {REALIZATION: Realization, "consistent\n": Realization, REASONS: Reasons, SCRIPTED: Plain}
+        kinds |= {INSTANCES: Instances, "instances 0\n": Instances}
         kinds |= {"inconsistent\n": Taxonomy, "repairs 1\nempty\n": SetList, "bad words\n": Plain}
         for text, kind in kinds.items():
             with self.subTest(text=text[:30]):
@@ -179,6 +208,8 @@ class Answers(unittest.TestCase):
         damaged = ["", LISTS[:-60], LISTS.replace("2 3\n", "2 x\n")]
         damaged += [MODEL.replace("end\n", ""), HEART.replace("end", "")]
         damaged += [TAXONOMY.replace("class <http://e.org/C>", "<http://e.org/C>"), MODEL.replace("model 2", "model")]
+        damaged += [INSTANCES.replace("2", "3"), REALIZATION.replace("types <", "<"), REASONS.replace("1 2\n", "1 4\n")]
+        damaged += [REASONS.replace("justifications 2", "justifications 1"), REASONS.replace("empty\n", "")]
         for text in damaged:
             with self.subTest(text=text[:40]):
                 with self.assertRaises(Unread):
@@ -336,6 +367,24 @@ class Shown(unittest.TestCase):
         self.assertEqual(lines[2:4], ["Contradictory, so without any member:", "  N"])
         self.assertEqual(lines[5:-2], tree)
 
+    def test_individuals(self):
+        cases = {
+            REALIZATION: ("The ontology is consistent.\n\n  x: A, B\n  z: in no named class\n", "<td>A, B</td>"),
+            "consistent\n": ("The ontology is consistent.\n", "consistent."),
+            INSTANCES: ("2 individuals are in the class:\n\n  x\n  y\n", "<li>y</li>"),
+            "instances 0\n": ("No individual is in the class.\n", "No individual"),
+            REASONS: (REASONS_TOLD, "<h2>x, reason 2</h2>\n<ol>\n<li>axiom 3, line 5: x Type B</li>"),
+        }
+        for text, (said, part) in cases.items():
+            with self.subTest(text=text[:30]):
+                self.assertEqual(shown(text), (said, "", 0))
+                self.assertIn(part, shown(text, b"", "--html")[0])
+                self.assertEqual(shown(text, b"", "--dot")[2], 2)
+
+    def test_scripts(self):
+        lines = ["axiom 3", "yes 1 3", "The statement is damaged: a prefix that is not declared.", "bad line", "no"]
+        self.assertEqual(shown(SCRIPTED)[0].splitlines(), lines)
+
     def test_long_chains(self):
         chain = "".join(f"class <c{i}> under <c{i - 1}>\n" for i in range(1, 3000))
         text = "consistent\nnothing\nthing\nclass <c0> under owl:Thing\n" + chain
@@ -440,7 +489,8 @@ class Pictures(unittest.TestCase):
         self.assertIn("label=\"thing 0 is C\"", cases)
 
     def test_pages_are_whole(self):
-        for text in (LISTS, TAXONOMY, MODEL, HEART, CASES, NUMBERS, "undecided\n", "inconsistent\n", "repairs 0\n"):
+        texts = [LISTS, TAXONOMY, MODEL, HEART, CASES, NUMBERS, REALIZATION, REASONS, INSTANCES, SCRIPTED]
+        for text in (*texts, "undecided\n", "inconsistent\n", "repairs 0\n", "consistent\n", "instances 0\n"):
             for labels in (b"", ANATOMY, CASES_ONTOLOGY):
                 with self.subTest(text=text[:20]):
                     self.assertTrue(page_text(shown(text, labels, "--html")[0]).strip())
@@ -470,6 +520,20 @@ class WithProgram(unittest.TestCase):
                 with self.subTest(words=words, how=how):
                     found, complaint, status = shown(said, ANATOMY, *how)
                     self.assertEqual((complaint, status), ("", 0))
+                    self.assertTrue(found)
+
+    def test_answers_on_individuals(self):
+        ward = (EXAMPLES / "ward" / "ontology.ofn").read_bytes()
+        scripted = ward + (EXAMPLES / "ward" / "script.txt").read_bytes()
+        cases = [(["realize"], ward), (["realize"], ward.replace(b"DifferentIndividuals", b"SameIndividual")), (["session"], scripted)]
+        cases += [([job, of], ward) for job in ("instances", "why") for of in (":MrRoom", "owl:Thing")]
+        for words, data in cases:
+            said, status = run_program(words, data)
+            self.assertEqual(status, 0)
+            for how in ([], ["--html"]):
+                with self.subTest(words=words, how=how):
+                    found, complaint, ended = shown(said, ward, *how)
+                    self.assertEqual((complaint, ended), ("", 0))
                     self.assertTrue(found)
 
     def test_refutations_are_told_whole(self):

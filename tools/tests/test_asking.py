@@ -48,6 +48,10 @@ class Words(unittest.TestCase):
             "check X f.txt": ("check X", "f.txt"),
             "audit X f.txt": ("audit X", "f.txt"),
             "evidence X budget 5 f.ofn": ("evidence X budget 5", "f.ofn"),
+            "realize f.ofn": ("realize", "f.ofn"),
+            "instances :A f.ofn": ("instances :A", "f.ofn"),
+            "why :A budget 5 f.ofn": ("why :A budget 5", "f.ofn"),
+            "session --budget 5 f.txt": ("session budget 5", "f.txt"),
             "classify --help": ("classify --help", None),
             "workload 5 f.ofn": ("workload 5 f.ofn", None),
             "other word": ("other word", None),
@@ -63,8 +67,10 @@ class Words(unittest.TestCase):
         self.assertEqual(asking.usage_for(("check",)), "usage: ./shq check AXIOM [FILE]")
         self.assertEqual(asking.usage_for(("classify", "a", "b")), "usage: ./shq classify [budget STEPS] [FILE]")
         self.assertEqual(asking.usage_for(("workload",)), "usage: ./shq workload N [budget STEPS]")
+        self.assertEqual(asking.usage_for(("why",)), "usage: ./shq why CLASS [budget STEPS] [FILE]")
+        self.assertEqual(asking.usage_for(("session", "a")), "usage: ./shq session [budget STEPS] [FILE]")
         for words in ((), ("clasify",)):
-            self.assertIn("classify|explain", asking.usage_for(words))
+            self.assertIn("classify|realize|instances|why|explain", asking.usage_for(words))
 
     def test_hints_on_undecided(self):
         def hint(given):
@@ -73,6 +79,7 @@ class Words(unittest.TestCase):
         self.assertIn("1,000,000 steps", hint(["classify"]))
         self.assertIn("./shq classify --budget 10000000 < FILE", hint(["classify"]))
         self.assertIn("./shq sat :A --budget 50 f.ofn", hint(["sat", ":A", "--budget", "5", "f.ofn"]))
+        self.assertIn("./shq session --budget 10000000 < FILE", hint(["session"]))
         most = hint(["explain", "SubClassOf(:A :B)", "budget", "4294967294"])
         self.assertIn("./shq explain 'SubClassOf(:A :B)' --budget 4294967295 < FILE", most)
         self.assertIn("no more can be allowed", hint(["classify", "budget", "4294967295"]))

@@ -1,4 +1,6 @@
-"""The lists that the cases of `job_cases` have of documents with facts, against all small interpretations."""
+"""The lists that the cases of `job_cases` have of documents with facts, and what they have of individuals, against all
+small interpretations.
+"""
 import re
 import unittest
 from itertools import combinations, product
@@ -6,7 +8,7 @@ from itertools import combinations, product
 from shq_tools.documents import document, ontology_of
 from shq_tools.places import TOP as REPOSITORY
 from shq_tools.reading_answers import query_of
-from shq_tools.terms import inner_classes
+from shq_tools.terms import BOTTOM, TOP, inner_classes
 
 CASES = REPOSITORY / "crates" / "job_cases"
 # No interpretation has more elements.
@@ -34,6 +36,35 @@ def told(kind, number):
             sets = [it for it in rest if not it.startswith("axiom ")]
             return [() if it == "empty" else tuple(map(int, it.split())) for it in sets]
     raise LookupError(number)
+
+
+def cases(job):
+    """The axioms, the text of the class, and the lines of the answer, of each numbered case of such a name."""
+    blocks, answers = {}, {}
+    for line in (CASES / "stdout").read_text("utf-8").splitlines():
+        name, _, said = line.partition(": Done; ")
+        answers[name] = said.removesuffix(" (unended)").split(" | ")
+    text = re.sub(r"(?m)^#.*\n", "", (CASES / "stdin").read_text("utf-8"))
+    for block in re.split(r"\n\n+", text.strip()):
+        first, *lines = block.splitlines()
+        name = first.partition(" ")[2]
+        if lines and lines[0].startswith("like "):
+            lines = blocks[lines[0].removeprefix("like ")] + lines[1:]
+        blocks[name] = lines
+        if re.fullmatch(rf"case {job} \d+", first):
+            asked = [it.split(" ", 2)[2:] for it in lines if it.startswith("ask ")]
+            axioms = [it.removeprefix("axioms ") for it in lines if it.startswith("axioms ")]
+            yield "\n".join(axioms), "".join(asked[-1]), answers[name]
+
+
+def read_axioms(axioms):
+    return document(f"Prefix(:=<http://e.org/>)\nOntology(\n{axioms}\n)\n".encode("utf-8"))
+
+
+def read_question(axioms, of):
+    """The axioms, the individuals, and the class expression of a question."""
+    read = read_axioms(axioms)
+    return *ontology_of(read), query_of(of, read.prefixes)[0]
 
 
 def count_of(bits):
@@ -208,10 +239,105 @@ class SmallWorlds(unittest.TestCase):
         self.assertEqual(len(found), 30)
         for number, (axioms, statement) in found.items():
             with self.subTest(number=number, statement=statement):
-                read = document(f"Prefix(:=<http://e.org/>)\nOntology(\n{axioms}\n)\n".encode("utf-8"))
+                read = read_axioms(axioms)
                 query = query_of(statement, read.prefixes)
                 listed, individuals = ontology_of(read)
                 asked = [query[2]] if query[2] is not None and query[2] not in individuals else []
                 reasons, repairs = lists_of(listed, query, individuals + asked)
                 self.assertEqual(reasons, told("reasons", number))
                 self.assertEqual(repairs, told("repairs", number))
+
+
+class Refuted(Outcomes):
+    """Which of some queries, as bits, an interpretation refutes that meets all axioms."""
+
+    def __init__(self, world, axioms, queries):
+        tests = [(names_of(it), lambda world, it=it: world.meets(it)) for it in axioms]
+        tests += [(names_in(it[0]) | names_in(it[1]), lambda world, it=it: world.refutes(it)) for it in queries]
+        self.is_axiom = [at < len(axioms) for at in range(len(tests))]
+        super().__init__(world, tests)
+
+    def outcomes(self, depth=0):
+        if not all(self.tests[at][1](self.world) for at in self.due[depth] if self.is_axiom[at]):
+            return set()
+        return super().outcomes(depth)
+
+
+def following(axioms, queries, individuals):
+    """Those of some queries that follow from all axioms, by all small interpretations."""
+    refuted = 0
+    for size in range(1, MOST_ELEMENTS + 1):
+        for placing in placings(individuals, size):
+            for bits in Refuted(World(size, placing), axioms, queries).outcomes():
+                refuted |= bits >> len(axioms)
+    return {it for at, it in enumerate(queries) if not refuted >> at & 1}
+
+
+class Individuals(unittest.TestCase):
+    def test_instances(self):
+        found = list(cases("instances"))
+        self.assertEqual(len(found), 7)
+        for axioms, of, told in found:
+            with self.subTest(axioms=axioms, of=of):
+                listed, individuals, sup = read_question(axioms, of)
+                found = following(listed, [(TOP, sup, it) for it in individuals], individuals)
+                members = [f"<{it}>" for it in individuals if (TOP, sup, it) in found]
+                self.assertEqual(told, [f"instances {len(members)}", *members])
+
+    def test_reasons(self):
+        found = list(cases("why"))
+        self.assertEqual(len(found), 8)
+        for axioms, of, told in found:
+            with self.subTest(axioms=axioms, of=of):
+                listed, individuals, sup = read_question(axioms, of)
+                lines = []
+                for it in individuals:
+                    reasons, _ = lists_of(listed, (TOP, sup, it), individuals)
+                    lines += [f"instance <{it}> justifications {len(reasons)}"] * bool(reasons)
+                    lines += [" ".join(map(str, one)) or "empty" for one in reasons]
+                self.assertEqual([it for it in told if it and not it.startswith("axiom ")], lines)
+
+    def test_types(self):
+        found = list(cases("types"))
+        self.assertEqual(len(found), 8)
+        for axioms, _, told in found:
+            with self.subTest(axioms=axioms):
+                listed, individuals = ontology_of(read_axioms(axioms))
+                self.assertEqual(told, Types(axioms, listed, individuals).lines())
+
+
+class Types:
+    """The direct types of individuals, by all small interpretations."""
+
+    def __init__(self, text, axioms, individuals):
+        self.individuals = individuals
+        names = {name for it in axioms for kind, name in names_of(it) if kind == "class"}
+        self.classes = sorted(names, key=lambda name: text.index(":" + name.rpartition("/")[2]))
+        of = [("name", it) for it in self.classes]
+        queries = [(sub, sup, None) for sub in (TOP, *of) for sup in (*of, BOTTOM)]
+        queries += [(TOP, sup, it) for sup in of for it in individuals]
+        self.following = following(axioms, queries, individuals)
+
+    def is_below(self, one, other):
+        return (("name", one), ("name", other), None) in self.following
+
+    def types(self, individual):
+        """The first names of the groups of classes that the individual is in, without those of all things."""
+        found = []
+        for name in self.classes:
+            of = ("name", name)
+            if (TOP, of, None) in self.following or (TOP, of, individual) not in self.following:
+                continue
+            if not any(self.is_below(name, it) and self.is_below(it, name) for it in found):
+                found.append(name)
+        return found
+
+    def lines(self):
+        if (TOP, BOTTOM, None) in self.following:
+            return ["inconsistent"]
+        lines = ["consistent"]
+        for individual in self.individuals:
+            types = self.types(individual)
+            direct = [f"<{it}>" for it in types if not any(it != one and self.is_below(one, it) for one in types)]
+            lines.append(f"individual <{individual}> types {' '.join(direct) or 'owl:Thing'}")
+        return lines

@@ -17,7 +17,7 @@
 //! | `more N TEXT` | the last line goes on with N times this text, which may begin with a blank |
 //! | `blanks N` | blanks stand behind the document, up to N bytes |
 //! | `empty` | the document is given whole, and has no line so far |
-//! | `certificate TEXT` | a line of the certificate, which stands behind the document |
+//! | `certificate TEXT` | a line of the certificate, audit or script, which stands behind the document |
 //! | `change N TEXT` | line N of the certificate is this one |
 //! | `insert N TEXT` | before line N of the certificate stands this one |
 //! | `drop N` | the certificate lacks line N |

@@ -2,7 +2,8 @@
 use Rattle.std.proofs.Common.{◌≡◌, ℕ, refl, ap, sym, ◌∙◌}
 use Rattle.std.specs.Prelude.{nat_eq, if◌then◌else◌}
 use Rattle.ontology_jobs.specs.Status.{Status}
-use Rattle.ontology_jobs.specs.Status.TheVariants.{Done, Rejected, BadWords, BadText, Outside, Limit, ReadFault, WriteFault, Undecided, NoMemory}
+use Rattle.ontology_jobs.specs.Status.TheVariants.{Done, Rejected, BadWords, BadText, Outside, Limit, ReadFault}
+use Rattle.ontology_jobs.specs.Status.TheVariants.{WriteFault, Undecided, NoMemory}
 use Rattle.ontology_cli.specs.Exit.{exit_number}
 
 -- the status of a number

@@ -1,7 +1,8 @@
 -- The number with which the program ends, and what it says of the run.
 use Rattle.std.specs.Prelude.{◌≡◌, ℕ, List, Option}
 use Rattle.ontology_jobs.specs.Status.{Status}
-use Rattle.ontology_jobs.specs.Status.TheVariants.{Done, Rejected, BadWords, BadText, Outside, Limit, ReadFault, WriteFault, Undecided, NoMemory}
+use Rattle.ontology_jobs.specs.Status.TheVariants.{Done, Rejected, BadWords, BadText, Outside, Limit, ReadFault}
+use Rattle.ontology_jobs.specs.Status.TheVariants.{WriteFault, Undecided, NoMemory}
 use Rattle.ontology_jobs.specs.Entry.{Entry}
 use Rattle.ontology_jobs.specs.Words.{request_of}
 use Rattle.ontology_jobs.specs.Answers.{AnsweredAll, Leaves}

@@ -23,7 +23,8 @@ pub(crate) fn program<S: Source, K: Sink>(
     sink: &mut K,
 ) -> ExitCode
     ensures ends { IfOk words
-        (λ w. EndsBy (S.left source.old) (S.left source.new) (K.taken sink.old) (K.taken sink.new) (texts_of w.items) (exit_status result)) }
+        (λ w. EndsBy (S.left source.old) (S.left source.new) (K.taken sink.old) (K.taken sink.new) (texts_of w.items)
+        (exit_status result)) }
     ensures read_fault { exit_status result ≡ exit_number ReadFault → Rose (S.faults source.old) (S.faults source.new) }
     ensures write_fault { exit_status result ≡ exit_number WriteFault → Rose (K.faults sink.old) (K.faults sink.new) }
     ensures idle { IfOk words (λ w. ReadsNothing (request_of (texts_of w.items)) → source.new ≡ source.old) }
@@ -44,7 +45,8 @@ fn end_of<S: Source, K: Sink>(
     source: &mut S,
     sink: &mut K,
 ) -> ExitCode
-    ensures ends { EndsBy (S.left source.old) (S.left source.new) (K.taken sink.old) (K.taken sink.new) (texts_of words.now) (exit_status result) }
+    ensures ends { EndsBy (S.left source.old) (S.left source.new) (K.taken sink.old) (K.taken sink.new)
+        (texts_of words.now) (exit_status result) }
     ensures read_fault { exit_status result ≡ exit_number ReadFault → Rose (S.faults source.old) (S.faults source.new) }
     ensures write_fault { exit_status result ≡ exit_number WriteFault → Rose (K.faults sink.old) (K.faults sink.new) }
     ensures idle { ReadsNothing (request_of (texts_of words.now)) → source.new ≡ source.old }
@@ -60,7 +62,8 @@ fn run_words<S: Source, K: Sink>(
     source: &mut S,
     sink: &mut K,
 ) -> Status
-    ensures ended { HasEnded (S.left source.old) (S.left source.new) (K.taken sink.old) (K.taken sink.new) (texts_of words.now) result }
+    ensures ended { HasEnded (S.left source.old) (S.left source.new) (K.taken sink.old) (K.taken sink.new)
+        (texts_of words.now) result }
     ensures read_fault { result ≡ ReadFault → Rose (S.faults source.old) (S.faults source.new) }
     ensures write_fault { result ≡ WriteFault → Rose (K.faults sink.old) (K.faults sink.new) }
     ensures idle { ReadsNothing (request_of (texts_of words.now)) → source.new ≡ source.old }

@@ -1,5 +1,6 @@
 -- How the answers of jobs end: as a refusal, or done or undecided with what holds then.
-use Rattle.std.proofs.Common.{◌≡◌, ◌≢◌, ℕ, ◌<◌, ◌≤◌, ◌^◌, ◌⊎◌, inl, inr, List, [], ◌∷◌, ◌++◌, length, Bool, true, false, refl, ap, sym, ◌∙◌, subst, arith}
+use Rattle.std.proofs.Common.{◌≡◌, ◌≢◌, ℕ, ◌<◌, ◌≤◌, ◌^◌, ◌⊎◌, inl, inr, List, [], ◌∷◌, ◌++◌, length, Bool, true, false}
+use Rattle.std.proofs.Common.{refl, ap, sym, ◌∙◌, subst, arith}
 use Rattle.std.specs.List.{list_any}
 use Rattle.std.proofs.lemmas.List.Folds.{list_any-append}
 use Rattle.shq_terms.specs.Listed.{Listed}
@@ -13,12 +14,15 @@ use Rattle.decision_jobs.specs.Answer.TheVariants as Answered
 use Rattle.decision_jobs.specs.Decisions.{decision_status, IsDecided, AnswersQuestion}
 use Rattle.classification_jobs.specs.Answer.{Answer, complaint_answer}
 use Rattle.classification_jobs.specs.Asked.{Reply, refused_document}
-use Rattle.classification_jobs.specs.Classifications.{IsRefused as IsRefusedDocument, OnDocument, IsFinished, IsUnfinished, AnswersClassification}
-use Rattle.classification_jobs.specs.Questions.{Text, follows, IsDocumentAlone, IsNotAlone, IsQuestion, IsRefusedQuestion}
+use Rattle.classification_jobs.specs.Classifications.{IsRefused as IsRefusedDocument, OnDocument, IsFinished}
+use Rattle.classification_jobs.specs.Classifications.{IsUnfinished, AnswersClassification}
+use Rattle.classification_jobs.specs.Questions.{Text, has_element, follows, IsDocumentAlone, IsNotAlone, IsQuestion}
+use Rattle.classification_jobs.specs.Questions.{IsRefusedQuestion}
 use Rattle.classification_jobs.specs.Refusals.{IsRefused, HasBegun}
 use Rattle.classification_jobs.specs.Replies.{reply_answer}
 use Rattle.classification_jobs.specs.Status.{Status}
-use Rattle.classification_jobs.specs.Status.TheVariants.{Done, Rejected, BadWords, BadText, Outside, Limit, ReadFault, WriteFault, Undecided, NoMemory}
+use Rattle.classification_jobs.specs.Status.TheVariants.{Done, Rejected, BadWords, BadText, Outside, Limit, ReadFault}
+use Rattle.classification_jobs.specs.Status.TheVariants.{WriteFault, Undecided, NoMemory}
 use Rattle.audit_jobs.specs.Answers.{IsEvidenced}
 use Rattle.audit_jobs.specs.Witnessed.{IsEvidenceLog}
 use Rattle.audit_jobs.specs.PinpointingAnswers.{IsPinpointed, IsMeasured, AnswersWorkload}
@@ -26,14 +30,21 @@ use Rattle.run_log.specs.HonestLog.{IsPinpointingLog}
 use Rattle.audit_jobs.specs.Memory.{UnlessNoMemory}
 use Rattle.audit_jobs.specs.Listings.{end_status}
 use Rattle.audit_jobs.specs.Wanted.{Wanted}
-use Rattle.ontology_jobs.specs.Words.{Job, check, decide, classify, pinpoint, evidence}
+use Rattle.ofn_reader.specs.Documents.{IsDocument, IsNoDocument}
+use Rattle.individual_jobs.specs.Answers.{AnswersWhy}
+use Rattle.individual_jobs.specs.Realizations.{AnswersInstances, AnswersRealization}
+use Rattle.edit_session.specs.Answers.{AnswersSession, IsRefusedScript}
+use Rattle.ontology_jobs.specs.Words.{Job, check, decide, classify, realize, instances, reasons, session, pinpoint}
+use Rattle.ontology_jobs.specs.Words.{evidence}
 use Rattle.ontology_jobs.specs.Answers.{IsTooLong, AnswersRead, AnswersJob}
 use Rattle.ontology_jobs.specs.Laws.{IsFaultless}
 
 -- the answer of a job whose input is too long, or refused for a reply, or read
-pub data Ended (refused : Reply → Type 0) (read : Type 0) (bytes out : List ℕ) (s : Status) (log : List Entry) : Type 0 where
+pub data Ended (refused : Reply → Type 0) (read : Type 0) (bytes out : List ℕ) (s : Status) (log : List Entry) :
+    Type 0 where
   too_long : IsTooLong bytes out s log → Ended refused read bytes out s log
-  is_refused : length bytes ≤ 2 ^ 24 → (r : Reply) → refused r → ◌≡◌ {A = Answer} (s, out) (reply_answer r) → log ≡ [] → Ended refused read bytes out s log
+  is_refused : length bytes ≤ 2 ^ 24 → (r : Reply) → refused r → ◌≡◌ {A = Answer} (s, out) (reply_answer r) → log ≡ []
+      → Ended refused read bytes out s log
   is_done : length bytes ≤ 2 ^ 24 → read → s ≡ Done → Ended refused read bytes out s log
   is_undecided : length bytes ≤ 2 ^ 24 → read → s ≡ Undecided → Ended refused read bytes out s log
 
@@ -43,7 +54,9 @@ RefusesDocument bytes r = (e : Refusal) × IsNotAlone bytes e × (r ≡ refused_
 
 -- ---- an input, by what the job does on it
 
-pub by_job : (job : Job) (bytes out : List ℕ) (s : Status) (log : List Entry) → IsFaultless s → AnswersJob job bytes out s log → IsTooLong bytes out s log ⊎ ((length bytes ≤ 2 ^ 24) × AnswersRead job bytes out s log)
+pub by_job : (job : Job) (bytes out : List ℕ) (s : Status) (log : List Entry) → IsFaultless s
+    → AnswersJob job bytes out s log
+    → IsTooLong bytes out s log ⊎ ((length bytes ≤ 2 ^ 24) × AnswersRead job bytes out s log)
 by_job job bytes out Done log known answer = answer
 by_job job bytes out Rejected log known answer = answer
 by_job job bytes out BadWords log known answer = answer
@@ -57,7 +70,9 @@ by_job job bytes out NoMemory log known answer = absurd known
 
 -- ---- questions
 
-by_decision : (question : Text) (budget : ℕ) (bytes out : List ℕ) (s : Status) (log : List Entry) → IsFaultless s → AnswersQuestion question budget bytes out s log → IsRefused question bytes out s log ⊎ IsDecided question budget bytes out s log
+by_decision : (question : Text) (budget : ℕ) (bytes out : List ℕ) (s : Status) (log : List Entry) → IsFaultless s
+    → AnswersQuestion question budget bytes out s log
+    → IsRefused question bytes out s log ⊎ IsDecided question budget bytes out s log
 by_decision question budget bytes out Done log known answer = answer
 by_decision question budget bytes out Rejected log known answer = answer
 by_decision question budget bytes out BadWords log known answer = answer
@@ -78,7 +93,9 @@ decision_ends Answered.Undecided = inr refl
 abbrev pub IsReadBy : Text → List ℕ → Type 0
 IsReadBy question bytes = (o : Listed) × (q : Asked) × IsQuestion question bytes o q
 
-pub question_ended : (question : Text) (budget : ℕ) (bytes out : List ℕ) (s : Status) (log : List Entry) → IsFaultless s → AnswersJob (decide question budget) bytes out s log → Ended (IsRefusedQuestion question bytes) (IsReadBy question bytes) bytes out s log
+pub question_ended : (question : Text) (budget : ℕ) (bytes out : List ℕ) (s : Status) (log : List Entry) → IsFaultless s
+    → AnswersJob (decide question budget) bytes out s log
+    → Ended (IsRefusedQuestion question bytes) (IsReadBy question bytes) bytes out s log
 question_ended question budget bytes out s log known answer =
     elim (by_job (decide question budget) bytes out s log known answer) [
       | inl long ↦ too_long long
@@ -111,13 +128,16 @@ finished_ends : (b : Bool) → (end_status b ≡ Done) ⊎ (end_status b ≡ Und
 finished_ends true = inl refl
 finished_ends false = inr refl
 
-pub list_ended : (w : Wanted) (statement : List ℕ) (budget : ℕ) (bytes out : List ℕ) (s : Status) (log : List Entry) → IsFaultless s → AnswersJob (pinpoint w statement budget) bytes out s log
+pub list_ended : (w : Wanted) (statement : List ℕ) (budget : ℕ) (bytes out : List ℕ) (s : Status) (log : List Entry)
+    → IsFaultless s → AnswersJob (pinpoint w statement budget) bytes out s log
     → Ended (IsRefusedQuestion (follows statement) bytes) (IsReadBy (follows statement) bytes) bytes out s log
 list_ended w statement budget bytes out s log known answer =
     elim (by_job (pinpoint w statement budget) bytes out s log known answer) [
       | inl long ↦ too_long long
       | inr read ↦
-          elim (by_begun out s (HasBegun (follows statement) bytes log (λ o q. IsPinpointingLog o q budget log)) (IsRefused (follows statement) bytes out s log ⊎ IsPinpointed w statement budget bytes out s log) known read.1) [
+          elim (by_begun out s (HasBegun (follows statement) bytes log (λ o q. IsPinpointingLog o q budget log))
+          (IsRefused (follows statement) bytes out s log ⊎ IsPinpointed w statement budget bytes out s log) known
+          read.1) [
             | inl r ↦ is_refused read.0 r.reply r.refused r.answer r.unlogged
             | inr p ↦
                 elim (finished_ends p.listed.finished) [
@@ -127,18 +147,21 @@ list_ended w statement budget bytes out s log known answer =
           ]
     ]
 
-pub evidence_ended : (statement : List ℕ) (budget : ℕ) (bytes out : List ℕ) (s : Status) (log : List Entry) → IsFaultless s → AnswersJob (evidence statement budget) bytes out s log
+pub evidence_ended : (statement : List ℕ) (budget : ℕ) (bytes out : List ℕ) (s : Status) (log : List Entry)
+    → IsFaultless s → AnswersJob (evidence statement budget) bytes out s log
     → Ended (IsRefusedQuestion (follows statement) bytes) (IsReadBy (follows statement) bytes) bytes out s log
 evidence_ended statement budget bytes out s log known answer =
     elim (by_job (evidence statement budget) bytes out s log known answer) [
       | inl long ↦ too_long long
       | inr read ↦
-          elim (by_begun out s (HasBegun (follows statement) bytes log (λ o q. IsEvidenceLog o q budget log)) (IsRefused (follows statement) bytes out s log ⊎ IsEvidenced statement budget bytes out s log) known read.1) [
+          elim (by_begun out s (HasBegun (follows statement) bytes log (λ o q. IsEvidenceLog o q budget log))
+          (IsRefused (follows statement) bytes out s log ⊎ IsEvidenced statement budget bytes out s log) known read.1) [
             | inl r ↦ is_refused read.0 r.reply r.refused r.answer r.unlogged
             | inr e ↦
                 elim (finished_ends e.answer.finished) [
                   | inl done ↦ is_done read.0 (e.ontology, e.query, e.is_question) (e.answer.written.status ∙ done)
-                  | inr spent ↦ is_undecided read.0 (e.ontology, e.query, e.is_question) (e.answer.written.status ∙ spent)
+                  | inr spent ↦
+                      is_undecided read.0 (e.ontology, e.query, e.is_question) (e.answer.written.status ∙ spent)
                 ]
           ]
     ]
@@ -148,12 +171,17 @@ evidence_ended statement budget bytes out s log known answer =
 abbrev pub IsReadDocument : List ℕ → Type 0
 IsReadDocument bytes = (o : Listed) × (kept : DocumentContext) × IsDocumentAlone bytes o kept
 
-refused_alone : (bytes out : List ℕ) (s : Status) (log : List Entry) → length bytes ≤ 2 ^ 24 → IsRefusedDocument bytes out s log → Ended (RefusesDocument bytes) (IsReadDocument bytes) bytes out s log
-refused_alone bytes out s log short r = is_refused short (refused_document r.refusal) (r.refusal, r.refused, refl) r.answer r.unlogged
+refused_alone : (bytes out : List ℕ) (s : Status) (log : List Entry) → length bytes ≤ 2 ^ 24
+    → IsRefusedDocument bytes out s log → Ended (RefusesDocument bytes) (IsReadDocument bytes) bytes out s log
+refused_alone bytes out s log short r =
+    is_refused short (refused_document r.refusal) (r.refusal, r.refused, refl) r.answer r.unlogged
 
-classified : (budget : ℕ) (bytes out : List ℕ) (s : Status) (log : List Entry) → IsFaultless s → length bytes ≤ 2 ^ 24 → AnswersClassification budget bytes out s log → Ended (RefusesDocument bytes) (IsReadDocument bytes) bytes out s log
+classified : (budget : ℕ) (bytes out : List ℕ) (s : Status) (log : List Entry) → IsFaultless s → length bytes ≤ 2 ^ 24
+    → AnswersClassification budget bytes out s log
+    → Ended (RefusesDocument bytes) (IsReadDocument bytes) bytes out s log
 classified budget bytes out Done log known short on = is_done short (on.ontology, on.kept, on.is_document) refl
-classified budget bytes out Undecided log known short on = is_undecided short (on.ontology, on.kept, on.is_document) refl
+classified budget bytes out Undecided log known short on =
+    is_undecided short (on.ontology, on.kept, on.is_document) refl
 classified budget bytes out Rejected log known short r = refused_alone bytes out Rejected log short r
 classified budget bytes out BadWords log known short r = refused_alone bytes out BadWords log short r
 classified budget bytes out BadText log known short r = refused_alone bytes out BadText log short r
@@ -163,20 +191,138 @@ classified budget bytes out ReadFault log known short r = absurd known
 classified budget bytes out WriteFault log known short r = absurd known
 classified budget bytes out NoMemory log known short r = absurd known
 
-pub class_ended : (budget : ℕ) (bytes out : List ℕ) (s : Status) (log : List Entry) → IsFaultless s → AnswersJob (classify budget) bytes out s log → Ended (RefusesDocument bytes) (IsReadDocument bytes) bytes out s log
+pub class_ended : (budget : ℕ) (bytes out : List ℕ) (s : Status) (log : List Entry) → IsFaultless s
+    → AnswersJob (classify budget) bytes out s log
+    → Ended (RefusesDocument bytes) (IsReadDocument bytes) bytes out s log
 class_ended budget bytes out s log known answer =
     elim (by_job (classify budget) bytes out s log known answer) [
       | inl long ↦ too_long long
       | inr read ↦ classified budget bytes out s log known read.0 read.1
     ]
 
+-- ---- realizations
+
+realized : (budget : ℕ) (bytes out : List ℕ) (s : Status) (log : List Entry) → IsFaultless s → length bytes ≤ 2 ^ 24
+    → AnswersRealization budget bytes out s log → Ended (RefusesDocument bytes) (IsReadDocument bytes) bytes out s log
+realized budget bytes out Done log known short on = is_done short (on.ontology, on.kept, on.is_document) refl
+realized budget bytes out Undecided log known short on = is_undecided short (on.ontology, on.kept, on.is_document) refl
+realized budget bytes out BadText log known short r = refused_alone bytes out BadText log short r
+realized budget bytes out Outside log known short r = refused_alone bytes out Outside log short r
+realized budget bytes out Limit log known short r = refused_alone bytes out Limit log short r
+realized budget bytes out Rejected log known short r = absurd r
+realized budget bytes out BadWords log known short r = absurd r
+realized budget bytes out ReadFault log known short r = absurd known
+realized budget bytes out WriteFault log known short r = absurd known
+realized budget bytes out NoMemory log known short r = absurd known
+
+pub types_ended : (budget : ℕ) (bytes out : List ℕ) (s : Status) (log : List Entry) → IsFaultless s
+    → AnswersJob (realize budget) bytes out s log → Ended (RefusesDocument bytes) (IsReadDocument bytes) bytes out s log
+types_ended budget bytes out s log known answer =
+    elim (by_job (realize budget) bytes out s log known answer) [
+      | inl long ↦ too_long long
+      | inr read ↦ realized budget bytes out s log known read.0 read.1
+    ]
+
+-- ---- the instances of a class, and why
+
+refused_class : (class bytes out : List ℕ) (s : Status) (log : List Entry) → length bytes ≤ 2 ^ 24
+    → IsRefused (has_element class) bytes out s log
+    → Ended (IsRefusedQuestion (has_element class) bytes) (IsReadBy (has_element class) bytes) bytes out s log
+refused_class class bytes out s log short r = is_refused short r.reply r.refused r.answer r.unlogged
+
+found : (class : List ℕ) (budget : ℕ) (bytes out : List ℕ) (s : Status) (log : List Entry) → IsFaultless s
+    → length bytes ≤ 2 ^ 24 → AnswersInstances class budget bytes out s log
+    → Ended (IsRefusedQuestion (has_element class) bytes) (IsReadBy (has_element class) bytes) bytes out s log
+found class budget bytes out Done log known short on = is_done short (on.ontology, on.query, on.is_question) refl
+found class budget bytes out Undecided log known short on =
+    is_undecided short (on.ontology, on.query, on.is_question) refl
+found class budget bytes out BadText log known short r = refused_class class bytes out BadText log short r
+found class budget bytes out Outside log known short r = refused_class class bytes out Outside log short r
+found class budget bytes out Limit log known short r = refused_class class bytes out Limit log short r
+found class budget bytes out Rejected log known short r = absurd r
+found class budget bytes out BadWords log known short r = absurd r
+found class budget bytes out ReadFault log known short r = absurd known
+found class budget bytes out WriteFault log known short r = absurd known
+found class budget bytes out NoMemory log known short r = absurd known
+
+pub instances_ended : (class : List ℕ) (budget : ℕ) (bytes out : List ℕ) (s : Status) (log : List Entry) → IsFaultless s
+    → AnswersJob (instances class budget) bytes out s log
+    → Ended (IsRefusedQuestion (has_element class) bytes) (IsReadBy (has_element class) bytes) bytes out s log
+instances_ended class budget bytes out s log known answer =
+    elim (by_job (instances class budget) bytes out s log known answer) [
+      | inl long ↦ too_long long
+      | inr read ↦ found class budget bytes out s log known read.0 read.1
+    ]
+
+reasoned : (class : List ℕ) (budget : ℕ) (bytes out : List ℕ) (s : Status) (log : List Entry) → IsFaultless s
+    → length bytes ≤ 2 ^ 24 → AnswersWhy class budget bytes out s log
+    → Ended (IsRefusedQuestion (has_element class) bytes) (IsReadBy (has_element class) bytes) bytes out s log
+reasoned class budget bytes out Done log known short on = is_done short (on.ontology, on.query, on.is_question) refl
+reasoned class budget bytes out Undecided log known short on =
+    is_undecided short (on.ontology, on.query, on.is_question) refl
+reasoned class budget bytes out BadText log known short r = refused_class class bytes out BadText log short r
+reasoned class budget bytes out Outside log known short r = refused_class class bytes out Outside log short r
+reasoned class budget bytes out Limit log known short r = refused_class class bytes out Limit log short r
+reasoned class budget bytes out Rejected log known short r = absurd r
+reasoned class budget bytes out BadWords log known short r = absurd r
+reasoned class budget bytes out ReadFault log known short r = absurd known
+reasoned class budget bytes out WriteFault log known short r = absurd known
+reasoned class budget bytes out NoMemory log known short r = absurd known
+
+pub reasons_ended : (class : List ℕ) (budget : ℕ) (bytes out : List ℕ) (s : Status) (log : List Entry) → IsFaultless s
+    → AnswersJob (reasons class budget) bytes out s log
+    → Ended (IsRefusedQuestion (has_element class) bytes) (IsReadBy (has_element class) bytes) bytes out s log
+reasons_ended class budget bytes out s log known answer =
+    elim (by_job (reasons class budget) bytes out s log known answer) [
+      | inl long ↦ too_long long
+      | inr read ↦ reasoned class budget bytes out s log known read.0 read.1
+    ]
+
+-- ---- sessions
+
+-- a document with a script behind it that is refused
+abbrev pub RefusesScript : List ℕ → Reply → Type 0
+RefusesScript bytes r = (e : Refusal) × IsNoDocument bytes e × (r ≡ refused_document e)
+
+abbrev pub IsReadScript : List ℕ → Type 0
+IsReadScript bytes = (o : Listed) × (kept : DocumentContext) × (end : ℕ) × IsDocument bytes o kept end
+
+refused_script : (bytes out : List ℕ) (s : Status) (log : List Entry) → length bytes ≤ 2 ^ 24
+    → IsRefusedScript bytes out s log → Ended (RefusesScript bytes) (IsReadScript bytes) bytes out s log
+refused_script bytes out s log short r =
+    is_refused short (refused_document r.refusal) (r.refusal, r.refused, refl) r.answer r.unlogged
+
+told : (budget : ℕ) (bytes out : List ℕ) (s : Status) (log : List Entry) → IsFaultless s → length bytes ≤ 2 ^ 24
+    → AnswersSession budget bytes out s log → Ended (RefusesScript bytes) (IsReadScript bytes) bytes out s log
+told budget bytes out Done log known short on = is_done short (on.ontology, on.kept, on.end, on.is_document) refl
+told budget bytes out Undecided log known short on =
+    is_undecided short (on.ontology, on.kept, on.end, on.is_document) refl
+told budget bytes out BadText log known short r = refused_script bytes out BadText log short r
+told budget bytes out Outside log known short r = refused_script bytes out Outside log short r
+told budget bytes out Limit log known short r = refused_script bytes out Limit log short r
+told budget bytes out Rejected log known short r = absurd r
+told budget bytes out BadWords log known short r = absurd r
+told budget bytes out ReadFault log known short r = absurd known
+told budget bytes out WriteFault log known short r = absurd known
+told budget bytes out NoMemory log known short r = absurd known
+
+pub session_ended : (budget : ℕ) (bytes out : List ℕ) (s : Status) (log : List Entry) → IsFaultless s
+    → AnswersJob (session budget) bytes out s log → Ended (RefusesScript bytes) (IsReadScript bytes) bytes out s log
+session_ended budget bytes out s log known answer =
+    elim (by_job (session budget) bytes out s log known answer) [
+      | inl long ↦ too_long long
+      | inr read ↦ told budget bytes out s log known read.0 read.1
+    ]
+
 -- ---- workloads
 
-pub workload_ended : (number budget : ℕ) (out : List ℕ) (s : Status) (log : List Entry) → IsFaultless s → AnswersWorkload number budget out s log → (s ≡ Done) ⊎ (s ≡ Undecided)
+pub workload_ended : (number budget : ℕ) (out : List ℕ) (s : Status) (log : List Entry) → IsFaultless s
+    → AnswersWorkload number budget out s log → (s ≡ Done) ⊎ (s ≡ Undecided)
 workload_ended number budget out s log known answer = by s known answer
   where
     of : (s : Status) → IsMeasured number budget out s log → (s ≡ Done) ⊎ (s ≡ Undecided)
-    of s m = elim (finished_ends m.counted.finished) [ inl done ↦ inl (m.counted.status ∙ done) | inr spent ↦ inr (m.counted.status ∙ spent) ]
+    of s m = elim (finished_ends m.counted.finished)
+        [ inl done ↦ inl (m.counted.status ∙ done) | inr spent ↦ inr (m.counted.status ∙ spent) ]
 
     by : (s : Status) → IsFaultless s → AnswersWorkload number budget out s log → (s ≡ Done) ⊎ (s ≡ Undecided)
     by Done known m = of Done m

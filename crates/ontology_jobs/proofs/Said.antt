@@ -16,7 +16,8 @@ use Rattle.classification_jobs.specs.Sort.TheVariants as S
 use Rattle.classification_jobs.specs.Verdict.{Verdict}
 use Rattle.classification_jobs.specs.Verdict.TheVariants.{NotEntailed, Entailed, Axiom, Query, Line}
 use Rattle.classification_jobs.specs.Status.{Status}
-use Rattle.classification_jobs.specs.Status.TheVariants.{Done, Rejected, BadWords, BadText, Outside, Limit, ReadFault, WriteFault, Undecided, NoMemory}
+use Rattle.classification_jobs.specs.Status.TheVariants.{Done, Rejected, BadWords, BadText, Outside, Limit, ReadFault}
+use Rattle.classification_jobs.specs.Status.TheVariants.{WriteFault, Undecided, NoMemory}
 
 -- whether some reply, or some check of an audit, has the status
 abbrev pub is_said : Status → Bool
@@ -66,9 +67,13 @@ end_said (Err (U.Line n)) = refl
 end_said (Err U.NoMemory) = refl
 
 -- no check of an audit has one of the others
-pub not_audited : (s : Status) → is_said s ≡ false → (end : Result AuditVerdict Unread) (out : List ℕ) → ◌≡◌ {A = Answer} (s, out) (end_answer end) → ⊥
-not_audited s none end out is = let clash : false ≡ true = sym none ∙ ap (λ (a : Answer). is_said a.0) is ∙ end_said end in absurd (cc clash)
+pub not_audited : (s : Status) → is_said s ≡ false → (end : Result AuditVerdict Unread) (out : List ℕ)
+    → ◌≡◌ {A = Answer} (s, out) (end_answer end) → ⊥
+not_audited s none end out is =
+    let clash : false ≡ true = sym none ∙ ap (λ (a : Answer). is_said a.0) is ∙ end_said end in absurd (cc clash)
 
 -- no reply has one of the others
-pub not_said : (s : Status) → is_said s ≡ false → (r : Reply) (out : List ℕ) → ◌≡◌ {A = Answer} (s, out) (reply_answer r) → ⊥
-not_said s none r out is = let clash : false ≡ true = sym none ∙ ap (λ (a : Answer). is_said a.0) is ∙ reply_said r in absurd (cc clash)
+pub not_said : (s : Status) → is_said s ≡ false → (r : Reply) (out : List ℕ)
+    → ◌≡◌ {A = Answer} (s, out) (reply_answer r) → ⊥
+not_said s none r out is =
+    let clash : false ≡ true = sym none ∙ ap (λ (a : Answer). is_said a.0) is ∙ reply_said r in absurd (cc clash)

@@ -1,5 +1,6 @@
 -- Which answer belongs to which words and bytes, and what a run leaves of the input.
-use Rattle.std.specs.Prelude.{◌≡◌, ℕ, ◌+◌, ◌<◌, ◌≤◌, ◌^◌, ◌⊎◌, [], List, length, drop, codes, nat_lt, Option, Some, None, MatchOption, IfSome, if◌then◌else◌}
+use Rattle.std.specs.Prelude.{◌≡◌, ℕ, ◌+◌, ◌<◌, ◌≤◌, ◌^◌, ◌⊎◌, [], List, length, drop, codes, nat_lt, Option, Some}
+use Rattle.std.specs.Prelude.{None, MatchOption, IfSome, if◌then◌else◌}
 use Rattle.std.specs.Io.KnownBytes.{Appends}
 use Rattle.shq_io.specs.Causes.{TakesPrefix}
 use Rattle.shq_io.specs.declared.whole.ReadEnd.{ReadEnd}
@@ -15,7 +16,11 @@ use Rattle.classification_jobs.specs.Classifications.{AnswersClassification}
 use Rattle.audit_jobs.specs.Answers.{AnswersEvidence}
 use Rattle.audit_jobs.specs.PinpointingAnswers.{AnswersPinpointing, AnswersWorkload}
 use Rattle.audit_jobs.specs.Audited.{Audited}
-use Rattle.ontology_jobs.specs.Words.{Job, check, audit, decide, classify, pinpoint, evidence, Request, on_input, generated, request_of}
+use Rattle.individual_jobs.specs.Answers.{AnswersWhy}
+use Rattle.individual_jobs.specs.Realizations.{AnswersInstances, AnswersRealization}
+use Rattle.edit_session.specs.Answers.{AnswersSession}
+use Rattle.ontology_jobs.specs.Words.{Job, check, audit, decide, classify, realize, instances, reasons, session}
+use Rattle.ontology_jobs.specs.Words.{pinpoint, evidence, Request, on_input, generated, request_of}
 
 abbrev pub bad_words : List ℕ
 bad_words = line (codes "bad words")
@@ -38,13 +43,19 @@ AnswersRead (check query) bytes out s log = Checked query bytes out s × (log �
 AnswersRead (audit query) bytes out s log = Audited query bytes out s × (log ≡ [])
 AnswersRead (decide question budget) bytes out s log = AnswersQuestion question budget bytes out s log
 AnswersRead (classify budget) bytes out s log = AnswersClassification budget bytes out s log
-AnswersRead (pinpoint wanted statement budget) bytes out s log = AnswersPinpointing wanted statement budget bytes out s log
+AnswersRead (realize budget) bytes out s log = AnswersRealization budget bytes out s log
+AnswersRead (instances class budget) bytes out s log = AnswersInstances class budget bytes out s log
+AnswersRead (reasons class budget) bytes out s log = AnswersWhy class budget bytes out s log
+AnswersRead (session budget) bytes out s log = AnswersSession budget bytes out s log
+AnswersRead (pinpoint wanted statement budget) bytes out s log =
+    AnswersPinpointing wanted statement budget bytes out s log
 AnswersRead (evidence statement budget) bytes out s log = AnswersEvidence statement budget bytes out s log
 
 -- the answer of a job to an input; memory may be refused before it is read, and then nothing is logged
 abbrev pub AnswersJob : Job → List ℕ → List ℕ → Status → List Entry → Type 0
 AnswersJob job bytes out ReadFault log = (out ≡ line (codes "read fault")) × (log ≡ [])
-AnswersJob job bytes out NoMemory log = IsOutOfMemory out (log ≡ []) ⊎ ((length bytes ≤ 2 ^ 24) × AnswersRead job bytes out NoMemory log)
+AnswersJob job bytes out NoMemory log = IsOutOfMemory out (log ≡ [])
+    ⊎ ((length bytes ≤ 2 ^ 24) × AnswersRead job bytes out NoMemory log)
 AnswersJob job bytes out s log = IsTooLong bytes out s log ⊎ ((length bytes ≤ 2 ^ 24) × AnswersRead job bytes out s log)
 
 -- the answer to an accepted list of words
@@ -60,11 +71,13 @@ pub record IsBadWords (out : List ℕ) (s : Status) (log : List Entry) : Type 0 
 
 -- the answer to the words and the input, with the text that is written and the log
 abbrev pub Answers : List (List ℕ) → List ℕ → List ℕ → Status → List Entry → Type 0
-Answers words bytes out s log = MatchOption (request_of words) (IsBadWords out s log) (λ r. AnswersRequest r bytes out s log)
+Answers words bytes out s log =
+    MatchOption (request_of words) (IsBadWords out s log) (λ r. AnswersRequest r bytes out s log)
 
 -- the sink took the text of an answer, whole, or at a fault of writing a front of it
 abbrev pub Answered : Option (List ℕ) → Option (List ℕ) → List (List ℕ) → List ℕ → Status → List Entry → Type 0
-Answered before now words bytes WriteFault log = (s : Status) × (out : List ℕ) × Answers words bytes out s log × TakesPrefix out before now
+Answered before now words bytes WriteFault log = (s : Status) × (out : List ℕ) × Answers words bytes out s log
+    × TakesPrefix out before now
 Answered before now words bytes s log = (out : List ℕ) × Answers words bytes out s log × Appends before now out
 
 -- The bytes that are read: all that the source held, where it tells them.
@@ -81,7 +94,8 @@ AnswersRequestOnAll r held out s log = (bytes : List ℕ) × AreAll held bytes �
 abbrev pub AnswersAll : Option (List ℕ) → List (List ℕ) → List ℕ → Status → List Entry → Type 0
 AnswersAll held words out s log = (bytes : List ℕ) × AreAll held bytes × Answers words bytes out s log
 
-abbrev pub AnsweredAll : Option (List ℕ) → Option (List ℕ) → Option (List ℕ) → List (List ℕ) → Status → List Entry → Type 0
+abbrev pub AnsweredAll : Option (List ℕ) → Option (List ℕ) → Option (List ℕ) → List (List ℕ) → Status → List Entry
+    → Type 0
 AnsweredAll held before now words s log = (bytes : List ℕ) × AreAll held bytes × Answered before now words bytes s log
 
 -- The sink took `bad words`, whole, or at a fault of writing a front of it.

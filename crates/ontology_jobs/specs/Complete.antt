@@ -9,10 +9,12 @@ use Rattle.ofn_reader.specs.Documents.{IsDocument}
 use Rattle.run_log.specs.declared.entry.Entry.{Entry}
 use Rattle.run_log.specs.Entries.{spent_of, is_spent}
 use Rattle.classification_jobs.specs.Asked.{IsAsked}
-use Rattle.classification_jobs.specs.Questions.{follows, IsDocumentAlone, IsQuestion}
+use Rattle.classification_jobs.specs.Questions.{has_element, follows, IsDocumentAlone, IsQuestion}
 use Rattle.classification_jobs.specs.Status.{Status}
-use Rattle.classification_jobs.specs.Status.TheVariants.{Done, Rejected, BadWords, BadText, Outside, Limit, ReadFault, WriteFault, Undecided, NoMemory}
-use Rattle.ontology_jobs.specs.Words.{Job, check, audit, decide, classify, pinpoint, evidence, Request, on_input, generated}
+use Rattle.classification_jobs.specs.Status.TheVariants.{Done, Rejected, BadWords, BadText, Outside, Limit, ReadFault}
+use Rattle.classification_jobs.specs.Status.TheVariants.{WriteFault, Undecided, NoMemory}
+use Rattle.ontology_jobs.specs.Words.{Job, check, audit, decide, classify, realize, instances, reasons, session}
+use Rattle.ontology_jobs.specs.Words.{pinpoint, evidence, Request, on_input, generated}
 use Rattle.ontology_jobs.specs.Answers.{AnswersJob, AnswersRequest}
 use Rattle.ontology_jobs.specs.Laws.{IsFaultless}
 
@@ -28,13 +30,17 @@ pub record BeginsWithDocument (query bytes : List ℕ) : Type 0 where
   pub is_document : IsDocument bytes document kept end
   pub is_query : IsAsked document kept query counts asked
 
--- the document is read and the question on it, behind which only a gap stands but where a certificate or an
--- audit is asked for
+-- the document is read and the question on it, behind which only a gap stands but where a certificate, an audit or a
+-- script follows
 abbrev pub IsRead : Job → List ℕ → Type 0
 IsRead (check query) bytes = BeginsWithDocument query bytes
 IsRead (audit query) bytes = BeginsWithDocument query bytes
 IsRead (decide question budget) bytes = (o : Listed) × (q : Asked) × IsQuestion question bytes o q
 IsRead (classify budget) bytes = (o : Listed) × (kept : DocumentContext) × IsDocumentAlone bytes o kept
+IsRead (realize budget) bytes = (o : Listed) × (kept : DocumentContext) × IsDocumentAlone bytes o kept
+IsRead (instances class budget) bytes = (o : Listed) × (q : Asked) × IsQuestion (has_element class) bytes o q
+IsRead (reasons class budget) bytes = (o : Listed) × (q : Asked) × IsQuestion (has_element class) bytes o q
+IsRead (session budget) bytes = (o : Listed) × (kept : DocumentContext) × (end : ℕ) × IsDocument bytes o kept end
 IsRead (pinpoint wanted statement budget) bytes = (o : Listed) × (q : Asked) × IsQuestion (follows statement) bytes o q
 IsRead (evidence statement budget) bytes = (o : Listed) × (q : Asked) × IsQuestion (follows statement) bytes o q
 
@@ -52,6 +58,10 @@ HasLeft (on_input (check query)) log = Unit {0}
 HasLeft (on_input (audit query)) log = Unit {0}
 HasLeft (on_input (decide question budget)) log = (spent_of log < budget) ⊎ (list_any is_spent log ≡ false)
 HasLeft (on_input (classify budget)) log = (spent_of log < budget) ⊎ (list_any is_spent log ≡ false)
+HasLeft (on_input (realize budget)) log = (spent_of log < budget) ⊎ (list_any is_spent log ≡ false)
+HasLeft (on_input (instances class budget)) log = (spent_of log < budget) ⊎ (list_any is_spent log ≡ false)
+HasLeft (on_input (reasons class budget)) log = spent_of log < budget
+HasLeft (on_input (session budget)) log = (spent_of log < budget) ⊎ (list_any is_spent log ≡ false)
 HasLeft (on_input (pinpoint wanted statement budget)) log = spent_of log < budget
 HasLeft (on_input (evidence statement budget)) log = spent_of log < budget
 HasLeft (generated number budget) log = spent_of log < budget
@@ -89,6 +99,10 @@ EndsWell (on_input (check query)) s = IsJudged s
 EndsWell (on_input (audit query)) s = IsJudged s
 EndsWell (on_input (decide question budget)) s = IsDone s
 EndsWell (on_input (classify budget)) s = IsDone s
+EndsWell (on_input (realize budget)) s = IsDone s
+EndsWell (on_input (instances class budget)) s = IsDone s
+EndsWell (on_input (reasons class budget)) s = IsDone s
+EndsWell (on_input (session budget)) s = IsDone s
 EndsWell (on_input (pinpoint wanted statement budget)) s = IsDone s
 EndsWell (on_input (evidence statement budget)) s = IsDone s
 EndsWell (generated number budget) s = IsDone s
@@ -97,17 +111,21 @@ EndsWell (generated number budget) s = IsDone s
 
 -- an answer to an input that is read is that the job is done, where something of the budget is left
 abbrev pub JobsAreDone : Type 0
-JobsAreDone = (job : Job) (bytes out : List ℕ) (s : Status) (log : List Entry) → IsReadable job bytes → HasLeft (on_input job) log → IsFaultless s → AnswersJob job bytes out s log → EndsWell (on_input job) s
+JobsAreDone = (job : Job) (bytes out : List ℕ) (s : Status) (log : List Entry) → IsReadable job bytes
+    → HasLeft (on_input job) log → IsFaultless s → AnswersJob job bytes out s log → EndsWell (on_input job) s
 
 -- the same of a workload, which reads nothing
 abbrev pub WorkloadsAreDone : Type 0
-WorkloadsAreDone = (number budget : ℕ) (bytes out : List ℕ) (s : Status) (log : List Entry) → HasLeft (generated number budget) log → IsFaultless s → AnswersRequest (generated number budget) bytes out s log
+WorkloadsAreDone = (number budget : ℕ) (bytes out : List ℕ) (s : Status) (log : List Entry)
+    → HasLeft (generated number budget) log → IsFaultless s → AnswersRequest (generated number budget) bytes out s log
     → EndsWell (generated number budget) s
 
 -- Of a run: what it answers where nothing failed and memory was not refused. Of an input it says so where the source
 -- tells it.
 abbrev pub IsComplete : Option Request → Option (List ℕ) → Status → List Entry → Type 0
 IsComplete None held s log = Unit {0}
-IsComplete (Some (generated number budget)) held s log = HasLeft (generated number budget) log → IsFaultless s → IsDone s
+IsComplete (Some (generated number budget)) held s log = HasLeft (generated number budget) log → IsFaultless s
+    → IsDone s
 IsComplete (Some (on_input job)) None s log = Unit {0}
-IsComplete (Some (on_input job)) (Some bytes) s log = IsReadable job bytes → HasLeft (on_input job) log → IsFaultless s → EndsWell (on_input job) s
+IsComplete (Some (on_input job)) (Some bytes) s log = IsReadable job bytes → HasLeft (on_input job) log → IsFaultless s
+    → EndsWell (on_input job) s

@@ -10,7 +10,8 @@ use Rattle.ofn_reader.specs.DocumentContext.{DocumentContext}
 use Rattle.ofn_reader.specs.Documents.{IsDocument}
 use Rattle.run_log.specs.declared.entry.Entry.{Entry}
 use Rattle.run_log.specs.Entries.{spent_of}
-use Rattle.ontology_jobs.specs.Words.{Job, check, audit, decide, classify, pinpoint, evidence, Request, on_input, generated, request_of}
+use Rattle.ontology_jobs.specs.Words.{Job, check, audit, decide, classify, realize, instances, reasons, session}
+use Rattle.ontology_jobs.specs.Words.{pinpoint, evidence, Request, on_input, generated, request_of}
 use Rattle.audit_jobs.specs.AuditLists.{AuditLists}
 use Rattle.audit_jobs.specs.Sound.{ListsAll}
 use Rattle.audit_jobs.specs.Audited.{audit_after, IsAskedOn}
@@ -18,7 +19,8 @@ use Rattle.classification_jobs.specs.Asked.{IsAsked}
 use Rattle.classification_jobs.specs.Answer.{line}
 use Rattle.ontology_jobs.specs.Answers.{AnswersJob, AnswersRequest, Answers}
 use Rattle.classification_jobs.specs.Status.{Status}
-use Rattle.classification_jobs.specs.Status.TheVariants.{Done, Rejected, BadWords, BadText, Outside, Limit, ReadFault, WriteFault, Undecided, NoMemory}
+use Rattle.classification_jobs.specs.Status.TheVariants.{Done, Rejected, BadWords, BadText, Outside, Limit, ReadFault}
+use Rattle.classification_jobs.specs.Status.TheVariants.{WriteFault, Undecided, NoMemory}
 
 -- a status that does not depend on the source, the sink or the memory
 abbrev pub IsFinal : Status → Type 0
@@ -40,13 +42,19 @@ AsksForNoSearch (Some (on_input (check query))) = Unit {0}
 AsksForNoSearch (Some (on_input (audit query))) = Unit {0}
 AsksForNoSearch (Some (on_input (decide question budget))) = ⊥
 AsksForNoSearch (Some (on_input (classify budget))) = ⊥
+AsksForNoSearch (Some (on_input (realize budget))) = ⊥
+AsksForNoSearch (Some (on_input (instances class budget))) = ⊥
+AsksForNoSearch (Some (on_input (reasons class budget))) = ⊥
+AsksForNoSearch (Some (on_input (session budget))) = ⊥
 AsksForNoSearch (Some (on_input (pinpoint wanted statement budget))) = ⊥
 AsksForNoSearch (Some (on_input (evidence statement budget))) = ⊥
 AsksForNoSearch (Some (generated number budget)) = ⊥
 
 abbrev pub AnswersAreUnique : Type 0
 AnswersAreUnique =
-    (words : List (List ℕ)) (bytes out text : List ℕ) (s t : Status) (log more : List Entry) → AsksForNoSearch (request_of words) → IsFinal s → IsFinal t → Answers words bytes out s log → Answers words bytes text t more
+    (words : List (List ℕ)) (bytes out text : List ℕ) (s t : Status) (log more : List Entry)
+    → AsksForNoSearch (request_of words) → IsFinal s → IsFinal t → Answers words bytes out s log
+    → Answers words bytes text t more
     → (s ≡ t) × (out ≡ text)
 
 -- the whole budget of what the words asked for was spent; a verification has none
@@ -55,6 +63,10 @@ SpendsAll (on_input (check query)) log = ⊥
 SpendsAll (on_input (audit query)) log = ⊥
 SpendsAll (on_input (decide question budget)) log = spent_of log ≡ budget
 SpendsAll (on_input (classify budget)) log = spent_of log ≡ budget
+SpendsAll (on_input (realize budget)) log = spent_of log ≡ budget
+SpendsAll (on_input (instances class budget)) log = spent_of log ≡ budget
+SpendsAll (on_input (reasons class budget)) log = spent_of log ≡ budget
+SpendsAll (on_input (session budget)) log = spent_of log ≡ budget
 SpendsAll (on_input (pinpoint wanted statement budget)) log = spent_of log ≡ budget
 SpendsAll (on_input (evidence statement budget)) log = spent_of log ≡ budget
 SpendsAll (generated number budget) log = spent_of log ≡ budget
@@ -66,7 +78,8 @@ HasSpentAll (Some r) log = SpendsAll r log
 
 -- an answer is undecided only where the whole budget was spent
 abbrev pub UndecidedSpendsAll : Type 0
-UndecidedSpendsAll = (r : Request) (bytes out : List ℕ) (log : List Entry) → AnswersRequest r bytes out Undecided log → SpendsAll r log
+UndecidedSpendsAll = (r : Request) (bytes out : List ℕ) (log : List Entry) → AnswersRequest r bytes out Undecided log
+    → SpendsAll r log
 
 -- ---- words of no job
 
@@ -76,7 +89,8 @@ pub record AsksForNothing (words : List (List ℕ)) (log : List Entry) : Type 0 
   pub unlogged : log ≡ []
 
 abbrev pub BadWordsAskForNothing : Type 0
-BadWordsAskForNothing = (words : List (List ℕ)) (bytes out : List ℕ) (log : List Entry) → Answers words bytes out BadWords log → AsksForNothing words log
+BadWordsAskForNothing = (words : List (List ℕ)) (bytes out : List ℕ) (log : List Entry)
+    → Answers words bytes out BadWords log → AsksForNothing words log
 
 -- ---- refusals
 
@@ -109,7 +123,8 @@ IsFaultless NoMemory = ⊥
 -- where one answer to words and an input is a refusal, each other one is the same
 abbrev pub RefusalsAreAnsweredAlike : Type 0
 RefusalsAreAnsweredAlike =
-    (words : List (List ℕ)) (bytes out text : List ℕ) (s t : Status) (log more : List Entry) → IsRefusal s → IsFaultless t → Answers words bytes out s log → Answers words bytes text t more
+    (words : List (List ℕ)) (bytes out text : List ℕ) (s t : Status) (log more : List Entry) → IsRefusal s
+    → IsFaultless t → Answers words bytes out s log → Answers words bytes text t more
     → (s ≡ t) × (out ≡ text)
 
 -- ---- what is accepted
@@ -127,11 +142,14 @@ pub record HaveRead (holds : List Axiom → Asked → Type 0) (query bytes : Lis
 
 -- a query that is answered by `accepted entailed` follows from the axioms of the document
 abbrev pub AcceptedQueriesFollow : Type 0
-AcceptedQueriesFollow = (query bytes : List ℕ) (log : List Entry) → AnswersJob (check query) bytes (line (codes "accepted entailed")) Done log → HaveRead Entails query bytes
+AcceptedQueriesFollow = (query bytes : List ℕ) (log : List Entry)
+    → AnswersJob (check query) bytes (line (codes "accepted entailed")) Done log → HaveRead Entails query bytes
 
 -- and one that is answered by `accepted not entailed` does not
 abbrev pub AcceptedQueriesDoNotFollow : Type 0
-AcceptedQueriesDoNotFollow = (query bytes : List ℕ) (log : List Entry) → AnswersJob (check query) bytes (line (codes "accepted not entailed")) Done log → HaveRead (λ axioms q. Entails axioms q → ⊥) query bytes
+AcceptedQueriesDoNotFollow = (query bytes : List ℕ) (log : List Entry)
+    → AnswersJob (check query) bytes (line (codes "accepted not entailed")) Done log
+    → HaveRead (λ axioms q. Entails axioms q → ⊥) query bytes
 
 -- The document, the query on it and the audit behind it that texts are, over the names of document and query; and the
 -- lists of the audit are exactly all justifications of the query and all its repairs.
@@ -146,4 +164,5 @@ pub record HaveAudited (query bytes : List ℕ) : Type 0 where
 
 -- what is answered by `accepted audit` lists exactly all
 abbrev pub AcceptedAuditsListAll : Type 0
-AcceptedAuditsListAll = (query bytes : List ℕ) (log : List Entry) → AnswersJob (audit query) bytes (line (codes "accepted audit")) Done log → HaveAudited query bytes
+AcceptedAuditsListAll = (query bytes : List ℕ) (log : List Entry)
+    → AnswersJob (audit query) bytes (line (codes "accepted audit")) Done log → HaveAudited query bytes

@@ -1,5 +1,6 @@
 -- The lists of words that are accepted, and what each asks for.
-use Rattle.std.specs.Prelude.{ℕ, List, [], ◌∷◌, codes, nat_eq, nat_lt, ◌||◌, Option, Some, None, if◌then◌else◌, map, String, string_bytes}
+use Rattle.std.specs.Prelude.{ℕ, List, [], ◌∷◌, codes, nat_eq, nat_lt, ◌||◌, Option, Some, None, if◌then◌else◌, map}
+use Rattle.std.specs.Prelude.{String, string_bytes}
 use Rattle.std.specs.Option.{option_and_then}
 use Rattle.std.specs.Str.{bytes_eq}
 use Rattle.std.specs.declared.alloc.Global.{Global}
@@ -11,7 +12,8 @@ use Rattle.ontology_jobs.specs.declared.words.Command.{Command}
 use Rattle.ontology_jobs.specs.declared.words.Command.TheVariants.{OnInput, Workload}
 use Rattle.ontology_jobs.specs.declared.workload_number.WorkloadNumber.{WorkloadNumber}
 use Rattle.ontology_jobs.specs.declared.words.Job.{Job as Kept}
-use Rattle.ontology_jobs.specs.declared.words.Job.TheVariants.{Check, Audit, Decide, Classify, Pinpoint, Evidence}
+use Rattle.ontology_jobs.specs.declared.words.Job.TheVariants.{Check, Audit, Decide, Classify, Realize, Instances, Why}
+use Rattle.ontology_jobs.specs.declared.words.Job.TheVariants.{Session, Pinpoint, Evidence}
 
 -- a job on an input, with a budget where it searches
 pub data Job : Type 0 where
@@ -23,6 +25,14 @@ pub data Job : Type 0 where
   decide : Text → ℕ → Job
   -- which class is part of which
   classify : ℕ → Job
+  -- the most specific classes of each individual
+  realize : ℕ → Job
+  -- the individuals in the class expression of this text
+  instances : List ℕ → ℕ → Job
+  -- these, each with its justifications
+  reasons : List ℕ → ℕ → Job
+  -- the answers to the lines behind the document
+  session : ℕ → Job
   -- the justifications or the repairs of the axiom of this text
   pinpoint : Wanted → List ℕ → ℕ → Job
   -- these for the axiom of this text, each with what shows it
@@ -51,30 +61,37 @@ workload_size n = if nat_eq n 0 || nat_lt 4000 n then None else Some n
 abbrev pub workload_number : List ℕ → Option ℕ
 workload_number word = option_and_then workload_size (number_in word)
 
--- `classify`
+-- `classify`, `realize` and `session`
 abbrev pub alone_request : List ℕ → ℕ → Option Request
-alone_request w budget = if bytes_eq w (codes "classify") then Some (on_input (classify budget)) else None
+alone_request w budget =
+    if bytes_eq w (codes "classify") then Some (on_input (classify budget))
+    else if bytes_eq w (codes "realize") then Some (on_input (realize budget))
+    else if bytes_eq w (codes "session") then Some (on_input (session budget))
+    else None
 
 abbrev pub generated_with : ℕ → ℕ → Option Request
 generated_with budget n = Some (generated n budget)
 
 -- `workload N`, with a budget
 abbrev pub workload_request : List ℕ → List ℕ → ℕ → Option Request
-workload_request w text budget = if bytes_eq w (codes "workload") then option_and_then (generated_with budget) (workload_number text) else None
+workload_request w text budget =
+    if bytes_eq w (codes "workload") then option_and_then (generated_with budget) (workload_number text) else None
 
--- `explain AXIOM`, `repair AXIOM` and `evidence AXIOM`, with a budget
+-- `explain AXIOM`, `repair AXIOM`, `evidence AXIOM` and `why CLASS`, with a budget
 abbrev pub pinpointing_request : List ℕ → List ℕ → ℕ → Option Request
 pinpointing_request w text budget =
     if bytes_eq w (codes "explain") then Some (on_input (pinpoint Justifications text budget))
     else if bytes_eq w (codes "repair") then Some (on_input (pinpoint Repairs text budget))
     else if bytes_eq w (codes "evidence") then Some (on_input (evidence text budget))
+    else if bytes_eq w (codes "why") then Some (on_input (reasons text budget))
     else workload_request w text budget
 
--- `sat CLASS` and `entails AXIOM`, and those above, with a budget
+-- `sat CLASS`, `entails AXIOM` and `instances CLASS`, and those above, with a budget
 abbrev pub searching_request : List ℕ → List ℕ → ℕ → Option Request
 searching_request w text budget =
     if bytes_eq w (codes "sat") then Some (on_input (decide (has_element text) budget))
     else if bytes_eq w (codes "entails") then Some (on_input (decide (follows text) budget))
+    else if bytes_eq w (codes "instances") then Some (on_input (instances text budget))
     else pinpointing_request w text budget
 
 -- `check AXIOM` and `audit AXIOM`, and those that search, without a budget
@@ -86,10 +103,12 @@ text_request w text =
 
 -- the same where the word before the budget is `budget`
 abbrev pub budgeted_request : List ℕ → List ℕ → List ℕ → List ℕ → Option Request
-budgeted_request w text word number = if bytes_eq word (codes "budget") then option_and_then (searching_request w text) (budget_in number) else None
+budgeted_request w text word number =
+    if bytes_eq word (codes "budget") then option_and_then (searching_request w text) (budget_in number) else None
 
 abbrev pub budgeted_alone : List ℕ → List ℕ → List ℕ → Option Request
-budgeted_alone w word number = if bytes_eq word (codes "budget") then option_and_then (alone_request w) (budget_in number) else None
+budgeted_alone w word number =
+    if bytes_eq word (codes "budget") then option_and_then (alone_request w) (budget_in number) else None
 
 -- a job with one text and a budget
 abbrev pub longest_request : List (List ℕ) → Option Request
@@ -121,6 +140,10 @@ kept_job (Check a) = check a.now
 kept_job (Audit a) = audit a.now
 kept_job (Decide question budget) = decide (question_text question) budget
 kept_job (Classify budget) = classify budget
+kept_job (Realize budget) = realize budget
+kept_job (Instances a budget) = instances a.now budget
+kept_job (Why a budget) = reasons a.now budget
+kept_job (Session budget) = session budget
 kept_job (Pinpoint wanted a budget) = pinpoint wanted a.now budget
 kept_job (Evidence a budget) = evidence a.now budget
 

@@ -5,12 +5,16 @@ ghost use Rattle.ontology_jobs.specs.Words.{request_of, on_input, kept_job, comm
 ghost use Rattle.classification_jobs.specs.Answer.{IsAnswer, is_fault, text_bytes};
 ghost use Rattle.ontology_jobs.specs.Laws.{HasSpentAll, AsksForNothing};
 ghost use Rattle.ontology_jobs.specs.Complete.{IsComplete};
-ghost use Rattle.ontology_jobs.specs.Answers.{AnswersRead, AnswersJobOnAll, AnswersRequestOnAll, AnswersAll, AnsweredAll, SaysBadWords, IsBadWords, end_answer, ReadsNothing, LeavesFor, Leaves};
+ghost use Rattle.ontology_jobs.specs.Answers.{AnswersRead, AnswersJobOnAll, AnswersRequestOnAll, AnswersAll};
+ghost use Rattle.ontology_jobs.specs.Answers.{AnsweredAll, SaysBadWords, IsBadWords, end_answer, ReadsNothing};
+ghost use Rattle.ontology_jobs.specs.Answers.{LeavesFor, Leaves};
 
 use crate::words::{Command, Job, read_words};
 use audit_jobs::{find_evidence, pinpoint, run_workload, verify_audit};
 use classification_jobs::{Status, Text, classify};
 use decision_jobs::{answer, verify};
+use edit_session::answer_script;
+use individual_jobs::{instances, realize, why};
 use run_log::RunLog;
 use shq_io::{ReadEnd, Sink, Source, WriteFailed, read_all, write_whole};
 use std::alloc::Global;
@@ -33,7 +37,8 @@ pub fn run<S: Source, K: Sink>(
 
     // The answer that belongs to the words and to the bytes that are read, with the log of how it was found. The bytes
     // are all that the source held, where it tells them, and of these is told what is left.
-    ensures answer { AnsweredAll (S.left source.old) (K.taken sink.old) (K.taken sink.new) (texts_of words.now) result log.new }
+    ensures answer { AnsweredAll (S.left source.old) (K.taken sink.old) (K.taken sink.new) (texts_of words.now) result
+        log.new }
     ensures leaves { Leaves (texts_of words.now) (S.left source.old) (S.left source.new) result }
 
     // Where it is undecided, the whole budget was spent on what the log says.
@@ -48,7 +53,8 @@ pub fn run<S: Source, K: Sink>(
 
     // The words of no job, and no others, are bad words; and where nothing is to be read, nothing is.
     ensures no_others { result ≡ Status.BadWords → AsksForNothing (texts_of words.now) log.new }
-    ensures bad_words { request_of (texts_of words.now) ≡ None → SaysBadWords (K.taken sink.old) (K.taken sink.new) result }
+    ensures bad_words { request_of (texts_of words.now) ≡ None
+        → SaysBadWords (K.taken sink.old) (K.taken sink.new) result }
     ensures unread { ReadsNothing (request_of (texts_of words.now)) → source.new ≡ source.old }
 {
     let (status, text) = reply_to(alloc, words, source, log);
@@ -87,7 +93,8 @@ fn do_command<S: Source>(
     log: &mut RunLog,
 ) -> (Status, Text)
     requires { log.old ≡ [] }
-    ensures answers { AnswersRequestOnAll (command_request command.entry) (S.left source.old) (text_bytes result.1) result.0 log.new }
+    ensures answers { AnswersRequestOnAll (command_request command.entry) (S.left source.old) (text_bytes result.1)
+        result.0 log.new }
     ensures leaves { LeavesFor (Some (command_request command.entry)) (S.left source.old) (S.left source.new) result.0 }
     ensures fault { result.0 ≡ Status.ReadFault → Rose (S.faults source.old) (S.faults source.new) }
     ensures status { result.0 ≢ Status.WriteFault }
@@ -130,6 +137,10 @@ fn do_on(alloc: Global, job: Job<'_>, input: &[u8], log: &mut RunLog) -> (Status
         Job::Audit(query) => verify_audit(alloc, query, input),
         Job::Decide(question, budget) => answer(alloc, question, budget, input, log),
         Job::Classify(budget) => classify(alloc, budget, input, log),
+        Job::Realize(budget) => realize(alloc, budget, input, log),
+        Job::Instances(class, budget) => instances(alloc, class, budget, input, log),
+        Job::Why(class, budget) => why(alloc, class, budget, input, log),
+        Job::Session(budget) => answer_script(alloc, budget, input, log),
         Job::Pinpoint(wanted, statement, budget) => {
             pinpoint(alloc, wanted, statement, budget, input, log)
         }

@@ -1,5 +1,7 @@
 // The words and the input decide the answer, and what is accepted is true.
-ghost use Rattle.ontology_jobs.specs.Laws.{AnswersAreUnique, BadWordsAskForNothing, RefusalsAreAnsweredAlike, UndecidedSpendsAll, AcceptedQueriesDoNotFollow, AcceptedQueriesFollow, AcceptedAuditsListAll};
+ghost use Rattle.ontology_jobs.specs.Laws.{AnswersAreUnique, BadWordsAskForNothing, RefusalsAreAnsweredAlike};
+ghost use Rattle.ontology_jobs.specs.Laws.{UndecidedSpendsAll, AcceptedQueriesDoNotFollow, AcceptedQueriesFollow};
+ghost use Rattle.ontology_jobs.specs.Laws.{AcceptedAuditsListAll};
 ghost use Rattle.ontology_jobs.specs.Complete.{JobsAreDone, WorkloadsAreDone};
 
 /// Words that ask for no search have one answer to an input, unless something fails or memory is refused.

@@ -4,9 +4,10 @@
 //! (McConnell, Mehlhorn, Näher and Schweitzer, "Certifying algorithms", Computer Science Review 5, 2011). The jobs
 //! `sat` and `entails` find such certificates, finite counter-models and refutations, and the job `check` verifies
 //! them; `evidence` finds the reasons and repairs of a query with what shows each, and `audit` verifies these, and that
-//! they are all; `classify`, `explain` and `repair` rest on many such tests, which the log shows. All of it is itself
-//! proved: the clause `answer` of `run` says for any words and input which text is written, with which status, and what
-//! the log then has.
+//! they are all; `classify`, `realize`, `instances`, `explain`, `repair` and `why` rest on many such tests, which the
+//! log has. `session` answers a script of edits and queries, and whether a query follows as a new run on the axioms of
+//! that moment would find it. All of it is itself proved: the clause `answer` of `run` says for any words and input
+//! which text is written, with which status, and what the log then has.
 #![tactic(auto)]
 
 mod jobs;

@@ -1,6 +1,9 @@
 // The words of the command line.
 ghost use Rattle.std.specs.Prelude.{◌≡◌, ◌∷◌, [], option_map};
-ghost use Rattle.ontology_jobs.specs.Words.{request_of, command_request, texts_of, budget_in, plain_number, workload_number, alone_request, text_request, searching_request, pinpointing_request, workload_request, budgeted_request, budgeted_alone, longest_request, longer_request};
+ghost use Rattle.ontology_jobs.specs.Words.{request_of, command_request, texts_of, budget_in, plain_number};
+ghost use Rattle.ontology_jobs.specs.Words.{workload_number, alone_request, text_request, searching_request};
+ghost use Rattle.ontology_jobs.specs.Words.{pinpointing_request, workload_request, budgeted_request, budgeted_alone};
+ghost use Rattle.ontology_jobs.specs.Words.{longest_request, longer_request};
 
 use crate::workload_number::WorkloadNumber;
 use audit_jobs::Wanted;
@@ -28,10 +31,19 @@ pub enum Job<'a> {
     Decide(Question<'a>, u32),
     /// `classify`: which class is part of which.
     Classify(u32),
+    /// `realize`: the most specific classes of each individual.
+    Realize(u32),
+    /// `instances CLASS`: the individuals that are in the class expression.
+    Instances(&'a str, u32),
+    /// `why CLASS`: the individuals that are in the class expression, each with all smallest sets of axioms from which
+    /// that follows.
+    Why(&'a str, u32),
+    /// `session`: answer the lines of the script that follows the document, which ask, add and remove.
+    Session(u32),
     /// `explain AXIOM` or `repair AXIOM`: all smallest sets of axioms from which the axiom follows, or whose removal
     /// ends that.
     Pinpoint(Wanted, &'a str, u32),
-    /// `evidence AXIOM`: these sets as an audit, each with what shows it.
+    /// `evidence AXIOM`: both kinds of sets as an audit, each with what shows it.
     Evidence(&'a str, u32),
 }
 
@@ -83,6 +95,10 @@ fn read_alone<'a>(job: &str, budget: u32) -> Option<Command<'a>>
 {
     if job == "classify" {
         Some(Command::OnInput(Job::Classify(budget)))
+    } else if job == "realize" {
+        Some(Command::OnInput(Job::Realize(budget)))
+    } else if job == "session" {
+        Some(Command::OnInput(Job::Session(budget)))
     } else {
         None
     }
@@ -109,6 +125,8 @@ fn read_searching<'a>(job: &str, text: &'a str, budget: u32) -> Option<Command<'
         Some(Command::OnInput(Job::Decide(Question::HasElement(text), budget)))
     } else if job == "entails" {
         Some(Command::OnInput(Job::Decide(Question::Follows(text), budget)))
+    } else if job == "instances" {
+        Some(Command::OnInput(Job::Instances(text, budget)))
     } else {
         read_pinpointing(job, text, budget)
     }
@@ -123,6 +141,8 @@ fn read_pinpointing<'a>(job: &str, text: &'a str, budget: u32) -> Option<Command
         Some(Command::OnInput(Job::Pinpoint(Wanted::Repairs, text, budget)))
     } else if job == "evidence" {
         Some(Command::OnInput(Job::Evidence(text, budget)))
+    } else if job == "why" {
+        Some(Command::OnInput(Job::Why(text, budget)))
     } else {
         read_workload(job, text.as_bytes(), budget)
     }

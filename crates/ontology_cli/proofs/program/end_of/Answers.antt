@@ -10,7 +10,9 @@ returns-clause-ends g c = record {
 }
 
 pub returns-clause-read_fault : goal.returns-clause-read_fault
-returns-clause-read_fault g c = λ same. c.run_words-status.ensures.read_fault (sym (c.exit_code.ensures.only ReadFault (sym same)))
+returns-clause-read_fault g c =
+    λ same. c.run_words-status.ensures.read_fault (sym (c.exit_code.ensures.only ReadFault (sym same)))
 
 pub returns-clause-write_fault : goal.returns-clause-write_fault
-returns-clause-write_fault g c = λ same. c.run_words-status.ensures.write_fault (sym (c.exit_code.ensures.only WriteFault (sym same)))
+returns-clause-write_fault g c =
+    λ same. c.run_words-status.ensures.write_fault (sym (c.exit_code.ensures.only WriteFault (sym same)))

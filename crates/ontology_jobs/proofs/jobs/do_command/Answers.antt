@@ -11,5 +11,6 @@ returns-in-Workload-clause-answers g c =
     let out = text_bytes c.run_workload.result.1 in
     let status = c.run_workload.result.0 in
     let log = c.run_workload.new.log in
-    subst (λ (r : Request). AnswersRequestOnAll r held out status log) (ap (λ n. generated n c.in-Workload.budget) c.get.ensures.value ∙ ap command_request (sym c.in-Workload.is))
+    subst (λ (r : Request). AnswersRequestOnAll r held out status log)
+    (ap (λ n. generated n c.in-Workload.budget) c.get.ensures.value ∙ ap command_request (sym c.in-Workload.is))
     (generated_answers held c.get.result c.in-Workload.budget out status log c.run_workload.ensures.answer)

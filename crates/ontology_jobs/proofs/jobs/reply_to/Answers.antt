@@ -7,4 +7,5 @@ use Rattle.ontology_jobs.proofs.jobs.reply_to.Goals as goal
 
 pub returns-in-None-clause-answers : goal.returns-in-None-clause-answers
 returns-in-None-clause-answers g c =
-    bad_words_answers (g.S.Source.left c.args.source.now) (texts_of c.args.words.now) bad_words BadWords c.args.log.now c.in-None.ensures (record { status = refl; text = refl; unlogged = c.requires })
+    bad_words_answers (g.S.Source.left c.args.source.now) (texts_of c.args.words.now) bad_words BadWords c.args.log.now
+    c.in-None.ensures (record { status = refl; text = refl; unlogged = c.requires })
